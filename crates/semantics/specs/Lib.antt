@@ -1,0 +1,19 @@
+-- The definitions of document 01, in its order, and then their laws.
+pub mod Basic
+pub mod Limits
+pub mod Term
+pub mod Inference
+pub mod Answer
+pub mod Table
+pub mod Value
+pub mod Frame
+pub mod Roles
+pub mod WellFormed
+pub mod Runs
+pub mod Scenario
+pub mod Tree
+pub mod State
+pub mod Moves
+pub mod Verdict
+pub mod Replay
+pub mod Derive

@@ -1,0 +1,120 @@
+-- The moves of a state in order, each with the state after it (document 01, 'Roles and moves'). Assumes nothing.
+use Prim.Native.Nat.{ℕ, zero, suc}
+use mathlib.Core.Bool.{Bool, true, false, _&&_, _||_}
+use mathlib.Core.List.{List, [], _∷_, _++_, map}
+use mathlib.Core.Option.{Option, none, some}
+use lib.Dec.{leb, ltb, eqb}
+use lib.ListN.{length, getElem?, set}
+use Rattle.semantics.specs.Basic.{present, andThen, mapped, provided, presentOnes, joined, numbersFrom}
+use Rattle.semantics.specs.Term.{Atom, trusted, untrusted, global, intruder, role, variable, local, Term}
+use Rattle.semantics.specs.Inference.{derivable}
+use Rattle.semantics.specs.Table.{Row}
+use Rattle.semantics.specs.Value.{Reading, valueOf}
+use Rattle.semantics.specs.Roles.{EventKind, send, read, claim, Event}
+use Rattle.semantics.specs.Runs.{Run, atomAt}
+use Rattle.semantics.specs.Scenario.{Scenario}
+use Rattle.semantics.specs.State.{Value, Progress, State, Active, active, readingIn, newVariables, paired}
+
+-- "A trace is a row of steps: run (1 to 4), .. new values"
+pub record Move : Type 0 where
+  pub run : ℕ
+  pub values : List Value
+
+-- "An agent variable may take any agent row; a fresh variable any intruder constant or any c#u, u being any run of the scenario.": the runs with which an atom of the table is a value of a variable of a type
+abbrev pub runsFor : ℕ → ℕ → Atom → List ℕ
+runsFor runs zero (trusted n) = 0 ∷ []
+runsFor runs zero (untrusted n) = 0 ∷ []
+runsFor runs zero (global n) = []
+runsFor runs zero (intruder n) = []
+runsFor runs zero (role i) = []
+runsFor runs zero (variable n t) = []
+runsFor runs zero (local n u) = []
+runsFor runs (suc t) (trusted n) = []
+runsFor runs (suc t) (untrusted n) = []
+runsFor runs (suc t) (global n) = []
+runsFor runs (suc t) (intruder n) = 0 ∷ []
+runsFor runs (suc t) (role i) = []
+runsFor runs (suc t) (variable n v) = []
+runsFor runs (suc t) (local n u) = numbersFrom 1 runs
+
+abbrev pub typeOf : Atom → ℕ
+typeOf (trusted n) = 0
+typeOf (untrusted n) = 0
+typeOf (global n) = 0
+typeOf (intruder n) = 0
+typeOf (role i) = 0
+typeOf (variable n t) = t
+typeOf (local n u) = 0
+
+abbrev pub valuesAt : ℕ → ℕ → ℕ → Option Atom → List Value
+valuesAt runs type r none = []
+valuesAt runs type r (some a) = map (λ u. record { row = r; run = u }) (runsFor runs type a)
+
+-- the values that a variable may take, "each by row and then run"
+unfoldable pub candidates : List Row → ℕ → Atom → List Value
+candidates rows runs x = joined (λ r. valuesAt runs (typeOf x) r (atomAt rows r)) (numbersFrom 0 (length rows))
+
+-- the values that some variables may take, in the order of the list: by the first variable's value, then the second's
+unfoldable pub choices : List Row → ℕ → List Atom → List (List Value)
+choices rows runs [] = [] ∷ []
+choices rows runs (x ∷ xs) = joined (λ v. map (λ vs. v ∷ vs) (choices rows runs xs)) (candidates rows runs x)
+
+-- A message: the values of an event's sender, receiver and term. (A read's sender is its peer; nothing turns on which is which.)
+pub record Message : Type 0 where
+  pub sender : Term
+  pub receiver : Term
+  pub term : Term
+
+unfoldable pub message : List Row → Reading → Run → Event → Option Message
+message rows reading run e =
+    andThen (reading (role (run .role))) λ a.
+    andThen (reading (role (e .peer))) λ b.
+    mapped (λ t. record { sender = a; receiver = b; term = t }) (valueOf reading rows (e .row))
+
+-- What is known after an event, if the event is allowed: "A send adds sender, receiver and term. A read .. is allowed exactly if sender, receiver and pattern are then derivable. A claim adds nothing."
+unfoldable pub knownAfter : EventKind → List Term → Option Message → Option (List Term)
+knownAfter send known none = none
+knownAfter send known (some m) = some (m .sender ∷ m .receiver ∷ m .term ∷ known)
+knownAfter read known none = none
+knownAfter read known (some m) =
+    provided (derivable known (m .sender) && derivable known (m .receiver) && derivable known (m .term)) known
+knownAfter claim known m = some known
+
+-- the variables to which a run's next event gives values
+abbrev pub toSet : Scenario → Active → List Atom
+toSet sc a = newVariables (sc .rows) (a .progress .values) (a .event .kind) (a .event .row)
+
+-- what a run has set after its event, with new values
+unfoldable pub setAfter : Scenario → Active → List Value → List (Atom × Value)
+setAfter sc a vs = a .progress .values ++ paired (toSet sc a) vs
+
+-- the message of a run's event, with new values
+unfoldable pub messageAfter : Scenario → Active → List Value → Option Message
+messageAfter sc a vs =
+    message (sc .rows) (readingIn (sc .rows) (suc (a .index)) (a .run) (setAfter sc a vs)) (a .run) (a .event)
+
+-- the state after a run's event, with new values and what is then known
+unfoldable pub advanced : Scenario → State → Active → List Value → List Term → State
+advanced sc s a vs known =
+    record {
+      known = known;
+      progress = set (s .progress) (a .index) (record { done = suc (a .progress .done); values = setAfter sc a vs });
+    }
+
+-- the state after a run's event with new values, if the event is allowed
+unfoldable pub performed : Scenario → State → Active → List Value → Option State
+performed sc s a vs = mapped (advanced sc s a vs) (knownAfter (a .event .kind) (s .known) (messageAfter sc a vs))
+
+abbrev pub branch : ℕ → List Value → State → Move × State
+branch u vs s = (record { run = u; values = vs }, s)
+
+-- the moves of a run, "by the new values in order of variable row"
+unfoldable pub movesOfRun : Scenario → State → ℕ → Option Active → List (Move × State)
+movesOfRun sc s u none = []
+movesOfRun sc s u (some a) =
+    presentOnes
+    (map (λ vs. mapped (branch u vs) (performed sc s a vs)) (choices (sc .rows) (length (sc .runs)) (toSet sc a)))
+
+-- the moves of a state, "ordered by run, then by the new values"
+unfoldable pub movesOf : Scenario → State → List (Move × State)
+movesOf sc s = joined (λ u. movesOfRun sc s u (active sc s u)) (numbersFrom 1 (length (sc .runs)))

@@ -1,0 +1,29 @@
+//! The answers of the scenario checker, worked out from the definitions in the plainest way, to compare
+//! other programs with. `answer` takes a request as a line of text; the operations are there by themselves too.
+
+mod derive;
+mod frame;
+mod hope;
+mod knowledge;
+mod refusal;
+mod replay;
+mod request;
+mod scenario;
+mod search;
+mod system;
+mod table;
+mod term;
+#[cfg(test)]
+mod tests;
+mod walk;
+mod wellformed;
+
+pub use derive::derive;
+pub use refusal::Refusal;
+pub use replay::replay;
+pub use request::{answer, bytes, hexadecimal, MALFORMED};
+pub use scenario::{open, Action, Event, Role, Run, Scenario};
+pub use search::{search, traces, Verdict};
+pub use system::{Claim, Value};
+pub use table::{Row, Table};
+pub use walk::{walk, Visitor};
