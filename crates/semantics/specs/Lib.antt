@@ -17,3 +17,5 @@ pub mod Moves
 pub mod Verdict
 pub mod Replay
 pub mod Derive
+pub mod Allowed
+pub mod laws

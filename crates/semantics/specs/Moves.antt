@@ -6,7 +6,7 @@ use mathlib.Core.Option.{Option, none, some}
 use lib.Dec.{leb, ltb, eqb}
 use lib.ListN.{length, getElem?, set}
 use Rattle.semantics.specs.Basic.{present, andThen, mapped, provided, presentOnes, joined, numbersFrom}
-use Rattle.semantics.specs.Term.{Atom, trusted, untrusted, global, intruder, role, variable, local, Term}
+use Rattle.semantics.specs.Term.{VariableType, agentType, freshType, Atom, trusted, untrusted, global, intruder, role, variable, local, Term}
 use Rattle.semantics.specs.Inference.{derivable}
 use Rattle.semantics.specs.Table.{Row}
 use Rattle.semantics.specs.Value.{Reading, valueOf}
@@ -21,38 +21,39 @@ pub record Move : Type 0 where
   pub values : List Value
 
 -- "An agent variable may take any agent row; a fresh variable any intruder constant or any c#u, u being any run of the scenario.": the runs with which an atom of the table is a value of a variable of a type
-abbrev pub runsFor : ℕ → ℕ → Atom → List ℕ
-runsFor runs zero (trusted n) = 0 ∷ []
-runsFor runs zero (untrusted n) = 0 ∷ []
-runsFor runs zero (global n) = []
-runsFor runs zero (intruder n) = []
-runsFor runs zero (role i) = []
-runsFor runs zero (variable n t) = []
-runsFor runs zero (local n u) = []
-runsFor runs (suc t) (trusted n) = []
-runsFor runs (suc t) (untrusted n) = []
-runsFor runs (suc t) (global n) = []
-runsFor runs (suc t) (intruder n) = 0 ∷ []
-runsFor runs (suc t) (role i) = []
-runsFor runs (suc t) (variable n v) = []
-runsFor runs (suc t) (local n u) = numbersFrom 1 runs
+abbrev pub runsFor : ℕ → VariableType → Atom → List ℕ
+runsFor runs agentType (trusted n) = 0 ∷ []
+runsFor runs agentType (untrusted n) = 0 ∷ []
+runsFor runs agentType (global n) = []
+runsFor runs agentType (intruder n) = []
+runsFor runs agentType (role i) = []
+runsFor runs agentType (variable n t) = []
+runsFor runs agentType (local n u) = []
+runsFor runs freshType (trusted n) = []
+runsFor runs freshType (untrusted n) = []
+runsFor runs freshType (global n) = []
+runsFor runs freshType (intruder n) = 0 ∷ []
+runsFor runs freshType (role i) = []
+runsFor runs freshType (variable n t) = []
+runsFor runs freshType (local n u) = numbersFrom 1 runs
 
-abbrev pub typeOf : Atom → ℕ
-typeOf (trusted n) = 0
-typeOf (untrusted n) = 0
-typeOf (global n) = 0
-typeOf (intruder n) = 0
-typeOf (role i) = 0
-typeOf (variable n t) = t
-typeOf (local n u) = 0
-
-abbrev pub valuesAt : ℕ → ℕ → ℕ → Option Atom → List Value
+abbrev pub valuesAt : ℕ → VariableType → ℕ → Option Atom → List Value
 valuesAt runs type r none = []
 valuesAt runs type r (some a) = map (λ u. record { row = r; run = u }) (runsFor runs type a)
 
--- the values that a variable may take, "each by row and then run"
+-- the values of a type, "each by row and then run"
+unfoldable pub valuesOfType : List Row → ℕ → VariableType → List Value
+valuesOfType rows runs type = joined (λ r. valuesAt runs type r (atomAt rows r)) (numbersFrom 0 (length rows))
+
+-- the values that a variable may take
 unfoldable pub candidates : List Row → ℕ → Atom → List Value
-candidates rows runs x = joined (λ r. valuesAt runs (typeOf x) r (atomAt rows r)) (numbersFrom 0 (length rows))
+candidates rows runs (trusted n) = []
+candidates rows runs (untrusted n) = []
+candidates rows runs (global n) = []
+candidates rows runs (intruder n) = []
+candidates rows runs (role i) = []
+candidates rows runs (variable n type) = valuesOfType rows runs type
+candidates rows runs (local n u) = []
 
 -- the values that some variables may take, in the order of the list: by the first variable's value, then the second's
 unfoldable pub choices : List Row → ℕ → List Atom → List (List Value)

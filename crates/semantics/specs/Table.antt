@@ -7,10 +7,10 @@ use mathlib.Core.List.{List, [], _∷_, _++_}
 use mathlib.Core.Option.{Option, none, some}
 use lib.Dec.{ltb, leb, eqb}
 use lib.ListN.{length, getD, getElem?}
-use Rattle.semantics.specs.Basic.{decided, present, provided, keep, every}
+use Rattle.semantics.specs.Basic.{decided, present, provided, mapped, keep, every}
 use Rattle.semantics.specs.Limits.{mostRows, mostVariables, mostRoles}
 use Rattle.semantics.specs.Answer.{Answer, refused, accepted, refuse}
-use Rattle.semantics.specs.Term.{Atom, trusted, untrusted, global, intruder, role, variable, local, atom?}
+use Rattle.semantics.specs.Term.{VariableType, agentType, freshType, Atom, trusted, untrusted, global, intruder, role, variable, local, atom?}
 
 -- A row: a term of kinds 1 to 7, or a term made of the terms of other rows, given by their numbers.
 pub data Row : Type 0 where
@@ -26,6 +26,9 @@ row? = Row-discrete atom? ℕ-discrete
 abbrev pub single : (ℕ → Row) → ℕ → ℕ → Option Row
 single make left right = provided (eqb right 0) (make left)
 
+abbrev pub variableTypes : List VariableType
+variableTypes = agentType ∷ freshType ∷ []
+
 -- What each kind byte means, from kind 0, which there is not, to kind 12.
 abbrev pub kinds : List (ℕ → ℕ → Option Row)
 kinds =
@@ -35,7 +38,7 @@ kinds =
     ∷ single (λ n. atomic (global n))
     ∷ single (λ n. atomic (intruder n))
     ∷ (λ left right. provided (ltb left mostRoles && eqb right 0) (atomic (role left)))
-    ∷ (λ left right. provided (leb right 1) (atomic (variable left right)))
+    ∷ (λ left right. mapped (λ type. atomic (variable left type)) (getElem? variableTypes right))
     ∷ single (λ n. atomic (local n 0))
     ∷ single (λ a. pkOf a)
     ∷ single (λ a. skOf a)
@@ -55,7 +58,8 @@ agentLikeAtom (untrusted n) = true
 agentLikeAtom (global n) = false
 agentLikeAtom (intruder n) = false
 agentLikeAtom (role i) = true
-agentLikeAtom (variable n t) = eqb t 0
+agentLikeAtom (variable n agentType) = true
+agentLikeAtom (variable n freshType) = false
 agentLikeAtom (local n u) = false
 
 abbrev pub agentLike : Option Row → Bool

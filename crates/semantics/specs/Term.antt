@@ -3,12 +3,17 @@ use Prim.Native.Nat.{ℕ, zero, suc, _+_}
 use native.Mathlib.Decide.{ℕ-discrete}
 use mathlib.Core.Path.{_≡_}
 
+-- "type: 0 agent, 1 fresh"
+pub data VariableType : Type 0 where
+  agentType freshType : VariableType
+  deriving Discrete as VariableType-discrete
+
 -- "trusted, untrusted agent; global, intruder constant; role name; variable; local constant": kinds 1 to 7.
 -- A local constant carries its run, c#u; at role level that is 0.
 pub data Atom : Type 0 where
   trusted untrusted global intruder role : ℕ → Atom
-  -- number and type: 0 agent, 1 fresh
-  variable : ℕ → ℕ → Atom
+  -- number and type
+  variable : ℕ → VariableType → Atom
   -- number and run
   local : ℕ → ℕ → Atom
   deriving Discrete as Atom-discrete
@@ -28,7 +33,7 @@ sharedKey a b = shared a b
 
 -- "Agents, constants and keys are equal only if kind and parts are."
 abbrev pub atom? : (a b : Atom) → Dec (a ≡ b)
-atom? = Atom-discrete ℕ-discrete
+atom? = Atom-discrete ℕ-discrete VariableType-discrete
 
 abbrev pub term? : (t u : Term) → Dec (t ≡ u)
 term? = Term-discrete atom?

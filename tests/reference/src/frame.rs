@@ -41,7 +41,13 @@ fn parts(file: &[u8]) -> Option<Frame<'_>> {
     let roles = block(file, terms.end())?;
     let runs = block(file, roles.end())?;
     let knowledge = block(file, runs.end())?;
-    (knowledge.end() == file.len()).then_some(Frame { budget, terms, roles, runs, knowledge })
+    (knowledge.end() == file.len()).then_some(Frame {
+        budget,
+        terms,
+        roles,
+        runs,
+        knowledge,
+    })
 }
 
 /// The block whose length stands at `at`, if the file holds both.

@@ -17,18 +17,27 @@ pub fn has_hope(system: &mut System, knowledge: &Knowledge, pattern: TermId) -> 
 
 /// Whether some values for the variables left make all these terms derivable.
 fn can_all_hold(system: &mut System, knowledge: &Knowledge, wanted: BTreeSet<TermId>) -> bool {
-    let (ground, wanted): (BTreeSet<TermId>, BTreeSet<TermId>) =
-        parts_of_pairs(system, wanted).into_iter().partition(|&term| system.store.is_ground(term));
-    if !ground.iter().all(|&term| knowledge.derives(&system.store, term)) {
+    let (ground, wanted): (BTreeSet<TermId>, BTreeSet<TermId>) = parts_of_pairs(system, wanted)
+        .into_iter()
+        .partition(|&term| system.store.is_ground(term));
+    if !ground
+        .iter()
+        .all(|&term| knowledge.derives(&system.store, term))
+    {
         return false;
     }
-    let (variables, mut wanted): (BTreeSet<TermId>, BTreeSet<TermId>) =
-        wanted.into_iter().partition(|&term| matches!(system.store.term(term), Term::Variable(_)));
+    let (variables, mut wanted): (BTreeSet<TermId>, BTreeSet<TermId>) = wanted
+        .into_iter()
+        .partition(|&term| matches!(system.store.term(term), Term::Variable(_)));
     // The term that leaves the fewest ways is settled first, so that a dead end is soon seen.
-    let ways = wanted.iter().map(|&term| (term, bindings(system, knowledge, term)));
+    let ways = wanted
+        .iter()
+        .map(|&term| (term, bindings(system, knowledge, term)));
     let Some((term, ways)) = ways.min_by_key(|(_, ways)| ways.len()) else {
         // Variables by themselves do not hinder each other.
-        return variables.iter().all(|&variable| has_derivable_value(system, knowledge, variable));
+        return variables
+            .iter()
+            .all(|&variable| has_derivable_value(system, knowledge, variable));
     };
     wanted.remove(&term);
     wanted.extend(variables);
@@ -51,7 +60,9 @@ fn parts_of_pairs(system: &System, terms: BTreeSet<TermId>) -> BTreeSet<TermId> 
 
 /// Whether a value of the variable is derivable.
 fn has_derivable_value(system: &mut System, knowledge: &Knowledge, variable: TermId) -> bool {
-    let Term::Variable(row) = system.store.term(variable) else { return false };
+    let Term::Variable(row) = system.store.term(variable) else {
+        return false;
+    };
     system.candidates(row).into_iter().any(|value| {
         let value = system.store.id(term_of_value(&system.scenario, value));
         knowledge.derives(&system.store, value)
@@ -59,15 +70,28 @@ fn has_derivable_value(system: &mut System, knowledge: &Knowledge, variable: Ter
 }
 
 /// Whether one of the ways in which a term is a known one leaves the rest of what is wanted derivable.
-fn can_be_known(system: &mut System, knowledge: &Knowledge, ways: &[Binding], rest: &BTreeSet<TermId>) -> bool {
+fn can_be_known(
+    system: &mut System,
+    knowledge: &Knowledge,
+    ways: &[Binding],
+    rest: &BTreeSet<TermId>,
+) -> bool {
     ways.iter().any(|binding| {
-        let rest = rest.iter().map(|&term| bound(system, term, binding)).collect();
+        let rest = rest
+            .iter()
+            .map(|&term| bound(system, term, binding))
+            .collect();
         can_all_hold(system, knowledge, rest)
     })
 }
 
 /// Whether an encryption can be built, with the rest of what is wanted derivable too.
-fn can_be_built(system: &mut System, knowledge: &Knowledge, term: TermId, mut wanted: BTreeSet<TermId>) -> bool {
+fn can_be_built(
+    system: &mut System,
+    knowledge: &Knowledge,
+    term: TermId,
+    mut wanted: BTreeSet<TermId>,
+) -> bool {
     match system.store.term(term) {
         Term::Encryption(content, key) => {
             wanted.extend([content, key]);
@@ -87,7 +111,10 @@ fn bound(system: &mut System, term: TermId, binding: &Binding) -> TermId {
 
 /// The ways in which `pattern` is one of the known parts.
 fn bindings(system: &System, knowledge: &Knowledge, pattern: TermId) -> Vec<Binding> {
-    knowledge.parts().filter_map(|part| binding(system, pattern, part)).collect()
+    knowledge
+        .parts()
+        .filter_map(|part| binding(system, pattern, part))
+        .collect()
 }
 
 /// The values under which `pattern` is `term`, if there are any.
@@ -110,7 +137,9 @@ fn matches_with(
     }
     let value = system.store.term(term);
     match (system.store.term(pattern), value) {
-        (Term::Variable(row), _) => is_value_of(system, row, value) && *binding.entry(row).or_insert(value) == value,
+        (Term::Variable(row), _) => {
+            is_value_of(system, row, value) && *binding.entry(row).or_insert(value) == value
+        }
         (Term::PublicKey(a), Term::PublicKey(b)) | (Term::SecretKey(a), Term::SecretKey(b)) => {
             matches_with(system, a, b, binding, done)
         }
@@ -125,5 +154,8 @@ fn matches_with(
 
 /// Whether the term is one of the values that a variable may take.
 fn is_value_of(system: &System, variable: usize, term: Term) -> bool {
-    system.candidates(variable).into_iter().any(|value| term_of_value(&system.scenario, value) == term)
+    system
+        .candidates(variable)
+        .into_iter()
+        .any(|value| term_of_value(&system.scenario, value) == term)
 }

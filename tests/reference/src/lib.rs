@@ -5,6 +5,8 @@ mod derive;
 mod frame;
 mod hope;
 mod knowledge;
+#[cfg(test)]
+mod list_tests;
 mod refusal;
 mod replay;
 mod request;

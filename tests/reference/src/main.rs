@@ -9,7 +9,9 @@ fn main() -> ExitCode {
     let done = match arguments.split_first() {
         None => answer_requests().map(|()| true),
         Some((word, files)) if word == "check" => check(files),
-        Some(_) => Err(io::Error::other("usage: reference, or reference check FILE..")),
+        Some(_) => Err(io::Error::other(
+            "usage: reference, or reference check FILE..",
+        )),
     };
     match done {
         Ok(true) => ExitCode::SUCCESS,
@@ -34,7 +36,8 @@ fn answer_requests() -> io::Result<()> {
 fn check(files: &[String]) -> io::Result<bool> {
     let (mut cases, mut wrong) = (0, 0);
     for file in files {
-        let text = std::fs::read_to_string(file).map_err(|error| io::Error::other(format!("{file}: {error}")))?;
+        let text = std::fs::read_to_string(file)
+            .map_err(|error| io::Error::other(format!("{file}: {error}")))?;
         for (number, line) in text.lines().enumerate() {
             cases += 1;
             if let Some(disagreement) = disagreement(line) {
@@ -49,7 +52,9 @@ fn check(files: &[String]) -> io::Result<bool> {
 
 /// How a line `REQUEST -> ANSWER` differs from what is answered here, if it does.
 fn disagreement(line: &str) -> Option<String> {
-    let Some((request, expected)) = line.split_once(" -> ") else { return Some(format!("no case: {line}")) };
+    let Some((request, expected)) = line.split_once(" -> ") else {
+        return Some(format!("no case: {line}"));
+    };
     let got = answer(request);
     (got != expected).then(|| format!("{request}: expected {expected}, got {got}"))
 }

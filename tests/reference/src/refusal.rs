@@ -15,6 +15,9 @@ pub fn refused<T>(number: u8, place: usize) -> Result<T, Refusal> {
 impl Refusal {
     /// The same refusal, its place counted from a point that lies `by` bytes earlier.
     pub fn moved(self, by: usize) -> Refusal {
-        Refusal { number: self.number, place: self.place + by }
+        Refusal {
+            number: self.number,
+            place: self.place + by,
+        }
     }
 }

@@ -11,8 +11,11 @@ pub fn replay(file: &[u8], trace: &[u8]) -> Result<Option<Claim>, Refusal> {
     let mut here = system.start();
     let mut place = 0;
     while place < trace.len() {
-        let there = step(&trace[place..]).and_then(|(step, length)| Some((system.after(&here, &step)?, length)));
-        let Some((there, length)) = there else { return refused(12, place) };
+        let there = step(&trace[place..])
+            .and_then(|(step, length)| Some((system.after(&here, &step)?, length)));
+        let Some((there, length)) = there else {
+            return refused(12, place);
+        };
         here = there;
         place += length;
     }
@@ -21,9 +24,22 @@ pub fn replay(file: &[u8], trace: &[u8]) -> Result<Option<Claim>, Refusal> {
 
 /// The step at the front of `bytes` and its length, unless it is cut short.
 fn step(bytes: &[u8]) -> Option<(Move, usize)> {
-    let &[run, count, ..] = bytes else { return None };
+    let &[run, count, ..] = bytes else {
+        return None;
+    };
     let length = 2 + 2 * usize::from(count);
     let values = bytes.get(2..length)?.chunks(2);
-    let values = values.map(|value| Value { row: value[0].into(), run: value[1].into() }).collect();
-    Some((Move { run: run.into(), values }, length))
+    let values = values
+        .map(|value| Value {
+            row: value[0].into(),
+            run: value[1].into(),
+        })
+        .collect();
+    Some((
+        Move {
+            run: run.into(),
+            values,
+        },
+        length,
+    ))
 }

@@ -22,19 +22,32 @@ pub fn answer(request: &str) -> String {
 fn answer_to_fields(fields: &[&str]) -> Option<Result<String, Refusal>> {
     match *fields {
         ["0", "open", file] => Some(open(&bytes(file)?).map(|_| "OK".to_string())),
-        ["0", "search", file, length] => Some(search(&bytes(file)?, number(length)?).map(verdict_text)),
+        ["0", "search", file, length] => {
+            Some(search(&bytes(file)?, number(length)?).map(verdict_text))
+        }
         ["0", "derive", table, list, target] => {
             Some(derive(&bytes(table)?, &bytes(list)?, one_byte(target)?).map(derive_text))
         }
-        ["0", "replay", file, trace] => Some(replay(&bytes(file)?, &bytes(trace)?).map(replay_text)),
+        ["0", "replay", file, trace] => {
+            Some(replay(&bytes(file)?, &bytes(trace)?).map(replay_text))
+        }
         _ => None,
     }
 }
 
 fn verdict_text(verdict: Verdict) -> String {
     match verdict {
-        Verdict::Broken { place, claim, trace } => {
-            format!("BROKEN {place} RUN {} EVENT {} TRACE {}", claim.run, claim.event, hexadecimal(&trace))
+        Verdict::Broken {
+            place,
+            claim,
+            trace,
+        } => {
+            format!(
+                "BROKEN {place} RUN {} EVENT {} TRACE {}",
+                claim.run,
+                claim.event,
+                hexadecimal(&trace)
+            )
         }
         Verdict::Held(length) => format!("HELD {length}"),
         Verdict::Stopped(budget) => format!("STOPPED {budget}"),
@@ -46,7 +59,9 @@ fn derive_text(derivable: bool) -> String {
 }
 
 fn replay_text(claim: Option<crate::system::Claim>) -> String {
-    claim.map_or("NONE".to_string(), |claim| format!("CLAIM RUN {} EVENT {}", claim.run, claim.event))
+    claim.map_or("NONE".to_string(), |claim| {
+        format!("CLAIM RUN {} EVENT {}", claim.run, claim.event)
+    })
 }
 
 /// The bytes that a field of hexadecimal digits states.
@@ -54,9 +69,17 @@ pub fn bytes(field: &str) -> Option<Vec<u8>> {
     if field == "-" {
         return Some(vec![]);
     }
-    let digits = field.chars().map(|digit| digit.to_digit(16)).collect::<Option<Vec<u32>>>()?;
+    let digits = field
+        .chars()
+        .map(|digit| digit.to_digit(16))
+        .collect::<Option<Vec<u32>>>()?;
     let whole = !digits.is_empty() && digits.len() % 2 == 0;
-    whole.then(|| digits.chunks(2).map(|pair| (pair[0] * 16 + pair[1]) as u8).collect())
+    whole.then(|| {
+        digits
+            .chunks(2)
+            .map(|pair| (pair[0] * 16 + pair[1]) as u8)
+            .collect()
+    })
 }
 
 /// The field that states these bytes.

@@ -50,14 +50,21 @@ pub struct Scenario {
 /// The scenario of a file, or the first of refusals 1 to 9.
 pub fn open(file: &[u8]) -> Result<Scenario, Refusal> {
     let frame = frame(file)?;
-    let table = Table::read(frame.terms.bytes).map_err(|refusal| refusal.moved(frame.terms.place))?;
+    let table =
+        Table::read(frame.terms.bytes).map_err(|refusal| refusal.moved(frame.terms.place))?;
     let records = role_records(frame.roles);
     let roles = roles(&table, &records)?;
     refuse_absent_role(&table, roles.len(), frame.terms.place)?;
     refuse_ill_formed_event(&table, &roles, &records)?;
     let runs = runs(&table, roles.len(), frame.runs)?;
     let knowledge = knowledge(&table, frame.knowledge)?;
-    Ok(Scenario { budget: frame.budget, table, roles, runs, knowledge })
+    Ok(Scenario {
+        budget: frame.budget,
+        table,
+        roles,
+        runs,
+        knowledge,
+    })
 }
 
 /// A role record as its counts delimit it.
@@ -92,7 +99,10 @@ fn role_records(block: Block) -> Vec<RoleRecord> {
     let mut at = 0;
     while at < block.bytes.len() {
         let parts = role_parts(&block.bytes[at..]);
-        records.push(RoleRecord { place: block.place + at, parts });
+        records.push(RoleRecord {
+            place: block.place + at,
+            parts,
+        });
         at = parts.map_or(block.bytes.len(), |parts| at + parts.length());
     }
     records
@@ -131,10 +141,15 @@ fn roles(table: &Table, records: &[RoleRecord]) -> Result<Vec<Role>, Refusal> {
 fn role(table: &Table, present: usize, parts: RoleParts) -> Option<Role> {
     let knowledge: Vec<usize> = parts.knowledge.iter().map(|&row| row.into()).collect();
     let events = parts.events.chunks(EVENT_BYTES);
-    if !rising(&knowledge) || !knowledge.iter().all(|&row| is_known_at_start(table, row)) || events.len() > MOST_EVENTS {
+    if !rising(&knowledge)
+        || !knowledge.iter().all(|&row| is_known_at_start(table, row))
+        || events.len() > MOST_EVENTS
+    {
         return None;
     }
-    let events = events.map(|bytes| event(table, present, bytes)).collect::<Option<_>>()?;
+    let events = events
+        .map(|bytes| event(table, present, bytes))
+        .collect::<Option<_>>()?;
     Some(Role { knowledge, events })
 }
 
@@ -150,8 +165,14 @@ fn is_known_at_start(table: &Table, row: usize) -> bool {
 
 /// The event of four bytes, if it is within the rules. Its label may be any byte.
 fn event(table: &Table, present: usize, bytes: &[u8]) -> Option<Event> {
-    let &[kind, _label, peer, row] = bytes else { return None };
-    let event = Event { action: action(kind)?, peer: peer.into(), row: row.into() };
+    let &[kind, _label, peer, row] = bytes else {
+        return None;
+    };
+    let event = Event {
+        action: action(kind)?,
+        peer: peer.into(),
+        row: row.into(),
+    };
     let peer_stands = match event.action {
         Action::Send | Action::Read => event.peer < present,
         Action::Claim => event.peer == 0,
@@ -170,7 +191,11 @@ fn action(kind: u8) -> Option<Action> {
 
 /// "after all records, a row naming an absent role, place that row", used or not.
 fn refuse_absent_role(table: &Table, present: usize, place: usize) -> Result<(), Refusal> {
-    let names_absent_role = |&row: &usize| table.row(row).is_some_and(|row| usize::from(row.left) >= present);
+    let names_absent_role = |&row: &usize| {
+        table
+            .row(row)
+            .is_some_and(|row| usize::from(row.left) >= present)
+    };
     match table.rows_of_kind(ROLE_NAME).find(names_absent_role) {
         Some(row) => refused(6, place + row * ROW_BYTES),
         None => Ok(()),
@@ -178,9 +203,15 @@ fn refuse_absent_role(table: &Table, present: usize, place: usize) -> Result<(),
 }
 
 /// Refusal 7: "the first event in role order that is not well formed".
-fn refuse_ill_formed_event(table: &Table, roles: &[Role], records: &[RoleRecord]) -> Result<(), Refusal> {
+fn refuse_ill_formed_event(
+    table: &Table,
+    roles: &[Role],
+    records: &[RoleRecord],
+) -> Result<(), Refusal> {
     for (number, (role, record)) in roles.iter().zip(records).enumerate() {
-        if let (Some(event), Some(parts)) = (first_ill_formed_event(table, number, role), record.parts) {
+        if let (Some(event), Some(parts)) =
+            (first_ill_formed_event(table, number, role), record.parts)
+        {
             return refused(7, record.place + parts.events_at() + event * EVENT_BYTES);
         }
     }
@@ -203,9 +234,15 @@ fn runs(table: &Table, present: usize, block: Block) -> Result<Vec<Run>, Refusal
 /// The run of a record; none if it is incomplete or has "an absent role or a row that is no agent".
 fn run(table: &Table, present: usize, bytes: &[u8]) -> Option<Run> {
     let (&role, agents) = bytes.split_first()?;
-    let run = Run { role: role.into(), agents: agents.iter().map(|&row| row.into()).collect() };
+    let run = Run {
+        role: role.into(),
+        agents: agents.iter().map(|&row| row.into()).collect(),
+    };
     let complete = run.agents.len() == present;
-    let only_agents = run.agents.iter().all(|&row| table.row(row).is_some_and(|row| row.is_agent()));
+    let only_agents = run
+        .agents
+        .iter()
+        .all(|&row| table.row(row).is_some_and(|row| row.is_agent()));
     (complete && run.role < present && only_agents).then_some(run)
 }
 
@@ -216,7 +253,10 @@ fn knowledge(table: &Table, block: Block) -> Result<Vec<usize>, Refusal> {
     for (number, &row) in block.bytes.iter().enumerate() {
         let row = usize::from(row);
         let rises = knowledge.last().is_none_or(|&last| last < row);
-        if !rises || !table.has(row) || table.has_beneath(row, &[ROLE_NAME, VARIABLE, LOCAL_CONSTANT]) {
+        if !rises
+            || !table.has(row)
+            || table.has_beneath(row, &[ROLE_NAME, VARIABLE, LOCAL_CONSTANT])
+        {
             return refused(9, block.place + number);
         }
         knowledge.push(row);
@@ -242,6 +282,10 @@ impl Scenario {
 
     /// Whether a run's "agents (over the file's roles) are all trusted", also those its events never name.
     pub fn has_only_trusted_agents(&self, run: &Run) -> bool {
-        run.agents.iter().all(|&row| self.table.row(row).is_some_and(|row| row.kind == TRUSTED_AGENT))
+        run.agents.iter().all(|&row| {
+            self.table
+                .row(row)
+                .is_some_and(|row| row.kind == TRUSTED_AGENT)
+        })
     }
 }

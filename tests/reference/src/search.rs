@@ -11,7 +11,11 @@ pub const TRACE_BYTES: usize = 128;
 #[derive(Clone, Debug, PartialEq, Eq)]
 pub enum Verdict {
     /// The first trace of the list that breaks a claim: its place, counted from 1, the claim, the trace.
-    Broken { place: u64, claim: Claim, trace: Vec<u8> },
+    Broken {
+        place: u64,
+        claim: Claim,
+        trace: Vec<u8>,
+    },
     /// No trace breaks a claim; the list's length.
     Held(u64),
     /// None of the traces that may be judged breaks a claim, and there are more; the budget.
@@ -24,7 +28,11 @@ pub fn search(file: &[u8], buffer_length: usize) -> Result<Verdict, Refusal> {
     if buffer_length < TRACE_BYTES {
         return refused(10, buffer_length);
     }
-    let mut judge = Judge { budget: scenario.budget, judged: 0, verdict: None };
+    let mut judge = Judge {
+        budget: scenario.budget,
+        judged: 0,
+        verdict: None,
+    };
     walk(scenario, &mut judge);
     Ok(judge.verdict.unwrap_or(Verdict::Held(judge.judged)))
 }
@@ -50,7 +58,11 @@ impl Visitor for Judge {
         }
         self.judged += 1;
         match broken {
-            Some(claim) => self.ends_with(Verdict::Broken { place: self.judged, claim, trace: trace.to_vec() }),
+            Some(claim) => self.ends_with(Verdict::Broken {
+                place: self.judged,
+                claim,
+                trace: trace.to_vec(),
+            }),
             None => ControlFlow::Continue(()),
         }
     }
@@ -67,7 +79,10 @@ impl Visitor for Judge {
 
 /// The first `bound` traces of a file's list, or all of them if there are fewer.
 pub fn traces(file: &[u8], bound: usize) -> Result<Vec<Vec<u8>>, Refusal> {
-    let mut listing = Listing { bound, traces: Vec::new() };
+    let mut listing = Listing {
+        bound,
+        traces: Vec::new(),
+    };
     walk(open(file)?, &mut listing);
     Ok(listing.traces)
 }

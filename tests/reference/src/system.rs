@@ -63,7 +63,11 @@ impl Move {
     /// The move as a step of a trace: "run (1 to 4), count of new values, two bytes (row, run) for each".
     pub fn bytes(&self) -> Vec<u8> {
         let mut bytes = vec![self.run as u8, self.values.len() as u8];
-        bytes.extend(self.values.iter().flat_map(|value| [value.row as u8, value.run as u8]));
+        bytes.extend(
+            self.values
+                .iter()
+                .flat_map(|value| [value.row as u8, value.run as u8]),
+        );
         bytes
     }
 }
@@ -86,17 +90,33 @@ impl System {
     pub fn new(scenario: Scenario) -> System {
         let mut store = Store::default();
         let terms = scenario.table.terms(&mut store);
-        System { scenario, store, terms }
+        System {
+            scenario,
+            store,
+            terms,
+        }
     }
 
     /// "Knowledge starts as the file's list and all intruder constants of the table."
     pub fn start(&mut self) -> Situation {
         let constants = self.scenario.table.rows_of_kind(INTRUDER_CONSTANT);
-        let known: Vec<TermId> =
-            self.scenario.knowledge.iter().copied().chain(constants).map(|row| self.terms[row]).collect();
+        let known: Vec<TermId> = self
+            .scenario
+            .knowledge
+            .iter()
+            .copied()
+            .chain(constants)
+            .map(|row| self.terms[row])
+            .collect();
         let runs = self.scenario.runs.len();
-        let state = State { passed: vec![0; runs], values: vec![BTreeMap::new(); runs] };
-        Situation { state, knowledge: Rc::new(Knowledge::of(&mut self.store, &known)) }
+        let state = State {
+            passed: vec![0; runs],
+            values: vec![BTreeMap::new(); runs],
+        };
+        Situation {
+            state,
+            knowledge: Rc::new(Knowledge::of(&mut self.store, &known)),
+        }
     }
 
     /// The next event of a run, if the run is there and not finished.
@@ -111,7 +131,10 @@ impl System {
         match event.action {
             Action::Read => {
                 let beneath = self.scenario.table.variables_beneath(event.row);
-                beneath.into_iter().filter(|&variable| state.value(run, variable).is_none()).collect()
+                beneath
+                    .into_iter()
+                    .filter(|&variable| state.value(run, variable).is_none())
+                    .collect()
             }
             Action::Send | Action::Claim => vec![],
         }
@@ -121,7 +144,9 @@ impl System {
     /// being any run of the scenario."
     pub fn may_hold(&self, variable: usize, value: Value) -> bool {
         let table = &self.scenario.table;
-        let (Some(variable), Some(row)) = (table.row(variable), table.row(value.row)) else { return false };
+        let (Some(variable), Some(row)) = (table.row(variable), table.row(value.row)) else {
+            return false;
+        };
         let agent = variable.right == AGENT_TYPE;
         match row.kind {
             TRUSTED_AGENT | UNTRUSTED_AGENT => agent && value.run == 0,
@@ -134,8 +159,11 @@ impl System {
     /// The values that a variable may take, "each by row and then run".
     pub fn candidates(&self, variable: usize) -> Vec<Value> {
         let rows = (0..).take_while(|&row| self.scenario.table.has(row));
-        let every = rows.flat_map(|row| (0..=self.scenario.runs.len()).map(move |run| Value { row, run }));
-        every.filter(|&value| self.may_hold(variable, value)).collect()
+        let every =
+            rows.flat_map(|row| (0..=self.scenario.runs.len()).map(move |run| Value { row, run }));
+        every
+            .filter(|&value| self.may_hold(variable, value))
+            .collect()
     }
 
     /// The situation after a move, if the move is allowed.
@@ -154,7 +182,13 @@ impl System {
 
     /// What is known after an event in the state that has its new values; none if it is a read that is
     /// not allowed. "Knowledge never shrinks": a message that is read stays known.
-    fn knowledge_after(&mut self, here: &Situation, state: &State, run: usize, event: Event) -> Option<Rc<Knowledge>> {
+    fn knowledge_after(
+        &mut self,
+        here: &Situation,
+        state: &State,
+        run: usize,
+        event: Event,
+    ) -> Option<Rc<Knowledge>> {
         match event.action {
             // "A send adds sender, receiver and term."
             Action::Send => {
@@ -164,7 +198,9 @@ impl System {
             // "allowed exactly if sender, receiver and pattern are then derivable"
             Action::Read => {
                 let message = self.message(state, run, event);
-                let derivable = message.iter().all(|&term| here.knowledge.derives(&self.store, term));
+                let derivable = message
+                    .iter()
+                    .all(|&term| here.knowledge.derives(&self.store, term));
                 derivable.then(|| here.knowledge.clone())
             }
             // "A claim adds nothing."
@@ -187,7 +223,9 @@ impl System {
     /// A row's term as it stands in a run; a variable that is not set stands for itself.
     pub fn value(&mut self, state: &State, run: usize, row: usize) -> TermId {
         let scenario = &self.scenario;
-        self.store.instance(self.terms[row], &|atom| value_of_atom(scenario, state, run, atom))
+        self.store.instance(self.terms[row], &|atom| {
+            value_of_atom(scenario, state, run, atom)
+        })
     }
 
     /// Of the claims broken in this situation "the lowest run, then the lowest event". A claim is judged
@@ -219,9 +257,13 @@ impl System {
 /// "In run u a role name stands for that agent, local constant c for c#u, a variable for its value."
 fn value_of_atom(scenario: &Scenario, state: &State, run: usize, atom: Term) -> Term {
     match atom {
-        Term::RoleName(role) => scenario.table.atom(scenario.runs[run - 1].agents[usize::from(role)]),
+        Term::RoleName(role) => scenario
+            .table
+            .atom(scenario.runs[run - 1].agents[usize::from(role)]),
         Term::LocalConstant(number) => Term::LocalOfRun(number, run),
-        Term::Variable(row) => state.value(run, row).map_or(atom, |value| term_of_value(scenario, value)),
+        Term::Variable(row) => state
+            .value(run, row)
+            .map_or(atom, |value| term_of_value(scenario, value)),
         _ => atom,
     }
 }

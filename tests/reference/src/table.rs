@@ -48,7 +48,9 @@ impl Row {
 
     /// "Agent-like rows have kind 1, 2 or 5, or are variables of type 0."
     fn is_agent_like(self) -> bool {
-        self.is_agent() || self.kind == ROLE_NAME || (self.kind == VARIABLE && self.right == AGENT_TYPE)
+        self.is_agent()
+            || self.kind == ROLE_NAME
+            || (self.kind == VARIABLE && self.right == AGENT_TYPE)
     }
 }
 
@@ -64,7 +66,9 @@ impl Table {
         let mut table = Table::default();
         for (number, bytes) in bytes.chunks(ROW_BYTES).enumerate() {
             let place = number * ROW_BYTES;
-            let Some(row) = table.next_row(bytes) else { return refused(4, place) };
+            let Some(row) = table.next_row(bytes) else {
+                return refused(4, place);
+            };
             if table.rows.contains(&row) {
                 return refused(5, place);
             }
@@ -76,7 +80,9 @@ impl Table {
     /// The row that may follow those before it; none if it is "incomplete, a 97th row, a ninth variable,
     /// or against the table above".
     fn next_row(&self, bytes: &[u8]) -> Option<Row> {
-        let &[kind, left, right] = bytes else { return None };
+        let &[kind, left, right] = bytes else {
+            return None;
+        };
         let row = Row { kind, left, right };
         let ninth_variable = kind == VARIABLE && self.variables().count() == MOST_VARIABLES;
         (self.rows.len() < MOST_ROWS && !ninth_variable && self.permits(row)).then_some(row)
@@ -89,7 +95,8 @@ impl Table {
         let right = self.row(row.right.into());
         let agent_like = |row: Option<Row>| row.is_some_and(Row::is_agent_like);
         match row.kind {
-            TRUSTED_AGENT | UNTRUSTED_AGENT | GLOBAL_CONSTANT | INTRUDER_CONSTANT | LOCAL_CONSTANT => row.right == 0,
+            TRUSTED_AGENT | UNTRUSTED_AGENT | GLOBAL_CONSTANT | INTRUDER_CONSTANT
+            | LOCAL_CONSTANT => row.right == 0,
             ROLE_NAME => row.left <= 3 && row.right == 0,
             VARIABLE => row.right == AGENT_TYPE || row.right == FRESH_TYPE,
             PUBLIC_KEY | SECRET_KEY => agent_like(left) && row.right == 0,
@@ -131,12 +138,17 @@ impl Table {
 
     /// Whether a row of one of those kinds lies beneath.
     pub fn has_beneath(&self, number: usize, kinds: &[u8]) -> bool {
-        self.beneath(number).into_iter().any(|lower| kinds.contains(&self.rows[lower].kind))
+        self.beneath(number)
+            .into_iter()
+            .any(|lower| kinds.contains(&self.rows[lower].kind))
     }
 
     /// The variables beneath a row, rising.
     pub fn variables_beneath(&self, number: usize) -> Vec<usize> {
-        self.beneath(number).into_iter().filter(|&lower| self.rows[lower].kind == VARIABLE).collect()
+        self.beneath(number)
+            .into_iter()
+            .filter(|&lower| self.rows[lower].kind == VARIABLE)
+            .collect()
     }
 
     /// The role-level term of each row, "role-level terms being atoms".

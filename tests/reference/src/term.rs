@@ -64,9 +64,9 @@ impl Store {
         match term {
             Term::Variable(_) => false,
             Term::PublicKey(agent) | Term::SecretKey(agent) => self.is_ground(agent),
-            Term::SharedKey(left, right) | Term::Pair(left, right) | Term::Encryption(left, right) => {
-                self.is_ground(left) && self.is_ground(right)
-            }
+            Term::SharedKey(left, right)
+            | Term::Pair(left, right)
+            | Term::Encryption(left, right) => self.is_ground(left) && self.is_ground(right),
             _ => true,
         }
     }
@@ -102,7 +102,9 @@ impl Store {
             Term::SecretKey(agent) => Term::SecretKey(part(self, agent)),
             Term::SharedKey(left, right) => Term::SharedKey(part(self, left), part(self, right)),
             Term::Pair(left, right) => Term::Pair(part(self, left), part(self, right)),
-            Term::Encryption(content, key) => Term::Encryption(part(self, content), part(self, key)),
+            Term::Encryption(content, key) => {
+                Term::Encryption(part(self, content), part(self, key))
+            }
             atom => reading(atom),
         };
         let instance = self.id(instance);

@@ -26,7 +26,13 @@ pub trait Visitor {
 pub fn walk(scenario: Scenario, visitor: &mut dyn Visitor) {
     let mut system = System::new(scenario);
     let start = system.start();
-    let mut walk = Walk { system, visitor, trace: Vec::new(), shown: 0, extensions: HashMap::new() };
+    let mut walk = Walk {
+        system,
+        visitor,
+        trace: Vec::new(),
+        shown: 0,
+        extensions: HashMap::new(),
+    };
     let _ = walk.traces_from(&start);
 }
 
@@ -69,8 +75,13 @@ impl Walk<'_> {
 
     /// The traces that go on with a move of that run.
     fn traces_by_run(&mut self, here: &Situation, run: usize) -> ControlFlow<()> {
-        let Some(event) = self.system.next_event(&here.state, run) else { return ControlFlow::Continue(()) };
-        let step = Move { run, values: vec![] };
+        let Some(event) = self.system.next_event(&here.state, run) else {
+            return ControlFlow::Continue(());
+        };
+        let step = Move {
+            run,
+            values: vec![],
+        };
         match event.action {
             Action::Send | Action::Claim => self.traces_by_move(here, &step),
             Action::Read => self.traces_by_read(here, step, event),
@@ -78,9 +89,16 @@ impl Walk<'_> {
     }
 
     /// The traces that go on with a read of these values and any for the variables left.
-    fn traces_by_read(&mut self, here: &Situation, mut step: Move, event: Event) -> ControlFlow<()> {
+    fn traces_by_read(
+        &mut self,
+        here: &Situation,
+        mut step: Move,
+        event: Event,
+    ) -> ControlFlow<()> {
         let variables = self.system.new_variables(&here.state, step.run, event);
-        let Some(&variable) = variables.get(step.values.len()) else { return self.traces_by_move(here, &step) };
+        let Some(&variable) = variables.get(step.values.len()) else {
+            return self.traces_by_move(here, &step);
+        };
         if !self.may_become_allowed(here, &step, event, &variables) {
             return ControlFlow::Continue(());
         }
@@ -93,12 +111,20 @@ impl Walk<'_> {
     }
 
     /// Whether a read can be allowed with these first values.
-    fn may_become_allowed(&mut self, here: &Situation, step: &Move, event: Event, variables: &[usize]) -> bool {
+    fn may_become_allowed(
+        &mut self,
+        here: &Situation,
+        step: &Move,
+        event: Event,
+        variables: &[usize],
+    ) -> bool {
         let size = self.system.store.size();
         let names = self.system.names(step.run, event);
         let state = here.state.with_values(step.run, variables, &step.values);
         let pattern = self.system.value(&state, step.run, event.row);
-        let allowed = names.iter().all(|&name| here.knowledge.derives(&self.system.store, name))
+        let allowed = names
+            .iter()
+            .all(|&name| here.knowledge.derives(&self.system.store, name))
             && has_hope(&mut self.system, &here.knowledge, pattern);
         self.system.store.forget_since(size);
         allowed

@@ -16,10 +16,13 @@ pub fn first_ill_formed_event(table: &Table, number: usize, role: &Role) -> Opti
     for (place, event) in role.events.iter().enumerate() {
         let peer = role_name(&mut store, event.peer);
         let term = terms[event.row];
-        let all_derivable = |terms: &[TermId]| terms.iter().all(|&term| knowledge.derives(&store, term));
+        let all_derivable =
+            |terms: &[TermId]| terms.iter().all(|&term| knowledge.derives(&store, term));
         let well_formed = match event.action {
             Action::Send => all_derivable(&[own_name, peer, term]),
-            Action::Read => all_derivable(&[peer, own_name]) && readable(&mut store, &knowledge, term),
+            Action::Read => {
+                all_derivable(&[peer, own_name]) && readable(&mut store, &knowledge, term)
+            }
             Action::Claim => all_derivable(&[own_name, term]),
         };
         if !well_formed {

@@ -1,0 +1,82 @@
+-- Allowed moves and traces, broken claims and the order of the list, stated plainly: with the inference relation and not its decision (document 01, 'Roles and moves'). Assumes nothing.
+use Prim.Native.Nat.{ℕ, suc, _<_, _≤_}
+use mathlib.Core.Path.{_≡_}
+use mathlib.Core.Logic.{_⊎_}
+use mathlib.Core.List.{List, [], _∷_}
+use mathlib.Core.Option.{Option, none, some}
+use lib.Dec.{T}
+use lib.ListN.{length, getElem?}
+use Rattle.semantics.specs.Term.{agentType, freshType, Atom, variable, intruder, local, Term}
+use Rattle.semantics.specs.Inference.{Derives}
+use Rattle.semantics.specs.Table.{Row}
+use Rattle.semantics.specs.Value.{valueOf}
+use Rattle.semantics.specs.Roles.{EventKind, send, read, claim, Event}
+use Rattle.semantics.specs.Runs.{Run, atomAt, isAgent}
+use Rattle.semantics.specs.Scenario.{Scenario}
+use Rattle.semantics.specs.State.{Value, Progress, State, initial, Active, active, eventsOf, readingIn}
+use Rattle.semantics.specs.Moves.{Move, Message, toSet, messageAfter, advanced}
+use Rattle.semantics.specs.Tree.{Follows, Earlier}
+use Rattle.semantics.specs.Verdict.{Claim, secrecy, allTrusted}
+
+-- the values that a variable may take
+pub data MayTake (rows : List Row) (runs : ℕ) : Atom → Value → Type 0 where
+  -- "An agent variable may take any agent row;"
+  anAgent : {n : ℕ} {v : Value} → T (isAgent (atomAt rows (v .row))) → v .run ≡ 0 → MayTake rows runs (variable n agentType) v
+  -- "a fresh variable any intruder constant"
+  anIntruder : {n c : ℕ} {v : Value} → atomAt rows (v .row) ≡ some (intruder c) → v .run ≡ 0 → MayTake rows runs (variable n freshType) v
+  -- "or any c#u, u being any run of the scenario."
+  aLocal : {n c w : ℕ} {v : Value} → atomAt rows (v .row) ≡ some (local c w) → 1 ≤ v .run → v .run ≤ runs → MayTake rows runs (variable n freshType) v
+
+-- as many values as variables, in order
+pub data Takes (rows : List Row) (runs : ℕ) : List Atom → List Value → Type 0 where
+  takesNone : Takes rows runs [] []
+  takesMore : {x : Atom} {v : Value} {xs : List Atom} {vs : List Value} → MayTake rows runs x v → Takes rows runs xs vs → Takes rows runs (x ∷ xs) (v ∷ vs)
+
+-- an event that is allowed, and what is known after it
+pub data Performs (known : List Term) : EventKind → Option Message → List Term → Type 0 where
+  -- "A send adds sender, receiver and term."
+  sends : {m : Message} {after : List Term} → after ≡ m .sender ∷ m .receiver ∷ m .term ∷ known → Performs known send (some m) after
+  -- "A read .. is allowed exactly if sender, receiver and pattern are then derivable."
+  reads :
+      {m : Message} {after : List Term} → Derives known (m .sender) → Derives known (m .receiver) → Derives known (m .term) → after ≡ known
+      → Performs known read (some m) after
+  -- "A claim adds nothing."
+  claims : {m : Option Message} {after : List Term} → after ≡ known → Performs known claim m after
+
+-- An allowed move: "A run's next event is its only move", "A read gives values to the variables of its pattern not yet set in that run".
+pub data Step (sc : Scenario) (s : State) (m : Move) (s′ : State) : Type 0 where
+  step :
+      {a : Active} {known : List Term} → active sc s (m .run) ≡ some a → Takes (sc .rows) (length (sc .runs)) (toSet sc a) (m .values)
+      → Performs (s .known) (a .event .kind) (messageAfter sc a (m .values)) known → s′ ≡ advanced sc s a (m .values) known
+      → Step sc s m s′
+
+-- "An allowed trace is any sequence of allowed moves, the empty one included.": a trace with the state at its end
+abbrev pub AllowedTrace : Scenario → List Move → State → Type 0
+AllowedTrace sc ms s = Follows (Step sc) (initial sc) ms s
+
+-- "each by row and then run"
+pub data ValueBefore (v w : Value) : Type 0 where
+  byRow : v .row < w .row → ValueBefore v w
+  byRun : v .row ≡ w .row → v .run < w .run → ValueBefore v w
+
+-- "ordered by run, then by the new values in order of variable row"
+pub data MoveBefore (m m′ : Move) : Type 0 where
+  earlierRun : m .run < m′ .run → MoveBefore m m′
+  earlierValues : m .run ≡ m′ .run → Earlier ValueBefore (m .values) (m′ .values) → MoveBefore m m′
+
+-- "A trace breaks a claim if it passes that claim in a run whose agents (over the file's roles) are all trusted and the claimed value is derivable at the trace's end."
+pub data Breaks (sc : Scenario) (s : State) (c : Claim) : Type 0 where
+  breaks :
+      {k : ℕ} {run : Run} {p : Progress} {e : Event} {t : Term} → getElem? (sc .runs) k ≡ some run → getElem? (s .progress) k ≡ some p
+      → getElem? (eventsOf sc run) (c .event) ≡ some e → c .event < p .done → e .kind ≡ claim → T (allTrusted (sc .rows) run)
+      → valueOf (readingIn (sc .rows) (suc k) run (p .values)) (sc .rows) (e .row) ≡ some t → Derives (s .known) t → c .run ≡ suc k
+      → c .kind ≡ secrecy → Breaks sc s c
+
+-- "the lowest run, then the lowest event"
+abbrev pub ClaimBefore : Claim → Claim → Type 0
+ClaimBefore c d = (c .run < d .run) ⊎ ((c .run ≡ d .run) × (c .event < d .event))
+
+-- the claim that is named of those that a trace breaks
+pub record Names (sc : Scenario) (s : State) (c : Claim) : Type 0 where
+  pub isBroken : Breaks sc s c
+  pub lowest : (d : Claim) → Breaks sc s d → ClaimBefore d c → ⊥

@@ -1,0 +1,5 @@
+-- The laws of the definitions, with their proofs, a file for each subject.
+pub mod Test
+pub mod List
+pub mod Inference
+pub mod Tree

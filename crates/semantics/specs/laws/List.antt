@@ -1,0 +1,154 @@
+-- Laws of lists: membership and order. Assumes nothing.
+use Prim.Native.Nat.{ℕ, zero, suc, _+_, _≤_, _<_}
+use native.Mathlib.Nat.{le-of-suc-le-suc, not-suc-le-zero, eq-or-lt-of-le}
+use native.Mathlib.Omega.{arith}
+use mathlib.Core.Path.{_≡_, refl, sym, ap}
+use mathlib.Core.Logic.{_↔_, _⊎_, inl, inr, ⊎-elim}
+use mathlib.Core.Bool.{Bool, true, false}
+use mathlib.Core.Option.{Option, none, some, Option·some-injective, Option·none-ne-some}
+use mathlib.Core.List.{List, [], _∷_, _++_, map, List·Memᴰ, List·Memᴰ·head, List·Memᴰ·tail, List·Memᴰ·not-nil}
+use mathlib.Core.List.{List·Memᴰ·append-cases, Memᴰ·append-left, Memᴰ·append-right}
+use lib.Dec.{T}
+use lib.ListN.{getElem?}
+use Rattle.semantics.specs.Basic.{joined, keep, presentOnes, numbersFrom, every}
+use Rattle.semantics.specs.laws.Test.{both-left, both-right, both}
+
+-- an element is the first one or a later one
+pub mem-cases : {A P : Type 0} {x y : A} {xs : List A} → List·Memᴰ y (x ∷ xs) → (y ≡ x → P) → (List·Memᴰ y xs → P) → P
+mem-cases (List·Memᴰ·head e) first later = first e
+mem-cases (List·Memᴰ·tail m) first later = later m
+
+module _ {A : Type 0} where
+  -- the elements that a test keeps
+  pub mem-keep : (p : A → Bool) (xs : List A) {x : A} → List·Memᴰ x (keep p xs) ↔ (List·Memᴰ x xs × T (p x))
+  mem-keep p [] = (λ h. absurd (List·Memᴰ·not-nil h), λ w. w .0)
+  mem-keep p (y ∷ xs) {x} = go (p y) refl (mem-keep p xs)
+    where
+      go : (b : Bool) → p y ≡ b → List·Memᴰ x (keep p xs) ↔ (List·Memᴰ x xs × T (p x)) → List·Memᴰ x (keep p (y ∷ xs)) ↔ (List·Memᴰ x (y ∷ xs) × T (p x))
+      go true e rest = rw (e, keep) (
+        λ h. mem-cases h (λ q. (List·Memᴰ·head q, rw (q, e) tt)) (λ m. (List·Memᴰ·tail (rest .0 m .0), rest .0 m .1)),
+        λ w. mem-cases (w .0) (λ q. List·Memᴰ·head q) (λ m. List·Memᴰ·tail (rest .1 (m, w .1))),
+      )
+      go false e rest = rw (e, keep) (
+        λ h. (List·Memᴰ·tail (rest .0 h .0), rest .0 h .1),
+        λ w. mem-cases (w .0) (λ q. absurd (rw (q, e) at (w .1))) (λ m. rest .1 (m, w .1)),
+      )
+
+  -- the values that are there
+  pub mem-present : (os : List (Option A)) {x : A} → List·Memᴰ x (presentOnes os) ↔ List·Memᴰ (some x) os
+  mem-present [] = (λ h. absurd (List·Memᴰ·not-nil h), λ h. absurd (List·Memᴰ·not-nil h))
+  mem-present (none ∷ os) {x} = (λ h. List·Memᴰ·tail (mem-present os .0 h), λ h. mem-cases h (λ e. absurd (Option·none-ne-some x (sym e))) (mem-present os .1))
+  mem-present (some y ∷ os) {x} = (
+    λ h. mem-cases h (λ e. List·Memᴰ·head (ap some e)) (λ m. List·Memᴰ·tail (mem-present os .0 m)),
+    λ h. mem-cases h (λ e. List·Memᴰ·head (Option·some-injective x y e)) (λ m. List·Memᴰ·tail (mem-present os .1 m)),
+  )
+
+  -- a test that every element passes
+  pub every-iff : (p : A → Bool) (xs : List A) → T (every p xs) ↔ ((x : A) → List·Memᴰ x xs → T (p x))
+  every-iff p [] = (λ t x h. absurd (List·Memᴰ·not-nil h), λ a. tt)
+  every-iff p (y ∷ xs) = (
+    λ t x h. mem-cases h (λ e. rw e (both-left (p y) (every p xs) t)) (every-iff p xs .0 (both-right (p y) (every p xs) t) x),
+    λ a. both (p y) (every p xs) (a y (List·Memᴰ·head refl)) (every-iff p xs .1 (λ x h. a x (List·Memᴰ·tail h))),
+  )
+
+  -- an element stands at some place
+  pub mem-getElem : (xs : List A) {x : A} → List·Memᴰ x xs ↔ ((i : ℕ) × (getElem? xs i ≡ some x))
+  mem-getElem xs {x} = (place, λ w. element xs (w .0) (w .1))
+    where
+      place : {xs : List A} → List·Memᴰ x xs → (i : ℕ) × (getElem? xs i ≡ some x)
+      place (List·Memᴰ·head e) = (0, ap some (sym e))
+      place (List·Memᴰ·tail h) = (suc (place h .0), place h .1)
+
+      element : (xs : List A) (i : ℕ) → getElem? xs i ≡ some x → List·Memᴰ x xs
+      element [] i e = absurd (Option·none-ne-some x e)
+      element (y ∷ xs) zero e = List·Memᴰ·head (sym (Option·some-injective y x e))
+      element (y ∷ xs) (suc i) e = List·Memᴰ·tail (element xs i e)
+
+module _ {A B : Type 0} (f : A → List B) where
+  -- what the elements give, one after the other
+  pub mem-joined : (xs : List A) {y : B} → List·Memᴰ y (joined f xs) ↔ ((x : A) × List·Memᴰ x xs × List·Memᴰ y (f x))
+  mem-joined [] = (λ h. absurd (List·Memᴰ·not-nil h), λ w. absurd (List·Memᴰ·not-nil (w .1)))
+  mem-joined (x ∷ xs) = (
+    λ h. ⊎-elim (λ m. (x, List·Memᴰ·head refl, m)) (λ m. let w = mem-joined xs .0 m in (w .0, List·Memᴰ·tail (w .1), w .2)) (List·Memᴰ·append-cases (f x) h),
+    λ w. mem-cases (w .1) (λ e. Memᴰ·append-left (joined f xs) (rw e at (w .2))) (λ m. Memᴰ·append-right (f x) (mem-joined xs .1 (w .0, m, w .2))),
+  )
+
+module _ {A B : Type 0} (f : A → B) where
+  -- the images of the elements
+  pub mem-map : (xs : List A) {y : B} → List·Memᴰ y (map f xs) ↔ ((x : A) × List·Memᴰ x xs × (y ≡ f x))
+  mem-map [] = (λ h. absurd (List·Memᴰ·not-nil h), λ w. absurd (List·Memᴰ·not-nil (w .1)))
+  mem-map (x ∷ xs) = (
+    λ h. mem-cases h (λ e. (x, List·Memᴰ·head refl, e)) (λ m. let w = mem-map xs .0 m in (w .0, List·Memᴰ·tail (w .1), w .2)),
+    λ w. mem-cases (w .1) (λ e. List·Memᴰ·head (rw e at (w .2))) (λ m. List·Memᴰ·tail (mem-map xs .1 (w .0, m, w .2))),
+  )
+
+-- n numbers from a on
+pub mem-numbersFrom : (a n : ℕ) {k : ℕ} → List·Memᴰ k (numbersFrom a n) ↔ ((a ≤ k) × (k < a + n))
+mem-numbersFrom a zero = (λ h. absurd (List·Memᴰ·not-nil h), λ w. absurd (omega arith))
+mem-numbersFrom a (suc n) = (
+  λ h. mem-cases h (λ e. omega arith) (λ m. let w = mem-numbersFrom (suc a) n .0 m in omega arith),
+  λ w. ⊎-elim (λ e. List·Memᴰ·head (sym e)) (λ l. List·Memᴰ·tail (mem-numbersFrom (suc a) n .1 (omega arith))) (eq-or-lt-of-le (w .0)),
+)
+
+-- Every element stands in the relation to each later one.
+pub data Ordered {A : Type 0} (R : A → A → Type 0) : List A → Type 0 where
+  ordered-none : Ordered R []
+  ordered-more : {x : A} {xs : List A} → ((y : A) → List·Memᴰ y xs → R x y) → Ordered R xs → Ordered R (x ∷ xs)
+
+-- n numbers from a on are in order
+pub ordered-numbersFrom : (a n : ℕ) → Ordered _<_ (numbersFrom a n)
+ordered-numbersFrom a zero = ordered-none
+ordered-numbersFrom a (suc n) = ordered-more (λ k m. mem-numbersFrom (suc a) n .0 m .0) (ordered-numbersFrom (suc a) n)
+
+module _ {A : Type 0} {R : A → A → Type 0} where
+  -- a relation that follows from another
+  pub ordered-imply : {S : A → A → Type 0} → ((x y : A) → R x y → S x y) → {xs : List A} → Ordered R xs → Ordered S xs
+  ordered-imply h ordered-none = ordered-none
+  ordered-imply h (ordered-more {x = x} a o) = ordered-more (λ y m. h x y (a y m)) (ordered-imply h o)
+
+  -- one sequence after another
+  pub ordered-append : {xs ys : List A} → Ordered R xs → Ordered R ys → ((x y : A) → List·Memᴰ x xs → List·Memᴰ y ys → R x y) → Ordered R (xs ++ ys)
+  ordered-append ordered-none q across = q
+  ordered-append (ordered-more {x = x} {xs = xs} a p) q across =
+      ordered-more (λ y m. ⊎-elim (a y) (across x y (List·Memᴰ·head refl)) (List·Memᴰ·append-cases xs m)) (ordered-append p q (λ x y m. across x y (List·Memᴰ·tail m)))
+
+  -- the elements that a test keeps
+  pub ordered-keep : (p : A → Bool) {xs : List A} → Ordered R xs → Ordered R (keep p xs)
+  ordered-keep p ordered-none = ordered-none
+  ordered-keep p (ordered-more {x = x} {xs = xs} a o) = go (p x) refl (ordered-keep p o)
+    where
+      go : (b : Bool) → p x ≡ b → Ordered R (keep p xs) → Ordered R (keep p (x ∷ xs))
+      go true e rest = rw (e, keep) (ordered-more (λ y m. a y (mem-keep p xs .0 m .0)) rest)
+      go false e rest = rw (e, keep) rest
+
+  -- the element at an earlier place stands in the relation to that at a later one
+  pub ordered-at : {xs : List A} → Ordered R xs → (i j : ℕ) {x y : A} → getElem? xs i ≡ some x → getElem? xs j ≡ some y → i < j → R x y
+  ordered-at ordered-none i j {x} e f l = absurd (Option·none-ne-some x e)
+  ordered-at (ordered-more a o) i zero e f l = absurd (not-suc-le-zero l)
+  ordered-at (ordered-more {x = z} {xs = xs} a o) zero (suc j) {x} {y} e f l = rw (← Option·some-injective z x e) (a y (mem-getElem xs .1 (j, f)))
+  ordered-at (ordered-more a o) (suc i) (suc j) e f l = ordered-at o i j e f (le-of-suc-le-suc l)
+
+  module _ {B : Type 0} where
+    -- the images of the elements
+    pub ordered-map : (f : B → A) {xs : List B} → Ordered (λ a b. R (f a) (f b)) xs → Ordered R (map f xs)
+    ordered-map f ordered-none = ordered-none
+    ordered-map f (ordered-more {xs = xs} a o) = ordered-more (λ y m. let w = mem-map f xs .0 m in rw (← w .2) at (a (w .0) (w .1))) (ordered-map f o)
+
+    -- what the elements give, one after the other
+    pub ordered-joined : {S : B → B → Type 0} (f : B → List A) {xs : List B} → Ordered S xs → ((x : B) → List·Memᴰ x xs → Ordered R (f x))
+        → ((x x′ : B) (y y′ : A) → S x x′ → List·Memᴰ y (f x) → List·Memᴰ y′ (f x′) → R y y′) → Ordered R (joined f xs)
+    ordered-joined f ordered-none each across = ordered-none
+    ordered-joined f (ordered-more {x = x} {xs = xs} a o) each across =
+        ordered-append (each x (List·Memᴰ·head refl)) (ordered-joined f o (λ z m. each z (List·Memᴰ·tail m)) across)
+        (λ y y′ m m′. let w = mem-joined f xs .0 m′ in across x (w .0) y y′ (a (w .0) (w .1)) m (w .2))
+
+    -- the values that are there
+    pub ordered-present : {S : B → B → Type 0} (g : B → Option A) {xs : List B} → Ordered S xs
+        → ((b b′ : B) (y y′ : A) → S b b′ → g b ≡ some y → g b′ ≡ some y′ → R y y′) → Ordered R (presentOnes (map g xs))
+    ordered-present g ordered-none across = ordered-none
+    ordered-present g (ordered-more {x = x} {xs = xs} a o) across = go (g x) refl (ordered-present g o across)
+      where
+        go : (v : Option A) → g x ≡ v → Ordered R (presentOnes (map g xs)) → Ordered R (presentOnes (v ∷ map g xs))
+        go none e rest = rest
+        go (some y) e rest =
+            ordered-more (λ y′ m. let w = mem-map g xs .0 (mem-present (map g xs) .0 m) in across x (w .0) y y′ (a (w .0) (w .1)) e (sym (w .2))) rest
