@@ -18,4 +18,5 @@ pub mod Verdict
 pub mod Replay
 pub mod Derive
 pub mod Allowed
+pub mod Guarantee
 pub mod laws

@@ -3,3 +3,4 @@ pub mod Test
 pub mod List
 pub mod Inference
 pub mod Tree
+pub mod Verdict

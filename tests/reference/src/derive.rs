@@ -5,9 +5,9 @@ use crate::refusal::{refused, Refusal};
 use crate::table::Table;
 use crate::term::{Store, TermId};
 
-/// "a table, a list of rows (one byte each, any order, repeats allowed) and a target, role-level terms
-/// being atoms. 4 and 5 as Open, with places in the table; then 11, a listed row absent, place in the
-/// list, or the target absent, place the list's length."
+/// "a table, a list of rows (one byte each, any order, repeats allowed) and a target, role-level
+/// terms being atoms. 4 and 5 as Open, with places in the table; then 11, a listed row absent,
+/// place in the list, or the target absent, place the list's length."
 pub fn derive(table: &[u8], list: &[u8], target: u8) -> Result<bool, Refusal> {
     let table = Table::read(table)?;
     let absent = |row: u8| !table.has(row.into());

@@ -1,6 +1,6 @@
 //! Whether a pattern with variables left can still become derivable, so that a choice of values for
-//! eight variables is not tried to its end when its beginning is already wrong. The list of traces does
-//! not depend on it: each full choice is judged by itself.
+//! eight variables is not tried to its end when its beginning is already wrong. The list of traces
+//! does not depend on it: each full choice is judged by itself.
 
 use crate::knowledge::Knowledge;
 use crate::system::{term_of_value, System};
@@ -69,7 +69,8 @@ fn has_derivable_value(system: &mut System, knowledge: &Knowledge, variable: Ter
     })
 }
 
-/// Whether one of the ways in which a term is a known one leaves the rest of what is wanted derivable.
+/// Whether one of the ways in which a term is a known one leaves the rest of what is wanted
+/// derivable.
 fn can_be_known(
     system: &mut System,
     knowledge: &Knowledge,
@@ -123,8 +124,8 @@ fn binding(system: &System, pattern: TermId, term: TermId) -> Option<Binding> {
     matches_with(system, pattern, term, &mut binding, &mut HashSet::new()).then_some(binding)
 }
 
-/// Whether `pattern` is `term` under some values beside those in `binding`, which gains them. `done` has
-/// the pairs found to match so far: parts that occur often are compared once.
+/// Whether `pattern` is `term` under some values beside those in `binding`, which gains them.
+/// `done` has the pairs found to match so far: parts that occur often are compared once.
 fn matches_with(
     system: &System,
     pattern: TermId,

@@ -1,4 +1,5 @@
-//! Inference (000, section 3.2): knowledge taken apart until nothing new turns up, and building from it.
+//! Inference (000, section 3.2): knowledge taken apart until nothing new turns up, and building
+//! from it.
 
 use crate::term::{Store, Term, TermId};
 use std::collections::{BTreeSet, HashMap};
@@ -38,7 +39,8 @@ impl Knowledge {
     }
 
     /// What taking `term` apart gives: of a pair both parts; of an encryption "the content if the
-    /// encryption and the inverse of its key are" derivable. The inverse may itself have to be built.
+    /// encryption and the inverse of its key are" derivable. The inverse may itself have to be
+    /// built.
     fn found_in(&self, store: &mut Store, term: TermId) -> Vec<TermId> {
         match store.term(term) {
             Term::Pair(left, right) => vec![left, right],
@@ -54,8 +56,8 @@ impl Knowledge {
         }
     }
 
-    /// Whether the term is derivable: a member, or a pair or an encryption of derivable parts. Taking
-    /// apart what was built gives nothing new, so building last is enough.
+    /// Whether the term is derivable: a member, or a pair or an encryption of derivable parts.
+    /// Taking apart what was built gives nothing new, so building last is enough.
     pub fn derives(&self, store: &Store, term: TermId) -> bool {
         self.builds(store, term, &mut HashMap::new())
     }

@@ -1,5 +1,6 @@
-//! The answers of the scenario checker, worked out from the definitions in the plainest way, to compare
-//! other programs with. `answer` takes a request as a line of text; the operations are there by themselves too.
+//! The answers of the scenario checker, worked out from the definitions in the plainest way, to
+//! compare other programs with. `answer` takes a request as a line of text; `open`, `search`,
+//! `derive` and `replay` take bytes, and `traces` lists what Search judges.
 
 mod derive;
 mod frame;

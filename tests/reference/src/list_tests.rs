@@ -94,8 +94,8 @@ fn the_list_is_the_one_found_by_trying() {
     assert!(compared > 300);
 }
 
-/// Run, count and values stand in a step in the order in which moves are compared, so the list rises as
-/// byte strings do.
+/// Run, count and values stand in a step in the order in which moves are compared, so the list
+/// rises as byte strings do.
 #[test]
 fn the_list_rises_and_each_trace_of_it_replays() {
     for file in accepted_files() {

@@ -4,8 +4,8 @@ use crate::refusal::{refused, Refusal};
 use crate::scenario::open;
 use crate::system::{Claim, Move, System, Value};
 
-/// "Replay refuses as Open, then 12 exactly if a step is cut short or isn't allowed after those before
-/// it, place that step in the trace. Otherwise it gives the claim broken, or none."
+/// "Replay refuses as Open, then 12 exactly if a step is cut short or isn't allowed after those
+/// before it, place that step in the trace. Otherwise it gives the claim broken, or none."
 pub fn replay(file: &[u8], trace: &[u8]) -> Result<Option<Claim>, Refusal> {
     let mut system = System::new(open(file)?);
     let mut here = system.start();

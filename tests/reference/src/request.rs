@@ -8,8 +8,8 @@ use crate::search::{search, Verdict};
 
 pub const MALFORMED: &str = "MALFORMED";
 
-/// The answer to a request: `0 open FILE`, `0 search FILE BUFFER_LENGTH`, `0 derive TABLE LIST TARGET` or
-/// `0 replay FILE TRACE`.
+/// The answer to a request: `0 open FILE`, `0 search FILE BUFFER_LENGTH`, `0 derive TABLE LIST
+/// TARGET` or `0 replay FILE TRACE`.
 pub fn answer(request: &str) -> String {
     match answer_to_fields(&request.split(' ').collect::<Vec<_>>()) {
         Some(Ok(answer)) => answer,

@@ -92,8 +92,8 @@ impl RoleParts<'_> {
     }
 }
 
-/// Every record that begins in the block. Where one begins is found by the counts of those before it
-/// alone, whatever else is wrong with them; an incomplete record takes all that is left.
+/// Every record that begins in the block. Where one begins is found by the counts of those before
+/// it alone, whatever else is wrong with them; an incomplete record takes all that is left.
 fn role_records(block: Block) -> Vec<RoleRecord> {
     let mut records = Vec::new();
     let mut at = 0;
@@ -124,7 +124,8 @@ fn counted(bytes: &[u8], size: usize) -> Option<(&[u8], &[u8])> {
 
 /// The roles, or refusal 6 at the first record that is none.
 fn roles(table: &Table, records: &[RoleRecord]) -> Result<Vec<Role>, Refusal> {
-    // "A role is present if its record is one of the first four and begins in the block, complete or not."
+    // "A role is present if its record is one of the first four and begins in the block, complete
+    // or not."
     let present = records.len().min(MOST_ROLES);
     let mut roles = Vec::new();
     for (number, record) in records.iter().enumerate() {
@@ -218,7 +219,8 @@ fn refuse_ill_formed_event(
     Ok(())
 }
 
-/// The runs, or refusal 8 at the first record that is none. With no roles a record is its role byte.
+/// The runs, or refusal 8 at the first record that is none. With no roles a record is its role
+/// byte.
 fn runs(table: &Table, present: usize, block: Block) -> Result<Vec<Run>, Refusal> {
     let length = 1 + present;
     let mut runs = Vec::new();
@@ -280,7 +282,8 @@ impl Scenario {
         &self.roles[run.role].events
     }
 
-    /// Whether a run's "agents (over the file's roles) are all trusted", also those its events never name.
+    /// Whether a run's "agents (over the file's roles) are all trusted", also those its events
+    /// never name.
     pub fn has_only_trusted_agents(&self, run: &Run) -> bool {
         run.agents.iter().all(|&row| {
             self.table

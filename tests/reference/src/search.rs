@@ -10,7 +10,8 @@ pub const TRACE_BYTES: usize = 128;
 
 #[derive(Clone, Debug, PartialEq, Eq)]
 pub enum Verdict {
-    /// The first trace of the list that breaks a claim: its place, counted from 1, the claim, the trace.
+    /// The first trace of the list that breaks a claim: its place, counted from 1, the claim, the
+    /// trace.
     Broken {
         place: u64,
         claim: Claim,
@@ -22,7 +23,8 @@ pub enum Verdict {
     Stopped(u32),
 }
 
-/// "Search refuses as Open, then 10 if the trace buffer is shorter than 128 bytes, place its length."
+/// "Search refuses as Open, then 10 if the trace buffer is shorter than 128 bytes, place its
+/// length."
 pub fn search(file: &[u8], buffer_length: usize) -> Result<Verdict, Refusal> {
     let scenario = open(file)?;
     if buffer_length < TRACE_BYTES {

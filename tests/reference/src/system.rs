@@ -15,7 +15,8 @@ pub struct Value {
     pub run: usize,
 }
 
-/// How far each run has come, and the values of its variables by their rows. The first run stands first.
+/// How far each run has come, and the values of its variables by their rows. The first run stands
+/// first.
 #[derive(Clone, Debug, PartialEq, Eq, Hash)]
 pub struct State {
     passed: Vec<usize>,
@@ -33,7 +34,8 @@ impl State {
         self.values[run - 1].get(&variable).copied()
     }
 
-    /// The state in which these variables of a run, as many as there are values, have these values too.
+    /// The state in which these variables of a run, as many as there are values, have these values
+    /// too.
     pub fn with_values(&self, run: usize, variables: &[usize], values: &[Value]) -> State {
         let mut state = self.clone();
         state.values[run - 1].extend(variables.iter().copied().zip(values.iter().copied()));
@@ -60,7 +62,8 @@ pub struct Move {
 }
 
 impl Move {
-    /// The move as a step of a trace: "run (1 to 4), count of new values, two bytes (row, run) for each".
+    /// The move as a step of a trace: "run (1 to 4), count of new values, two bytes (row, run) for
+    /// each".
     pub fn bytes(&self) -> Vec<u8> {
         let mut bytes = vec![self.run as u8, self.values.len() as u8];
         bytes.extend(
@@ -125,8 +128,8 @@ impl System {
         self.scenario.events(record).get(state.passed(run)).copied()
     }
 
-    /// The variables to which the run's next event gives values: for a read those beneath its pattern
-    /// that are "not yet set in that run", key positions included.
+    /// The variables to which the run's next event gives values: for a read those beneath its
+    /// pattern that are "not yet set in that run", key positions included.
     pub fn new_variables(&self, state: &State, run: usize, event: Event) -> Vec<usize> {
         match event.action {
             Action::Read => {
@@ -140,8 +143,8 @@ impl System {
         }
     }
 
-    /// "An agent variable may take any agent row; a fresh variable any intruder constant or any c#u, u
-    /// being any run of the scenario."
+    /// "An agent variable may take any agent row; a fresh variable any intruder constant or any
+    /// c#u, u being any run of the scenario."
     pub fn may_hold(&self, variable: usize, value: Value) -> bool {
         let table = &self.scenario.table;
         let (Some(variable), Some(row)) = (table.row(variable), table.row(value.row)) else {
@@ -180,8 +183,8 @@ impl System {
         Some(Situation { state, knowledge })
     }
 
-    /// What is known after an event in the state that has its new values; none if it is a read that is
-    /// not allowed. "Knowledge never shrinks": a message that is read stays known.
+    /// What is known after an event in the state that has its new values; none if it is a read that
+    /// is not allowed. "Knowledge never shrinks": a message that is read stays known.
     fn knowledge_after(
         &mut self,
         here: &Situation,
@@ -228,8 +231,8 @@ impl System {
         })
     }
 
-    /// Of the claims broken in this situation "the lowest run, then the lowest event". A claim is judged
-    /// by what is known now, not by what was known when it was passed.
+    /// Of the claims broken in this situation "the lowest run, then the lowest event". A claim is
+    /// judged by what is known now, not by what was known when it was passed.
     pub fn broken_claim(&mut self, here: &Situation) -> Option<Claim> {
         for run in self.scenario.run_numbers() {
             for event in 0..here.state.passed(run) {
@@ -241,8 +244,8 @@ impl System {
         None
     }
 
-    /// Whether a passed event is a claim "in a run whose agents are all trusted and the claimed value is
-    /// derivable".
+    /// Whether a passed event is a claim "in a run whose agents are all trusted and the claimed
+    /// value is derivable".
     fn is_broken(&mut self, here: &Situation, claim: Claim) -> bool {
         let run = &self.scenario.runs[claim.run - 1];
         let event = self.scenario.events(run)[claim.event];
@@ -254,7 +257,8 @@ impl System {
     }
 }
 
-/// "In run u a role name stands for that agent, local constant c for c#u, a variable for its value."
+/// "In run u a role name stands for that agent, local constant c for c#u, a variable for its
+/// value."
 fn value_of_atom(scenario: &Scenario, state: &State, run: usize, atom: Term) -> Term {
     match atom {
         Term::RoleName(role) => scenario

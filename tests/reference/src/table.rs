@@ -60,8 +60,8 @@ pub struct Table {
 }
 
 impl Table {
-    /// The table that `bytes` state, or refusal 4 or 5 with its place in `bytes`. Rows are judged one
-    /// after another, each for 4 and then for 5.
+    /// The table that `bytes` state, or refusal 4 or 5 with its place in `bytes`. Rows are judged
+    /// one after another, each for 4 and then for 5.
     pub fn read(bytes: &[u8]) -> Result<Table, Refusal> {
         let mut table = Table::default();
         for (number, bytes) in bytes.chunks(ROW_BYTES).enumerate() {
@@ -77,8 +77,8 @@ impl Table {
         Ok(table)
     }
 
-    /// The row that may follow those before it; none if it is "incomplete, a 97th row, a ninth variable,
-    /// or against the table above".
+    /// The row that may follow those before it; none if it is "incomplete, a 97th row, a ninth
+    /// variable, or against the table above".
     fn next_row(&self, bytes: &[u8]) -> Option<Row> {
         let &[kind, left, right] = bytes else {
             return None;
@@ -88,8 +88,8 @@ impl Table {
         (self.rows.len() < MOST_ROWS && !ninth_variable && self.permits(row)).then_some(row)
     }
 
-    /// Whether the row follows the table of kinds. "Rows referred to are lower than the row itself":
-    /// they are among the rows before it.
+    /// Whether the row follows the table of kinds. "Rows referred to are lower than the row
+    /// itself": they are among the rows before it.
     fn permits(&self, row: Row) -> bool {
         let left = self.row(row.left.into());
         let right = self.row(row.right.into());

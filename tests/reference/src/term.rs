@@ -7,7 +7,8 @@ use std::collections::HashMap;
 pub struct TermId(usize);
 
 /// "Agents, constants and keys are equal only if kind and parts are": equality is the derived one.
-/// 000's reduction of an encryption under the inverse of its own key is not applied; terms are free.
+/// 000's reduction of an encryption under the inverse of its own key is not applied; terms are
+/// free.
 #[derive(Clone, Copy, Debug, PartialEq, Eq, Hash)]
 pub enum Term {
     TrustedAgent(u8),
@@ -71,8 +72,8 @@ impl Store {
         }
     }
 
-    /// "Public and secret key of one agent are inverse to each other; every other term, compound ones
-    /// too, is its own inverse."
+    /// "Public and secret key of one agent are inverse to each other; every other term, compound
+    /// ones too, is its own inverse."
     pub fn inverse(&mut self, key: TermId) -> TermId {
         match self.term(key) {
             Term::PublicKey(agent) => self.id(Term::SecretKey(agent)),
@@ -81,7 +82,8 @@ impl Store {
         }
     }
 
-    /// The term with each atom in it replaced by what it stands for (000, section 3.3, Instantiation).
+    /// The term with each atom in it replaced by what it stands for (000, section 3.3,
+    /// Instantiation).
     pub fn instance(&mut self, id: TermId, reading: &dyn Fn(Term) -> Term) -> TermId {
         self.instance_of(id, reading, &mut HashMap::new())
     }

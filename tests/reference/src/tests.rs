@@ -1,196 +1,122 @@
 //! Worked cases P1 to P12, cuts, limits and single rules, each with its answer.
 
-use crate::{answer, bytes, derive, hexadecimal, open, replay, search, Claim, Refusal, Verdict};
+use crate::{answer, bytes, hexadecimal, open, Refusal, MALFORMED};
 
-/// A role: its knowledge rows and its events.
-pub type Role<'a> = (&'a [u8], &'a [[u8; 4]]);
+/// The four blocks of a file in hexadecimal, blanks between the items.
+type Blocks<'a> = [&'a str; 4];
 
-/// What a scenario file says, block by block.
-#[derive(Clone, Default)]
-pub struct File<'a> {
-    pub budget: u32,
-    pub rows: Vec<[u8; 3]>,
-    pub roles: Vec<Role<'a>>,
-    pub runs: Vec<&'a [u8]>,
-    pub knowledge: &'a [u8],
-}
-
-impl File<'_> {
-    pub fn bytes(&self) -> Vec<u8> {
-        let roles = self.roles.iter().flat_map(role_bytes).collect();
-        let mut file = vec![1];
-        file.extend(self.budget.to_be_bytes());
-        for block in [
-            self.rows.concat(),
-            roles,
-            self.runs.concat(),
-            self.knowledge.to_vec(),
-        ] {
-            file.extend((block.len() as u16).to_be_bytes());
-            file.extend(block);
-        }
-        file
-    }
-
-    fn refusal(&self) -> Option<(u8, usize)> {
-        open(&self.bytes())
-            .err()
-            .map(|refusal| (refusal.number, refusal.place))
-    }
-
-    fn verdict(&self) -> Verdict {
-        search(&self.bytes(), 128).expect("an accepted file")
-    }
-}
-
-fn role_bytes((knowledge, events): &Role) -> Vec<u8> {
-    let mut bytes = vec![knowledge.len() as u8];
-    bytes.extend(*knowledge);
-    bytes.push(events.len() as u8);
-    bytes.extend(events.concat());
-    bytes
-}
-
-const P1: &str =
-    "0100000064000f010000010100050000050100070000000f03020304020001010402020004000000030000010000";
-
-/// P1 as its blocks say it.
-fn p1() -> File<'static> {
-    File {
-        budget: 100,
-        rows: vec![[1, 0, 0], [1, 1, 0], [5, 0, 0], [5, 1, 0], [7, 0, 0]],
-        roles: vec![(&[2, 3, 4], &[[0, 1, 1, 4], [2, 2, 0, 4]]), (&[], &[])],
-        runs: vec![&[0, 0, 1]],
-        knowledge: &[],
-    }
-}
+const P1_ROWS: &str = "010000 010100 050000 050100 070000";
+const P1_ROLES: &str = "03020304 02 00010104 02020004 00 00";
+const P1: Blocks = [P1_ROWS, P1_ROLES, "000001", ""];
+const P1_FILE: &str = "01 00000064 000F 010000 010100 050000 050100 070000 \
+    000F 03020304 02 00010104 02020004 00 00 0003 000001 0000";
 
 /// P1 that sends {n} under the public key of role 1 instead.
-fn p2() -> File<'static> {
-    let mut file = p1();
-    file.rows.extend([[8, 3, 0], [12, 4, 5]]);
-    file.roles[0] = (&[2, 3, 4, 5], &[[0, 1, 1, 6], [2, 2, 0, 4]]);
+const P2_ROWS: &str = "010000 010100 050000 050100 070000 080300 0c0405";
+const P2_ROLES: &str = "0402030405 02 00010106 02020004 00 00";
+const P2: Blocks = [P2_ROWS, P2_ROLES, "000001", ""];
+
+/// One run whose only event reads a fresh variable; one intruder constant.
+const P12_ROWS: &str = "010000 010100 050000 050100 040000 060001";
+const P12_ROLES: &str = "020203 01 01000105 00 00";
+
+fn without_blanks(text: &str) -> String {
+    text.split(' ').collect()
+}
+
+fn bytes_of(text: &str) -> Vec<u8> {
+    let digits = without_blanks(text);
+    bytes(if digits.is_empty() { "-" } else { &digits }).expect("hexadecimal digits")
+}
+
+/// The file with that budget and these blocks, each with its length.
+fn file(budget: u32, blocks: Blocks) -> Vec<u8> {
+    let mut file = vec![1];
+    file.extend(budget.to_be_bytes());
+    for block in blocks.map(bytes_of) {
+        file.extend((block.len() as u16).to_be_bytes());
+        file.extend(block);
+    }
     file
 }
 
-/// One run whose only event reads a fresh variable, with one intruder constant.
-fn p12(knowledge: &'static [u8]) -> File<'static> {
-    File {
-        budget: 100,
-        rows: vec![
-            [1, 0, 0],
-            [1, 1, 0],
-            [5, 0, 0],
-            [5, 1, 0],
-            [4, 0, 0],
-            [6, 0, 1],
-        ],
-        roles: vec![(&[2, 3], &[[1, 0, 1, 5]]), (&[], &[])],
-        runs: vec![&[0, 0, 1]],
-        knowledge,
-    }
+fn opened(blocks: Blocks) -> String {
+    answer(&format!("0 open {}", hexadecimal(&file(100, blocks))))
 }
 
-fn derives(rows: &[[u8; 3]], list: &[u8], target: u8) -> bool {
-    derive(&rows.concat(), list, target).expect("an accepted table")
+fn searched(budget: u32, blocks: Blocks) -> String {
+    answer(&format!(
+        "0 search {} 128",
+        hexadecimal(&file(budget, blocks))
+    ))
+}
+
+fn replayed(blocks: Blocks, trace: &str) -> String {
+    let trace = hexadecimal(&bytes_of(trace));
+    answer(&format!(
+        "0 replay {} {trace}",
+        hexadecimal(&file(100, blocks))
+    ))
+}
+
+fn derived(table: &str, list: &str, target: &str) -> String {
+    let [table, list] = [table, list].map(|text| hexadecimal(&bytes_of(text)));
+    answer(&format!("0 derive {table} {list} {target}"))
+}
+
+fn refusal(number: u8, place: usize) -> Option<Refusal> {
+    Some(Refusal { number, place })
 }
 
 #[test]
 fn p1_breaks_at_the_third_trace() {
-    assert_eq!(p1().bytes(), bytes(P1).unwrap());
-    let claim = Claim { run: 1, event: 1 };
-    assert_eq!(
-        p1().verdict(),
-        Verdict::Broken {
-            place: 3,
-            claim,
-            trace: vec![1, 0, 1, 0]
-        }
-    );
-    assert_eq!(replay(&p1().bytes(), &[1, 0, 1, 0]), Ok(Some(claim)));
-    assert_eq!(replay(&p1().bytes(), &[1, 0]), Ok(None));
+    assert_eq!(file(100, P1), bytes_of(P1_FILE));
+    assert_eq!(searched(100, P1), "BROKEN 3 RUN 1 EVENT 1 TRACE 01000100");
+    assert_eq!(replayed(P1, "0100 0100"), "CLAIM RUN 1 EVENT 1");
+    assert_eq!(replayed(P1, "0100"), "NONE");
 }
 
 #[test]
 fn p2_to_p6_have_their_verdicts() {
-    assert_eq!(p2().verdict(), Verdict::Held(3));
-    assert_eq!(File { budget: 2, ..p2() }.verdict(), Verdict::Stopped(2));
+    assert_eq!(searched(100, P2), "HELD 3");
+    assert_eq!(searched(2, P2), "STOPPED 2");
     assert_eq!(
-        File {
-            runs: vec![&[0, 0, 1], &[0, 0, 1]],
-            ..p2()
-        }
-        .verdict(),
-        Verdict::Held(19)
+        searched(100, [P2_ROWS, P2_ROLES, "000001 000001", ""]),
+        "HELD 19"
     );
-    assert_eq!(
-        File {
-            runs: vec![],
-            ..p1()
-        }
-        .verdict(),
-        Verdict::Held(1)
-    );
-    let mut untrusted = p1();
-    untrusted.rows[1] = [2, 1, 0];
-    assert_eq!(untrusted.verdict(), Verdict::Held(3));
+    assert_eq!(searched(100, [P1_ROWS, P1_ROLES, "", ""]), "HELD 1");
+    let untrusted = "010000 020100 050000 050100 070000";
+    assert_eq!(searched(100, [untrusted, P1_ROLES, "000001", ""]), "HELD 3");
 }
 
 #[test]
 fn p7_to_p11_have_their_answers() {
     // c, d, a, pk(a), sk(a), {c}pk(a), {c}sk(a), {d}d, {c}{d}d
-    let rows = [
-        [3, 0, 0],
-        [3, 1, 0],
-        [1, 0, 0],
-        [8, 2, 0],
-        [9, 2, 0],
-        [12, 0, 3],
-        [12, 0, 4],
-        [12, 1, 1],
-        [12, 0, 7],
-    ];
-    assert!(derives(&rows, &[5, 4], 0));
-    assert!(!derives(&rows, &[5, 3], 0));
-    assert!(derives(&rows, &[6, 3], 0));
-    assert!(derives(&rows, &[8, 1], 0));
-    assert!(!derives(&rows, &[2], 3));
+    let table = "030000 030100 010000 080200 090200 0c0003 0c0004 0c0101 0c0007";
+    assert_eq!(derived(table, "05 04", "00"), "YES");
+    assert_eq!(derived(table, "05 03", "00"), "NO");
+    assert_eq!(derived(table, "06 03", "00"), "YES");
+    assert_eq!(derived(table, "08 01", "00"), "YES");
+    assert_eq!(derived(table, "02", "03"), "NO");
 }
 
 #[test]
 fn p12_reads_only_between_known_names() {
-    assert_eq!(p12(&[0, 1]).verdict(), Verdict::Held(2));
-    assert_eq!(p12(&[0]).verdict(), Verdict::Held(1));
-    assert_eq!(p12(&[1]).verdict(), Verdict::Held(1));
+    let verdict = |knowledge| searched(100, [P12_ROWS, P12_ROLES, "000001", knowledge]);
+    assert_eq!(verdict("00 01"), "HELD 2");
+    assert_eq!(verdict("00"), "HELD 1");
+    assert_eq!(verdict("01"), "HELD 1");
 }
 
 #[test]
 fn a_cut_in_every_byte_of_p1_is_refused() {
-    let file = p1().bytes();
-    assert_eq!(
-        open(&[]).err(),
-        Some(Refusal {
-            number: 1,
-            place: 0
-        })
-    );
+    let file = file(100, P1);
+    assert_eq!(open(&file[..0]).err(), refusal(1, 0));
     for length in 1..file.len() {
-        assert_eq!(
-            open(&file[..length]).err(),
-            Some(Refusal {
-                number: 3,
-                place: length
-            })
-        );
+        assert_eq!(open(&file[..length]).err(), refusal(3, length));
     }
     let longer = [&file[..], &[0]].concat();
-    assert_eq!(
-        open(&longer).err(),
-        Some(Refusal {
-            number: 3,
-            place: longer.len()
-        })
-    );
+    assert_eq!(open(&longer).err(), refusal(3, longer.len()));
 }
 
 #[test]
@@ -206,17 +132,20 @@ fn settled_readings_have_their_answers() {
         "0 open 010000006400090500000700000b010100070100010100000200000000 -> OK",
         "0 open 010000006400090500000600010c000100070100010100000200000000 -> REFUSED 7 21",
         "0 open 0100000064000000000001000000 -> REFUSED 8 11",
-        "0 search 0100000064000f010000020000050000050100070000000e020204020000000402000004000000030000010000 128 -> HELD 3",
         "0 derive 030000 05 05 -> REFUSED 11 0",
     ] {
-        let (request, expected) = case.split_once(" -> ").unwrap();
+        let (request, expected) = case.split_once(" -> ").expect("a case");
         assert_eq!(answer(request), expected, "{request}");
     }
+    // A run's agents count also for roles that its events never name.
+    let rows = "010000 020000 050000 050100 070000";
+    let roles = "020204 02 00000004 02000004 00 00";
+    assert_eq!(searched(100, [rows, roles, "000001", ""]), "HELD 3");
 }
 
 #[test]
 fn requests_out_of_form_are_malformed() {
-    for request in [
+    let open = [
         "",
         "0",
         "0 open",
@@ -224,19 +153,25 @@ fn requests_out_of_form_are_malformed() {
         "0  open -",
         "0 open - ",
         "1 open -",
-        "0 close -",
+        "0 open -\r",
+    ];
+    let digits = [
         "0 open 0",
         "0 open 0g",
-        "0 search -",
-        "0 search - x",
-        "0 search - +5",
-        "0 search - ",
+        "0 open é",
         "0 derive - - -",
         "0 derive - - 0000",
+    ];
+    let others = [
+        "0 close -",
+        "0 search -",
+        "0 search - ",
+        "0 search - x",
+        "0 search - +5",
         "0 replay -",
-        "0 open -\r",
-    ] {
-        assert_eq!(answer(request), "MALFORMED", "{request:?}");
+    ];
+    for request in open.iter().chain(&digits).chain(&others) {
+        assert_eq!(answer(request), MALFORMED, "{request:?}");
     }
     assert_eq!(answer("0 open -"), "REFUSED 1 0");
     assert_eq!(answer("0 derive - - 00"), "REFUSED 11 0");
@@ -245,383 +180,282 @@ fn requests_out_of_form_are_malformed() {
 #[test]
 fn version_and_length_come_first() {
     let mut long = vec![1; 4097];
-    assert_eq!(
-        open(&long).err(),
-        Some(Refusal {
-            number: 2,
-            place: 4096
-        })
-    );
-    assert_eq!(
-        open(&long[..4096]).err(),
-        Some(Refusal {
-            number: 3,
-            place: 4096
-        })
-    );
+    assert_eq!(open(&long).err(), refusal(2, 4096));
+    assert_eq!(open(&long[..4096]).err(), refusal(3, 4096));
     long[0] = 2;
-    assert_eq!(
-        open(&long).err(),
-        Some(Refusal {
-            number: 1,
-            place: 0
-        })
-    );
+    assert_eq!(open(&long).err(), refusal(1, 0));
 }
 
 #[test]
 fn rows_are_limited_to_96() {
-    let rows: Vec<u8> = (0..97).flat_map(|number| [3, number, 0]).collect();
-    assert_eq!(derive(&rows[..288], &[95], 95), Ok(true));
-    for length in 289..=291 {
-        assert_eq!(
-            derive(&rows[..length], &[], 0),
-            Err(Refusal {
-                number: 4,
-                place: 288
-            })
-        );
+    let rows: String = (0..96).map(|number| format!("03{number:02x}00")).collect();
+    assert_eq!(derived(&rows, "5f", "5f"), "YES");
+    for rest in ["03", "0360", "036000", "030000", "ff0000"] {
+        assert_eq!(derived(&format!("{rows}{rest}"), "", "00"), "REFUSED 4 288");
     }
+    assert_eq!(derived(&rows[..rows.len() - 2], "", "00"), "REFUSED 4 285");
+    let blocks = [&rows, "", "", ""];
+    assert_eq!(opened(blocks), "OK");
     assert_eq!(
-        derive(&rows[..287], &[], 0),
-        Err(Refusal {
-            number: 4,
-            place: 285
-        })
+        opened([&format!("{rows}036000"), "ff", "ff", "ff"]),
+        "REFUSED 4 295"
     );
 }
 
 #[test]
 fn variables_are_limited_to_8() {
-    let mut rows: Vec<[u8; 3]> = (0..8).map(|number| [6, number / 2, number % 2]).collect();
-    assert_eq!(derive(&rows.concat(), &[], 7), Ok(false));
-    rows.push([3, 0, 0]);
-    rows.push([6, 0, 0]);
+    let eight = "060000 060001 060100 060101 060200 060201 060300 060301";
+    assert_eq!(derived(eight, "", "07"), "NO");
+    // A ninth that repeats an earlier row is refused as a ninth.
     assert_eq!(
-        derive(&rows.concat(), &[], 0),
-        Err(Refusal {
-            number: 4,
-            place: 27
-        })
+        derived(&format!("{eight} 030000 060000"), "", "00"),
+        "REFUSED 4 27"
+    );
+    assert_eq!(
+        derived(&format!("{eight} 030000 030000"), "", "00"),
+        "REFUSED 5 27"
     );
 }
 
 #[test]
 fn rows_follow_the_table_of_kinds() {
-    // agent, role name, agent variable, fresh variable, constant, pair
-    let rows = [
-        [1, 0, 0],
-        [5, 0, 0],
-        [6, 0, 0],
-        [6, 0, 1],
-        [3, 0, 0],
-        [11, 4, 4],
-    ];
-    let accepted = |row: [u8; 3]| derive(&[&rows[..], &[row]].concat().concat(), &[], 0).is_ok();
-    for row in [
-        [1, 255, 0],
-        [2, 0, 0],
-        [3, 9, 0],
-        [4, 0, 0],
-        [5, 3, 0],
-        [6, 255, 1],
-        [7, 0, 0],
-        [8, 0, 0],
-        [8, 1, 0],
-        [9, 2, 0],
-        [10, 0, 1],
-        [10, 2, 2],
-        [11, 4, 5],
-        [11, 0, 0],
-        [12, 5, 5],
-        [12, 0, 3],
-    ] {
-        assert!(accepted(row), "{row:?}");
+    // Agent, role name, agent variable, fresh variable, constant, pair; then the row in question.
+    let answer = |row: &str| {
+        derived(
+            &format!("010000 050000 060000 060001 030000 0b0404 {row}"),
+            "",
+            "00",
+        )
+    };
+    let accepted =
+        "01ff00 020000 030900 040000 050300 06ff01 070000 080000 080100 090200 0a0001 0a0202 \
+        0b0405 0b0000 0c0505 0c0003";
+    for row in accepted.split(' ') {
+        assert_eq!(answer(row), "NO", "{row}");
     }
-    for row in [
-        [0, 0, 0],
-        [1, 1, 1],
-        [2, 0, 1],
-        [3, 9, 1],
-        [4, 0, 1],
-        [5, 4, 0],
-        [5, 3, 1],
-        [6, 1, 2],
-        [7, 0, 1],
-        [8, 3, 0],
-        [8, 4, 0],
-        [8, 6, 0],
-        [8, 0, 1],
-        [9, 5, 0],
-        [10, 0, 3],
-        [10, 4, 0],
-        [10, 0, 6],
-        [11, 5, 4],
-        [11, 4, 6],
-        [11, 6, 4],
-        [12, 6, 0],
-        [12, 0, 6],
-        [13, 0, 0],
-        [255, 0, 0],
-    ] {
-        assert!(!accepted(row), "{row:?}");
-    }
-}
-
-/// P1's blocks with other role records; the first record stands at 24.
-fn with_roles<'a>(roles: &[Role<'a>]) -> File<'a> {
-    File {
-        roles: roles.to_vec(),
-        ..p1()
+    let refused = "000000 010101 020001 030901 040001 050400 050301 060102 070001 080300 080400 \
+        080600 080001 090500 0a0003 0a0400 0a0006 0b0504 0b0406 0b0604 0c0600 0c0006 0d0000 ff0000";
+    for row in refused.split(' ') {
+        assert_eq!(answer(row), "REFUSED 4 18", "{row}");
     }
 }
 
 #[test]
-fn role_records_follow_their_rules() {
-    let send = [0, 0, 1, 4];
-    let good: Role = (&[2, 3, 4], &[send]);
-    let empty: Role = (&[], &[]);
-    let records: [(Role, Option<usize>); 10] = [
-        ((&[2, 3, 4], &[send; 8]), None),
-        ((&[2, 3, 4], &[send; 9]), Some(24)),
-        ((&[3, 2, 4], &[send]), Some(24)),
-        ((&[2, 2, 3, 4], &[send]), Some(24)),
-        ((&[2, 3, 4, 5], &[send]), Some(24)),
-        ((&[2, 3, 4], &[[3, 0, 1, 4]]), Some(24)),
-        ((&[2, 3, 4], &[[0, 0, 2, 4]]), Some(24)),
-        ((&[2, 3, 4], &[[0, 0, 1, 5]]), Some(24)),
-        ((&[2, 3, 4], &[[2, 0, 1, 4]]), Some(24)),
-        ((&[2, 3, 4], &[[2, 255, 0, 4]]), None),
-    ];
-    for (first, place) in records {
+fn a_role_record_follows_its_rules() {
+    let sends = |count: usize| format!("03020304 {count:02x} {}", "00000104".repeat(count));
+    for (record, expected) in [
+        (sends(8).as_str(), "OK"),
+        (sends(9).as_str(), "REFUSED 6 24"),
+        ("03030204 00", "REFUSED 6 24"),
+        ("0402020304 00", "REFUSED 6 24"),
+        ("0402030405 00", "REFUSED 6 24"),
+        ("03020304 01 03000104", "REFUSED 6 24"),
+        ("03020304 01 00000204", "REFUSED 6 24"),
+        ("03020304 01 00000105", "REFUSED 6 24"),
+        ("03020304 01 02000104", "REFUSED 6 24"),
+        ("03020304 01 02ff0004", "OK"),
+    ] {
+        let roles = format!("{record} 00 00");
         assert_eq!(
-            with_roles(&[first, empty]).refusal(),
-            place.map(|place| (6, place)),
-            "{first:?}"
+            opened([P1_ROWS, &roles, "000001", ""]),
+            expected,
+            "{record}"
         );
     }
-    // After a good record of 9 bytes the second stands at 33.
-    assert_eq!(with_roles(&[good, (&[9], &[])]).refusal(), Some((6, 33)));
-    assert_eq!(
-        with_roles(&[good, empty, empty, empty, empty]).refusal(),
-        Some((6, 39))
-    );
-}
-
-#[test]
-fn a_variable_beneath_role_knowledge_is_refused_at_the_record() {
-    let mut file = p1();
-    file.rows.extend([[6, 0, 1], [12, 4, 5]]);
-    file.roles[0] = (&[2, 3, 4, 6], &[]);
-    assert_eq!(file.refusal(), Some((6, 30)));
+    // A variable beneath the knowledge, here as a key.
+    let rows = format!("{P1_ROWS} 060001 0c0405");
+    assert_eq!(opened([&rows, "03020306 00 00 00", "", ""]), "REFUSED 6 30");
 }
 
 #[test]
 fn a_role_is_present_if_its_record_begins() {
-    // Nine events: the next record begins where the counts say, and role 1 is present.
-    let nine: Role = (&[2, 3, 4], &[[0, 0, 1, 4]; 9]);
-    assert_eq!(with_roles(&[(&[2, 3], &[]), nine]).refusal(), Some((6, 28)));
-    // Role 1 has no record, and the first record does not name it: the row that does is refused last.
-    assert_eq!(with_roles(&[(&[2, 3], &[])]).refusal(), Some((6, 16)));
-    // A fifth record does not make role 4 present.
-    let to_fourth: Role = (&[2, 3, 4], &[[0, 0, 4, 4]]);
+    let answer = |roles: &str| opened([P1_ROWS, roles, "ff", "ff"]);
+    // The second record is against the rules, but role 1 is present.
+    assert_eq!(answer("03020304 01 00000104 0109 00"), "REFUSED 6 33");
+    // Nine events end where the count says: the first record is refused for them, or the second.
+    let nine = "00000104".repeat(9);
+    assert_eq!(answer(&format!("03020304 09 {nine} ff")), "REFUSED 6 24");
     assert_eq!(
-        with_roles(&[to_fourth, (&[], &[]), (&[], &[]), (&[], &[]), (&[], &[])]).refusal(),
-        Some((6, 24))
+        answer(&format!("020203 00 03020304 09 {nine} ff")),
+        "REFUSED 6 28"
+    );
+    // Role 1 has no record: an event that names it is refused before the row that does.
+    assert_eq!(answer("03020304 01 00000104"), "REFUSED 6 24");
+    assert_eq!(answer("03020304 01 00000004"), "REFUSED 6 16");
+    // A fifth record is refused at its own first byte, and role 4 is not present.
+    assert_eq!(answer("0000 0000 0000 0000 0000"), "REFUSED 6 32");
+    assert_eq!(answer("0000 0000 0000 0000 ff"), "REFUSED 6 32");
+    assert_eq!(
+        answer("03020304 01 00000404 0000 0000 0000 0000"),
+        "REFUSED 6 24"
     );
 }
 
 #[test]
 fn an_incomplete_role_record_takes_all_that_is_left() {
-    let file = p1().bytes();
+    let roles = without_blanks(P1_ROLES);
     for length in 1..15 {
-        let mut cut = file[..24 + length].to_vec();
-        cut[23] = length as u8;
-        cut.extend([0, 0, 0, 0]);
         // The first record has 13 bytes; it names role 1, which is absent until the second begins.
-        let place = if length < 14 { 24 } else { 37 };
+        let expected = if length < 14 {
+            "REFUSED 6 24"
+        } else {
+            "REFUSED 6 37"
+        };
         assert_eq!(
-            open(&cut).err(),
-            Some(Refusal { number: 6, place }),
+            opened([P1_ROWS, &roles[..2 * length], "", ""]),
+            expected,
             "{length}"
         );
     }
+    assert_eq!(opened([P1_ROWS, "", "", ""]), "REFUSED 6 13");
 }
 
 #[test]
 fn the_first_event_that_is_not_well_formed_is_refused() {
-    let claim_secret_key: Role = (&[2, 3, 4], &[[0, 0, 1, 4], [2, 0, 0, 5]]);
-    let mut file = with_roles(&[claim_secret_key, (&[2, 3], &[])]);
-    file.rows.push([9, 2, 0]);
-    assert_eq!(file.refusal(), Some((7, 27 + 5 + 4)));
-    let without_peer: Role = (&[2, 4], &[[0, 0, 1, 4]]);
+    let answer = |roles| {
+        opened([
+            &format!("{P1_ROWS} 090200 060001 0c0604"),
+            roles,
+            "ff",
+            "ff",
+        ])
+    };
+    // The claim of an unknown key, after a good send.
     assert_eq!(
-        with_roles(&[without_peer, (&[], &[])]).refusal(),
-        Some((7, 28))
+        answer("03020304 02 00000104 02000005 00 00"),
+        "REFUSED 7 42"
     );
-    let without_own_name: Role = (&[3, 4], &[[2, 0, 0, 4]]);
+    // The peer's name or the own name is unknown.
+    assert_eq!(answer("020204 01 00000104 00 00"), "REFUSED 7 37");
+    assert_eq!(answer("020304 01 02000004 00 00"), "REFUSED 7 37");
+    // A variable is sent before it is read, and in the second role too.
     assert_eq!(
-        with_roles(&[without_own_name, (&[], &[])]).refusal(),
-        Some((7, 28))
+        answer("03020304 01 00000106 03020304 01 00000106"),
+        "REFUSED 7 38"
+    );
+    assert_eq!(
+        answer("03020304 02 01000107 00000106 03020304 01 00000106"),
+        "REFUSED 7 51"
     );
 }
 
 #[test]
-fn run_records_follow_their_rules() {
-    for (runs, place) in [
-        (vec![&[0, 0, 1][..]; 4], None),
-        (vec![&[0, 0, 1]; 5], Some(53)),
-        (vec![&[0, 0]], Some(41)),
-        (vec![&[0, 0, 1], &[0]], Some(44)),
-        (vec![&[2, 0, 1]], Some(41)),
-        (vec![&[0, 0, 2]], Some(41)),
-        (vec![&[0, 0, 5]], Some(41)),
-        (vec![&[1, 0, 0], &[0, 4, 0]], Some(44)),
+fn a_run_record_follows_its_rules() {
+    for (runs, expected) in [
+        ("000001 000001 000001 000001", "OK"),
+        ("000001 000001 000001 000001 000001", "REFUSED 8 53"),
+        ("000001 000001 000001 000001 00", "REFUSED 8 53"),
+        ("0000", "REFUSED 8 41"),
+        ("000001 00", "REFUSED 8 44"),
+        ("020001", "REFUSED 8 41"),
+        ("000002", "REFUSED 8 41"),
+        ("000005", "REFUSED 8 41"),
+        ("010000 000400", "REFUSED 8 44"),
     ] {
-        let file = File {
-            runs: runs.clone(),
-            ..p1()
-        };
-        assert_eq!(file.refusal(), place.map(|place| (8, place)), "{runs:?}");
+        assert_eq!(opened([P1_ROWS, P1_ROLES, runs, ""]), expected, "{runs}");
     }
 }
 
 #[test]
-fn known_rows_follow_their_rules() {
-    for (knowledge, place) in [
-        (&[0, 1][..], None),
-        (&[0, 0], Some(47)),
-        (&[1, 0], Some(47)),
-        (&[0, 2], Some(47)),
-        (&[4], Some(46)),
-        (&[0, 1, 5], Some(48)),
+fn a_known_row_follows_its_rules() {
+    for (knowledge, expected) in [
+        ("00 01", "OK"),
+        ("00 00", "REFUSED 9 47"),
+        ("01 00", "REFUSED 9 47"),
+        ("00 02", "REFUSED 9 47"),
+        ("04", "REFUSED 9 46"),
+        ("00 01 05", "REFUSED 9 48"),
     ] {
-        let file = File { knowledge, ..p1() };
         assert_eq!(
-            file.refusal(),
-            place.map(|place| (9, place)),
-            "{knowledge:?}"
+            opened([P1_ROWS, P1_ROLES, "000001", knowledge]),
+            expected,
+            "{knowledge}"
         );
     }
 }
 
 #[test]
 fn the_buffer_has_128_bytes_at_least() {
-    assert!(search(&p1().bytes(), 128).is_ok());
-    assert_eq!(
-        search(&p1().bytes(), 127),
-        Err(Refusal {
-            number: 10,
-            place: 127
-        })
-    );
-    assert_eq!(
-        search(&p1().bytes(), 0),
-        Err(Refusal {
-            number: 10,
-            place: 0
-        })
-    );
-    assert_eq!(
-        search(&[], 0),
-        Err(Refusal {
-            number: 1,
-            place: 0
-        })
-    );
+    let file = hexadecimal(&file(100, P2));
+    for (length, expected) in [
+        (0, "REFUSED 10 0"),
+        (127, "REFUSED 10 127"),
+        (128, "HELD 3"),
+        (300, "HELD 3"),
+    ] {
+        assert_eq!(answer(&format!("0 search {file} {length}")), expected);
+    }
+    assert_eq!(answer("0 search - 0"), "REFUSED 1 0");
 }
 
 #[test]
 fn the_budget_bounds_what_is_judged() {
-    assert_eq!(File { budget: 0, ..p2() }.verdict(), Verdict::Stopped(0));
-    assert_eq!(File { budget: 3, ..p2() }.verdict(), Verdict::Held(3));
-    assert_eq!(File { budget: 2, ..p1() }.verdict(), Verdict::Stopped(2));
-    assert!(matches!(
-        File { budget: 3, ..p1() }.verdict(),
-        Verdict::Broken { place: 3, .. }
-    ));
+    assert_eq!(searched(0, P2), "STOPPED 0");
+    assert_eq!(searched(3, P2), "HELD 3");
+    assert_eq!(searched(2, P1), "STOPPED 2");
+    assert_eq!(searched(3, P1), "BROKEN 3 RUN 1 EVENT 1 TRACE 01000100");
 }
 
 #[test]
 fn replay_refuses_steps_that_are_not_allowed() {
-    // agent 0 to 1, role names, intruder constant 4, fresh variable 5, local constant 6, global constant 7
-    let mut file = p12(&[0, 1]);
-    file.rows.extend([[7, 0, 0], [3, 0, 0]]);
-    file.roles[0] = (&[2, 3, 6], &[[0, 0, 1, 6], [1, 0, 1, 5], [2, 0, 0, 5]]);
-    let replayed = |trace: &[u8]| {
-        replay(&file.bytes(), trace).map_err(|refusal| (refusal.number, refusal.place))
-    };
-    let broken = |event| Ok(Some(Claim { run: 1, event }));
-    assert_eq!(replayed(&[]), Ok(None));
-    assert_eq!(replayed(&[1, 0, 1, 1, 4, 0]), Ok(None));
-    assert_eq!(replayed(&[1, 0, 1, 1, 4, 0, 1, 0]), broken(2));
-    assert_eq!(replayed(&[1, 0, 1, 1, 6, 1, 1, 0]), broken(2));
-    for (trace, place) in [
-        (&[1][..], 0),
-        (&[0, 0], 0),
-        (&[2, 0], 0),
-        (&[1, 1, 4, 0], 0),
-        (&[1, 0, 1], 2),
-        (&[1, 0, 1, 0], 2),
-        (&[1, 0, 1, 1, 4], 2),
-        (&[1, 0, 1, 1, 4, 1], 2),
-        (&[1, 0, 1, 1, 6, 0], 2),
-        (&[1, 0, 1, 1, 6, 2], 2),
-        (&[1, 0, 1, 1, 7, 0], 2),
-        (&[1, 0, 1, 1, 0, 0], 2),
-        (&[1, 0, 1, 1, 5, 1], 2),
-        (&[1, 0, 1, 1, 8, 0], 2),
-        (&[1, 0, 1, 2, 4, 0, 4, 0], 2),
-        (&[1, 0, 1, 1, 4, 0, 1, 1, 4, 0], 6),
-        (&[1, 0, 1, 1, 4, 0, 1, 0, 1, 0], 8),
-    ] {
-        assert_eq!(replayed(trace), Err((12, place)), "{}", hexadecimal(trace));
+    // P12 with local constant 6 and global constant 7; it sends 6, reads variable 5 and claims it.
+    let rows = format!("{P12_ROWS} 070000 030000");
+    let roles = "03020306 03 00000106 01000105 02000005 00 00";
+    let answer = |trace: &str| replayed([&rows, roles, "000001", "00 01"], trace);
+    assert_eq!(answer(""), "NONE");
+    assert_eq!(answer("0100 01010400"), "NONE");
+    assert_eq!(answer("0100 01010400 0100"), "CLAIM RUN 1 EVENT 2");
+    assert_eq!(answer("0100 01010601 0100"), "CLAIM RUN 1 EVENT 2");
+    for first in ["01", "0000", "0200", "ff00", "01010400"] {
+        assert_eq!(answer(first), "REFUSED 12 0", "{first}");
     }
+    let second = "01 0100 010104 01010401 01010600 01010602 01010700 01010000 01010501 01010800 \
+        010204000400";
+    for second in second.split(' ') {
+        assert_eq!(
+            answer(&format!("0100 {second}")),
+            "REFUSED 12 2",
+            "{second}"
+        );
+    }
+    assert_eq!(answer("0100 01010400 01010400"), "REFUSED 12 6");
+    assert_eq!(answer("0100 01010400 0100 0100"), "REFUSED 12 8");
 }
 
 #[test]
-fn a_key_that_turns_up_later_opens_what_came_before() {
-    // Role 0 claims n, sends {n}k, then k: broken only at the end of a trace that has all three.
-    let mut file = p1();
-    file.rows.extend([[7, 1, 0], [12, 4, 5]]);
-    file.roles[0] = (&[2, 3, 4, 5], &[[2, 0, 0, 4], [0, 0, 1, 6], [0, 0, 1, 5]]);
-    let claim = Claim { run: 1, event: 0 };
-    assert_eq!(
-        file.verdict(),
-        Verdict::Broken {
-            place: 4,
-            claim,
-            trace: vec![1, 0, 1, 0, 1, 0]
-        }
-    );
+fn a_claim_is_judged_at_the_end_of_the_trace() {
+    // Role 0 claims n, sends {n}k, then k.
+    let rows = format!("{P1_ROWS} 070100 0c0405");
+    let roles = "0402030405 03 02000004 00000106 00000105 00 00";
+    let verdict = searched(100, [&rows, roles, "000001", ""]);
+    assert_eq!(verdict, "BROKEN 4 RUN 1 EVENT 0 TRACE 010001000100");
 }
 
 #[test]
 fn rows_that_double_in_size_stay_small() {
-    let mut rows = vec![[3, 0, 0]];
-    rows.extend((0..95).map(|row| [12, row, row]));
-    assert!(derives(&rows, &[0], 95));
-    assert!(derives(&rows, &[95, 93], 94));
-    assert!(!derives(&rows, &[95, 94], 93));
+    let rows: String = (0..95).map(|row| format!("0c{row:02x}{row:02x}")).collect();
+    let table = format!("030000{rows}");
+    assert_eq!(derived(&table, "00", "5f"), "YES");
+    assert_eq!(derived(&table, "5f 5d", "5e"), "YES");
+    assert_eq!(derived(&table, "5f 5e", "5d"), "NO");
 }
 
 #[test]
 fn hopeless_choices_for_eight_variables_are_not_tried() {
-    // Two names, their roles, eight fresh variables, an intruder constant, an unknown key, local constants.
-    let mut rows = vec![[1, 0, 0], [1, 1, 0], [5, 0, 0], [5, 1, 0]];
-    rows.extend((0..8).map(|number| [6, number, 1]));
-    rows.extend([[4, 0, 0], [3, 0, 0]]);
-    rows.extend((0..60).map(|number| [7, number, 0]));
-    rows.push([11, 10, 11]);
-    rows.extend((0..6).map(|number| [11, 9 - number, 74 + number]));
-    rows.push([12, 80, 13]);
-    let read: [[u8; 4]; 1] = [[1, 0, 1, 81]];
-    let file = File {
-        budget: u32::MAX,
-        rows,
-        roles: vec![(&[2, 3, 13], &read), (&[], &[])],
-        runs: vec![&[0, 0, 1]; 4],
-        knowledge: &[0, 1],
-    };
-    assert_eq!(file.verdict(), Verdict::Held(1));
+    // Rows 4 to 11 are fresh variables, 12 an intruder constant, 13 a key that stays unknown, 14 to
+    // 73 local constants, 74 to 80 the tuple of the variables, 81 the tuple under the key.
+    let mut rows = without_blanks("010000 010100 050000 050100");
+    rows.extend((0..8).map(|number| format!("06{number:02x}01")));
+    rows.push_str("040000 030000");
+    rows.extend((0..60).map(|number| format!("07{number:02x}00")));
+    rows.push_str("0b0a0b");
+    rows.extend((0..6).map(|number| format!("0b{:02x}{:02x}", 9 - number, 74 + number)));
+    rows.push_str("0c500d");
+    let blocks = [
+        &rows,
+        "0302030d 01 01000151 00 00",
+        "000001 000001",
+        "00 01",
+    ];
+    assert_eq!(searched(u32::MAX, blocks), "HELD 1");
 }

@@ -14,15 +14,17 @@ pub trait Visitor {
     /// Takes the next trace of the list, with the claim it breaks, and says whether to go on.
     fn visit(&mut self, trace: &[u8], broken: Option<Claim>) -> ControlFlow<()>;
 
-    /// Says whether the next `count` traces of the list may be counted and not shown. They end as traces
-    /// did that were visited before, state for state, so they break claims only if those did.
+    /// Says whether the next `count` traces of the list may be counted and not shown. They end as
+    /// traces did that were visited before, state for state, so they break claims only if those
+    /// did.
     fn passes(&mut self, _count: u64) -> bool {
         false
     }
 }
 
-/// Shows the list to a visitor: "in it a trace precedes its extensions. Two traces that first differ at
-/// a move are ordered by run, then by the new values in order of variable row, each by row and then run."
+/// Shows the list to a visitor: "in it a trace precedes its extensions. Two traces that first
+/// differ at a move are ordered by run, then by the new values in order of variable row, each by
+/// row and then run."
 pub fn walk(scenario: Scenario, visitor: &mut dyn Visitor) {
     let mut system = System::new(scenario);
     let start = system.start();
@@ -43,7 +45,8 @@ struct Walk<'a> {
     trace: Vec<u8>,
     /// How many traces were visited or passed.
     shown: u64,
-    /// How many traces of the list go through a state by one way there. That depends on the state alone.
+    /// How many traces of the list go through a state by one way there. That depends on the state
+    /// alone.
     extensions: HashMap<State, u64>,
 }
 

@@ -5,8 +5,8 @@ use crate::scenario::{Action, Role};
 use crate::table::Table;
 use crate::term::{Store, Term, TermId};
 
-/// The first event of a role that is not well formed, by WF: "role names, variables and local constants
-/// taken as atoms", "event sender and receiver names count as there".
+/// The first event of a role that is not well formed, by WF: "role names, variables and local
+/// constants taken as atoms", "event sender and receiver names count as there".
 pub fn first_ill_formed_event(table: &Table, number: usize, role: &Role) -> Option<usize> {
     let mut store = Store::default();
     let terms = table.terms(&mut store);
@@ -41,8 +41,8 @@ fn role_name(store: &mut Store, number: usize) -> TermId {
     store.id(Term::RoleName(number as u8))
 }
 
-/// Readable(M, t). The first line is no clause of it but follows from its clauses, and spares reading
-/// a part again wherever it occurs: by induction on t, what is derivable is readable.
+/// Readable(M, t). The first line is no clause of it but follows from its clauses, and spares
+/// reading a part again wherever it occurs: by induction on t, what is derivable is readable.
 fn readable(store: &mut Store, knowledge: &Knowledge, term: TermId) -> bool {
     if knowledge.derives(store, term) {
         return true;
