@@ -18,5 +18,6 @@ pub mod Verdict
 pub mod Replay
 pub mod Derive
 pub mod Allowed
+pub mod Demand
 pub mod Guarantee
 pub mod laws

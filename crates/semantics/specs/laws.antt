@@ -3,4 +3,6 @@ pub mod Test
 pub mod List
 pub mod Inference
 pub mod Tree
+pub mod Broken
 pub mod Verdict
+pub mod Demand

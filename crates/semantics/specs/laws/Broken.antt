@@ -1,0 +1,259 @@
+-- The laws of broken claims: which claim is named of those that a trace breaks. Assumes nothing.
+use Prim.Native.Nat.{ℕ, zero, suc, _+_, _≤_, _<_}
+use native.Mathlib.Nat.{eq-or-lt-of-le, suc-inj, lt-irrefl}
+use native.Mathlib.Omega.{arith}
+use mathlib.Core.Path.{_≡_, refl, sym, _∙_, ap}
+use mathlib.Core.Logic.{_↔_, _⊎_, inl, inr, ⊎-elim}
+use mathlib.Core.Bool.{Bool, true, false, _&&_}
+use mathlib.Core.List.{List, [], _∷_, map}
+use mathlib.Core.Option.{Option, none, some, Option·some-injective, Option·none-ne-some}
+use lib.Dec.{T}
+use lib.ListN.{length, getElem?}
+use Rattle.semantics.specs.Basic.{firstOf, numbersFrom, andThen, provided}
+use Rattle.semantics.specs.Term.{Term}
+use Rattle.semantics.specs.Inference.{Derives, derivable}
+use Rattle.semantics.specs.Value.{valueOf}
+use Rattle.semantics.specs.Roles.{EventKind, send, read, claim, Event}
+use Rattle.semantics.specs.Runs.{Run}
+use Rattle.semantics.specs.Scenario.{Scenario}
+use Rattle.semantics.specs.State.{Progress, State, eventsOf, readingIn}
+use Rattle.semantics.specs.Verdict.{Claim, ClaimKind, secrecy, isClaim, allTrusted, brokenEvent, brokenInRun, broken}
+use Rattle.semantics.specs.Allowed.{Breaks, breaks, ClaimBefore, Names}
+use Rattle.semantics.specs.laws.Test.{both, both-left, both-right}
+use Rattle.semantics.specs.laws.Inference.{derivable-exact}
+
+-- the first of n numbers from a on that has a result
+pub data FirstIn {A : Type 0} (g : ℕ → Option A) (a n : ℕ) : Option A → Type 0 where
+  foundAt : {y : A} (k : ℕ) → a ≤ k → k < a + n → g k ≡ some y → ((j : ℕ) → a ≤ j → j < k → g j ≡ none) → FirstIn g a n (some y)
+  notFound : ((k : ℕ) → a ≤ k → k < a + n → g k ≡ none) → FirstIn g a n none
+
+pub firstIn : {A : Type 0} (g : ℕ → Option A) (a n : ℕ) → FirstIn g a n (firstOf (map g (numbersFrom a n)))
+firstIn g a zero = notFound (λ k l h. absurd (omega arith))
+firstIn {A} g a (suc n) = go (g a) refl (firstIn g (suc a) n)
+  where
+    skip : (o : Option A) → g a ≡ none → FirstIn g (suc a) n o → FirstIn g a (suc n) o
+    skip o e (foundAt k l h f before) =
+        foundAt k (omega arith) (omega arith) f (λ j m q. ⊎-elim (λ (p : a ≡ j). rw (← p) e) (λ (p : a < j). before j p q) (eq-or-lt-of-le m))
+    skip o e (notFound all) =
+        notFound (λ k l h. ⊎-elim (λ (p : a ≡ k). rw (← p) e) (λ (p : a < k). all k p (omega arith)) (eq-or-lt-of-le l))
+
+    go : (v : Option A) → g a ≡ v → FirstIn g (suc a) n (firstOf (map g (numbersFrom (suc a) n))) → FirstIn g a (suc n) (firstOf (v ∷ map g (numbersFrom (suc a) n)))
+    go (some y) e rest = foundAt a (omega arith) (omega arith) e (λ j l q. absurd (omega arith))
+    go none e rest = skip (firstOf (map g (numbersFrom (suc a) n))) e rest
+
+-- what stands at a place of a list is below its length
+pub present-below : {A : Type 0} (xs : List A) (i : ℕ) (x : A) → getElem? xs i ≡ some x → i < length xs
+present-below [] i x e = absurd (Option·none-ne-some x e)
+present-below (y ∷ ys) zero x e = omega arith
+present-below (y ∷ ys) (suc i) x e = let l = present-below ys i x e in omega arith
+
+-- two numbers neither of which is lower are one
+same-number : (a b : ℕ) → (a < b → ⊥) → (b < a → ⊥) → a ≡ b
+same-number a b f g = omega arith
+
+-- a value that is provided shows that the test holds
+provided-some : {A : Type 0} (b : Bool) (x y : A) → provided b x ≡ some y → T b × (x ≡ y)
+provided-some true x y e = (tt, Option·some-injective x y e)
+provided-some false x y e = absurd (Option·none-ne-some y e)
+
+some-provided : {A : Type 0} (b : Bool) (x : A) → T b → provided b x ≡ some x
+some-provided true x t = refl
+some-provided false x t = absurd t
+
+is-claim : (kind : EventKind) → T (isClaim kind) → kind ≡ claim
+is-claim send t = absurd t
+is-claim read t = absurd t
+is-claim claim t = refl
+
+claim-is : (kind : EventKind) → kind ≡ claim → T (isClaim kind)
+claim-is kind e = rw e tt
+
+-- the claim of an event in a run
+abbrev claimAt : ℕ → ℕ → Claim
+claimAt k j = record { run = suc k; event = j; kind = secrecy }
+
+is-secrecy : (a b : ClaimKind) → a ≡ b
+is-secrecy secrecy secrecy = refl
+
+-- a claim is its run and its event
+same-claim : (c : Claim) (k j : ℕ) → c .run ≡ suc k → c .event ≡ j → c ≡ claimAt k j
+same-claim c k j p q = λ i. record { run = p i; event = q i; kind = is-secrecy (c .kind) secrecy i }
+
+module _ (sc : Scenario) (s : State) (k : ℕ) (run : Run) (p : Progress) where
+  abbrev valueIn : Event → Option Term
+  valueIn e = valueOf (readingIn (sc .rows) (suc k) run (p .values)) (sc .rows) (e .row)
+
+  -- what makes an event a broken claim
+  record BrokenEvent (e : Event) : Type 0 where
+    term : Term
+    value : valueIn e ≡ some term
+    isOne : e .kind ≡ claim
+    trusts : T (allTrusted (sc .rows) run)
+    derives : Derives (s .known) term
+
+  event-broken : (j : ℕ) (e : Event) (c : Claim) → brokenEvent sc s (suc k) run p j e ≡ some c → BrokenEvent e × (c ≡ claimAt k j)
+  unfolding brokenEvent
+  event-broken j e c q = go (valueIn e) refl q
+    where
+      go : (o : Option Term) → valueIn e ≡ o
+          → andThen o (λ t. provided (isClaim (e .kind) && allTrusted (sc .rows) run && derivable (s .known) t) (claimAt k j)) ≡ some c
+          → BrokenEvent e × (c ≡ claimAt k j)
+      go none v h = absurd (Option·none-ne-some c h)
+      go (some t) v h =
+          let w = provided-some (isClaim (e .kind) && allTrusted (sc .rows) run && derivable (s .known) t) (claimAt k j) c h in
+          let l = both-left (isClaim (e .kind) && allTrusted (sc .rows) run) (derivable (s .known) t) (w .0) in (
+            record {
+              term = t;
+              value = v;
+              isOne = is-claim (e .kind) (both-left (isClaim (e .kind)) (allTrusted (sc .rows) run) l);
+              trusts = both-right (isClaim (e .kind)) (allTrusted (sc .rows) run) l;
+              derives = derivable-exact (s .known) t .0 (both-right (isClaim (e .kind) && allTrusted (sc .rows) run) (derivable (s .known) t) (w .0));
+            },
+            sym (w .1),
+          )
+
+  broken-event : (j : ℕ) (e : Event) → BrokenEvent e → brokenEvent sc s (suc k) run p j e ≡ some (claimAt k j)
+  unfolding brokenEvent
+  broken-event j e b =
+      rw (b .value)
+      (some-provided (isClaim (e .kind) && allTrusted (sc .rows) run && derivable (s .known) (b .term)) (claimAt k j)
+      (both (isClaim (e .kind) && allTrusted (sc .rows) run) (derivable (s .known) (b .term))
+      (both (isClaim (e .kind)) (allTrusted (sc .rows) run) (claim-is (e .kind) (b .isOne)) (b .trusts))
+      (derivable-exact (s .known) (b .term) .1 (b .derives))))
+
+  -- the claim of an event, if there is such an event and its claim is broken
+  abbrev test : ℕ → Option Claim
+  test j = andThen (getElem? (eventsOf sc run) j) (brokenEvent sc s (suc k) run p j)
+
+  test-broken : (j : ℕ) (c : Claim) → test j ≡ some c → (e : Event) × (getElem? (eventsOf sc run) j ≡ some e) × BrokenEvent e × (c ≡ claimAt k j)
+  test-broken j c q = go (getElem? (eventsOf sc run) j) refl q
+    where
+      go : (o : Option Event) → getElem? (eventsOf sc run) j ≡ o → andThen o (brokenEvent sc s (suc k) run p j) ≡ some c
+          → (e : Event) × (getElem? (eventsOf sc run) j ≡ some e) × BrokenEvent e × (c ≡ claimAt k j)
+      go none at h = absurd (Option·none-ne-some c h)
+      go (some e) at h = let w = event-broken j e c h in (e, at, w .0, w .1)
+
+  broken-test : (j : ℕ) (e : Event) → getElem? (eventsOf sc run) j ≡ some e → BrokenEvent e → test j ≡ some (claimAt k j)
+  broken-test j e at b = rw at (broken-event j e b)
+
+  -- a broken claim of this run comes from one of its events
+  breaks-in :
+      getElem? (sc .runs) k ≡ some run → getElem? (s .progress) k ≡ some p → (d : Claim) → Breaks sc s d → d .run ≡ suc k
+      → (d .event < p .done) × (test (d .event) ≡ some (claimAt k (d .event)))
+  breaks-in hr hp d (breaks {k = k′} {run = run′} {p = p′} {e = e} {t = t} hr′ hp′ at l isOne trusts value derives num kind) q =
+      let kk : k′ ≡ k = suc-inj (sym num ∙ q) in
+      let rr : run′ ≡ run = Option·some-injective run′ run (sym hr′ ∙ ap (λ (n : ℕ). getElem? (sc .runs) n) kk ∙ hr) in
+      let pp : p′ ≡ p = Option·some-injective p′ p (sym hp′ ∙ ap (λ (n : ℕ). getElem? (s .progress) n) kk ∙ hp) in
+      let at′ : getElem? (eventsOf sc run) (d .event) ≡ some e = rw rr at at in (
+        rw pp at l,
+        broken-test (d .event) e at′
+            (record { term = t; value = rw (kk, rr, pp) at value; isOne = isOne; trusts = rw rr at trusts; derives = derives }),
+      )
+
+module _ (sc : Scenario) (s : State) where
+  -- the lowest broken claim of the run with an index
+  data InRun (k : ℕ) : Option Claim → Type 0 where
+    inRun :
+        {c : Claim} → c .run ≡ suc k → Breaks sc s c → ((d : Claim) → Breaks sc s d → d .run ≡ suc k → d .event < c .event → ⊥)
+        → InRun k (some c)
+    noneInRun : ((d : Claim) → Breaks sc s d → d .run ≡ suc k → ⊥) → InRun k none
+
+  module _ (k : ℕ) (run : Run) (p : Progress) (hr : getElem? (sc .runs) k ≡ some run) (hp : getElem? (s .progress) k ≡ some p) where
+    run-view : (o : Option Claim) → FirstIn (test sc s k run p) 0 (p .done) o → InRun k o
+    run-view o (foundAt {y = c} j l h q before) =
+        let w = test-broken sc s k run p j c q in
+        let b = w .2 in
+        let ev : c .event ≡ j = ap (λ (x : Claim). x .event) (w .3) in
+        inRun {c = c} (ap (λ (x : Claim). x .run) (w .3))
+        (breaks {e = w .0} hr hp (ap (λ (n : ℕ). getElem? (eventsOf sc run) n) ev ∙ w .1) (omega arith) (b .isOne) (b .trusts) (b .value) (b .derives) (ap (λ (x : Claim). x .run) (w .3)) (is-secrecy (c .kind) secrecy))
+        (λ d bd rd lt.
+        let x = breaks-in sc s k run p hr hp d bd rd in
+        Option·none-ne-some (claimAt k (d .event)) (sym (before (d .event) (omega arith) (omega arith)) ∙ x .1))
+    run-view o (notFound all) =
+        noneInRun (λ d bd rd.
+        let x = breaks-in sc s k run p hr hp d bd rd in
+        Option·none-ne-some (claimAt k (d .event)) (sym (all (d .event) (omega arith) (omega arith)) ∙ x .1))
+
+  -- a run that is not there has no broken claim
+  breaks-present : (k : ℕ) (d : Claim) → Breaks sc s d → d .run ≡ suc k → (run : Run) × (p : Progress) × (getElem? (sc .runs) k ≡ some run) × (getElem? (s .progress) k ≡ some p)
+  breaks-present k d (breaks {k = k′} {run = run} {p = p} hr hp at l isOne trusts value derives num kind) q =
+      let kk : k′ ≡ k = suc-inj (sym num ∙ q) in
+      (run, p, rw kk at hr, rw kk at hp)
+
+  brokenInRun-view : (k : ℕ) → InRun k (brokenInRun sc s k)
+  unfolding brokenInRun
+  brokenInRun-view k = go (getElem? (sc .runs) k) refl (getElem? (s .progress) k) refl
+    where
+      go : (r : Option Run) → getElem? (sc .runs) k ≡ r → (q : Option Progress) → getElem? (s .progress) k ≡ q
+          → InRun k (andThen r (λ run. andThen q (λ p. firstOf (map (test sc s k run p) (numbersFrom 0 (p .done))))))
+      go none hr q hq = noneInRun (λ d bd rd. let w = breaks-present k d bd rd in Option·none-ne-some (w .0) (sym hr ∙ w .2))
+      go (some run) hr none hq = noneInRun (λ d bd rd. let w = breaks-present k d bd rd in Option·none-ne-some (w .1) (sym hq ∙ w .3))
+      go (some run) hr (some p) hq = run-view k run p hr hq (firstOf (map (test sc s k run p) (numbersFrom 0 (p .done)))) (firstIn (test sc s k run p) 0 (p .done))
+
+  -- of the claims that a trace breaks, the one that is named
+  pub data Named : Option Claim → Type 0 where
+    named : {c : Claim} → Names sc s c → Named (some c)
+    unbroken : ((d : Claim) → Breaks sc s d → ⊥) → Named none
+
+  breaks-number : (d : Claim) → Breaks sc s d → (k : ℕ) × (d .run ≡ suc k) × (k < length (sc .runs))
+  breaks-number d (breaks {k = k} {run = run} hr hp at l isOne trusts value derives num kind) = (k, num, present-below (sc .runs) k run hr)
+
+  none-before : (k : ℕ) → brokenInRun sc s k ≡ none → (d : Claim) → Breaks sc s d → d .run ≡ suc k → ⊥
+  none-before k e d b q = go (rw e at (brokenInRun-view k))
+    where
+      go : InRun k none → ⊥
+      go (noneInRun all) = all d b q
+
+  broken-found : (k : ℕ) (c : Claim) → brokenInRun sc s k ≡ some c → ((j : ℕ) → 0 ≤ j → j < k → brokenInRun sc s j ≡ none) → Names sc s c
+  broken-found k c e before = go (rw e at (brokenInRun-view k))
+    where
+      go : InRun k (some c) → Names sc s c
+      go (inRun num b lowest) =
+          record {
+            isBroken = b;
+            lowest = λ d bd. ⊎-elim
+                (λ (l : d .run < c .run). let w = breaks-number d bd in none-before (w .0) (before (w .0) (omega arith) (omega arith)) d bd (w .1))
+                (λ (l : (d .run ≡ c .run) × (d .event < c .event)). lowest d bd (l .0 ∙ num) (l .1));
+          }
+
+  pub broken-view : Named (broken sc s)
+  unfolding broken
+  broken-view = go (firstOf (map (brokenInRun sc s) (numbersFrom 0 (length (sc .runs))))) (firstIn (brokenInRun sc s) 0 (length (sc .runs)))
+    where
+      go : (o : Option Claim) → FirstIn (brokenInRun sc s) 0 (length (sc .runs)) o → Named o
+      go o (foundAt {y = c} k l h e before) = named (broken-found k c e before)
+      go o (notFound all) = unbroken (λ d b. let w = breaks-number d b in none-before (w .0) (all (w .0) (omega arith) (omega arith)) d b (w .1))
+
+  -- two claims that are named are one
+  pub names-one : (c d : Claim) → Names sc s c → Names sc s d → c ≡ d
+  names-one c d n m =
+      let w = breaks-number c (n .isBroken) in
+      same-claim c (w .0) (c .event) (w .1) refl
+      ∙ sym (same-claim d (w .0) (c .event) (runs ∙ w .1) events)
+    where
+      runs : d .run ≡ c .run
+      runs = same-number (d .run) (c .run) (λ l. n .lowest d (m .isBroken) (inl l)) (λ l. m .lowest c (n .isBroken) (inl l))
+
+      events : d .event ≡ c .event
+      events = same-number (d .event) (c .event) (λ l. n .lowest d (m .isBroken) (inr (runs, l))) (λ l. m .lowest c (n .isBroken) (inr (sym runs, l)))
+
+  -- "Of several claims broken, the lowest run, then the lowest event, is named."
+  pub broken-named : (c : Claim) → (broken sc s ≡ some c) ↔ Names sc s c
+  broken-named c = (λ e. is-named (rw e at broken-view), λ n. go (broken sc s) broken-view n)
+    where
+      is-named : Named (some c) → Names sc s c
+      is-named (named n) = n
+
+      go : (o : Option Claim) → Named o → Names sc s c → o ≡ some c
+      go o (named {c = d} m) n = ap some (names-one d c m n)
+      go o (unbroken all) n = absurd (all c (n .isBroken))
+
+  pub broken-none : (broken sc s ≡ none) ↔ ((c : Claim) → Breaks sc s c → ⊥)
+  broken-none = (λ e. is-unbroken (rw e at broken-view), λ all. go (broken sc s) broken-view all)
+    where
+      is-unbroken : Named none → (c : Claim) → Breaks sc s c → ⊥
+      is-unbroken (unbroken all) = all
+
+      go : (o : Option Claim) → Named o → ((c : Claim) → Breaks sc s c → ⊥) → o ≡ none
+      go o (named {c = d} m) all = absurd (all d (m .isBroken))
+      go o (unbroken all′) all = refl
