@@ -1,4 +1,4 @@
--- Allowed moves and traces, broken claims and the order of the list, stated plainly: with the inference relation and not its decision (document 01, 'Roles and moves'). Assumes nothing.
+-- Well-formed events, allowed moves and traces, broken claims and the order of the list, stated plainly: with the inference relation and not its decision (document 01, 'Roles and moves'). Assumes nothing.
 use Prim.Native.Nat.{ℕ, suc, _<_, _≤_}
 use mathlib.Core.Path.{_≡_}
 use mathlib.Core.Logic.{_⊎_}
@@ -6,7 +6,7 @@ use mathlib.Core.List.{List, [], _∷_}
 use mathlib.Core.Option.{Option, none, some}
 use lib.Dec.{T}
 use lib.ListN.{length, getElem?}
-use Rattle.semantics.specs.Term.{agentType, freshType, Atom, variable, intruder, local, Term}
+use Rattle.semantics.specs.Term.{VariableType, agentType, freshType, Atom, variable, role, intruder, local, Term, atom, pk, sk, shared, pair, encrypted, inverse}
 use Rattle.semantics.specs.Inference.{Derives}
 use Rattle.semantics.specs.Table.{Row}
 use Rattle.semantics.specs.Value.{valueOf}
@@ -17,6 +17,27 @@ use Rattle.semantics.specs.State.{Value, Progress, State, initial, Activ
 use Rattle.semantics.specs.Moves.{Move, Message, toSet, messageAfter, advanced}
 use Rattle.semantics.specs.Tree.{Follows, Earlier}
 use Rattle.semantics.specs.Verdict.{Claim, secrecy, allTrusted}
+
+-- 000's Readable, with the inference relation: which patterns a role can read
+pub data Readable : List Term → Term → Type 0 where
+  -- "A variable can always occur in a read pattern."
+  readsVariable : {known : List Term} {n : ℕ} {type : VariableType} → Readable known (atom (variable n type))
+  -- "Any other term can only occur in a read pattern, if it can be inferred from the knowledge": constants, role names and keys
+  readsAtom : {known : List Term} {a : Atom} → Derives known (atom a) → Readable known (atom a)
+  readsPk : {known : List Term} {t : Term} → Derives known (pk t) → Readable known (pk t)
+  readsSk : {known : List Term} {t : Term} → Derives known (sk t) → Readable known (sk t)
+  readsShared : {known : List Term} {t u : Term} → Derives known (shared t u) → Readable known (shared t u)
+  -- a pair, each part with the other part added to the knowledge
+  readsPair : {known : List Term} {t u : Term} → Readable (u ∷ known) t → Readable (t ∷ known) u → Readable known (pair t u)
+  -- an encryption that can be inferred whole, or whose key's inverse can be and whose content is readable
+  readsWhole : {known : List Term} {t k : Term} → Derives known (encrypted t k) → Readable known (encrypted t k)
+  readsContent : {known : List Term} {t k : Term} → Derives known (inverse k) → Readable known t → Readable known (encrypted t k)
+
+-- 000's WF, for one event of the role with a number
+pub data WellFormed (own : ℕ) (known : List Term) : EventKind → ℕ → Term → Type 0 where
+  wellSent : {peer : ℕ} {t : Term} → Derives known (atom (role own)) → Derives known (atom (role peer)) → Derives known t → WellFormed own known send peer t
+  wellRead : {peer : ℕ} {t : Term} → Derives known (atom (role own)) → Derives known (atom (role peer)) → Readable known t → WellFormed own known read peer t
+  wellClaimed : {peer : ℕ} {t : Term} → Derives known (atom (role own)) → Derives known t → WellFormed own known claim peer t
 
 -- the values that a variable may take
 pub data MayTake (rows : List Row) (runs : ℕ) : Atom → Value → Type 0 where

@@ -20,4 +20,5 @@ pub mod Derive
 pub mod Allowed
 pub mod Demand
 pub mod Guarantee
+pub mod Worked
 pub mod laws

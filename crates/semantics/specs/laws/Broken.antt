@@ -19,7 +19,8 @@ use Rattle.semantics.specs.Scenario.{Scenario}
 use Rattle.semantics.specs.State.{Progress, State, eventsOf, readingIn}
 use Rattle.semantics.specs.Verdict.{Claim, ClaimKind, secrecy, isClaim, allTrusted, brokenEvent, brokenInRun, broken}
 use Rattle.semantics.specs.Allowed.{Breaks, breaks, ClaimBefore, Names}
-use Rattle.semantics.specs.laws.Test.{both, both-left, both-right}
+use Rattle.semantics.specs.laws.Test.{all-three, provided-some, andThen-some}
+use Rattle.semantics.specs.laws.List.{getElem-below}
 use Rattle.semantics.specs.laws.Inference.{derivable-exact}
 
 -- the first of n numbers from a on that has a result
@@ -41,25 +42,11 @@ firstIn {A} g a (suc n) = go (g a) refl (firstIn g (suc a) n)
     go (some y) e rest = foundAt a (omega arith) (omega arith) e (λ j l q. absurd (omega arith))
     go none e rest = skip (firstOf (map g (numbersFrom (suc a) n))) e rest
 
--- what stands at a place of a list is below its length
-pub present-below : {A : Type 0} (xs : List A) (i : ℕ) (x : A) → getElem? xs i ≡ some x → i < length xs
-present-below [] i x e = absurd (Option·none-ne-some x e)
-present-below (y ∷ ys) zero x e = omega arith
-present-below (y ∷ ys) (suc i) x e = let l = present-below ys i x e in omega arith
-
 -- two numbers neither of which is lower are one
 same-number : (a b : ℕ) → (a < b → ⊥) → (b < a → ⊥) → a ≡ b
 same-number a b f g = omega arith
 
--- a value that is provided shows that the test holds
-provided-some : {A : Type 0} (b : Bool) (x y : A) → provided b x ≡ some y → T b × (x ≡ y)
-provided-some true x y e = (tt, Option·some-injective x y e)
-provided-some false x y e = absurd (Option·none-ne-some y e)
-
-some-provided : {A : Type 0} (b : Bool) (x : A) → T b → provided b x ≡ some x
-some-provided true x t = refl
-some-provided false x t = absurd t
-
+-- the test of a claim
 is-claim : (kind : EventKind) → T (isClaim kind) → kind ≡ claim
 is-claim send t = absurd t
 is-claim read t = absurd t
@@ -91,47 +78,39 @@ module _ (sc : Scenario) (s : State) (k : ℕ) (run : Run) (p : Progress) where
     trusts : T (allTrusted (sc .rows) run)
     derives : Derives (s .known) term
 
+  -- the test of an event passes exactly then
+  abbrev holds : Event → Term → Bool
+  holds e t = isClaim (e .kind) && allTrusted (sc .rows) run && derivable (s .known) t
+
   event-broken : (j : ℕ) (e : Event) (c : Claim) → brokenEvent sc s (suc k) run p j e ≡ some c → BrokenEvent e × (c ≡ claimAt k j)
   unfolding brokenEvent
-  event-broken j e c q = go (valueIn e) refl q
-    where
-      go : (o : Option Term) → valueIn e ≡ o
-          → andThen o (λ t. provided (isClaim (e .kind) && allTrusted (sc .rows) run && derivable (s .known) t) (claimAt k j)) ≡ some c
-          → BrokenEvent e × (c ≡ claimAt k j)
-      go none v h = absurd (Option·none-ne-some c h)
-      go (some t) v h =
-          let w = provided-some (isClaim (e .kind) && allTrusted (sc .rows) run && derivable (s .known) t) (claimAt k j) c h in
-          let l = both-left (isClaim (e .kind) && allTrusted (sc .rows) run) (derivable (s .known) t) (w .0) in (
-            record {
-              term = t;
-              value = v;
-              isOne = is-claim (e .kind) (both-left (isClaim (e .kind)) (allTrusted (sc .rows) run) l);
-              trusts = both-right (isClaim (e .kind)) (allTrusted (sc .rows) run) l;
-              derives = derivable-exact (s .known) t .0 (both-right (isClaim (e .kind) && allTrusted (sc .rows) run) (derivable (s .known) t) (w .0));
-            },
-            sym (w .1),
-          )
+  event-broken j e c q =
+      let w = andThen-some (valueIn e) (λ t. provided (holds e t) (claimAt k j)) .0 q in
+      let v = provided-some (holds e (w .0)) .0 (w .2) in
+      let h = all-three (isClaim (e .kind)) (allTrusted (sc .rows) run) (derivable (s .known) (w .0)) .0 (v .0) in (
+        record { term = w .0; value = w .1; isOne = is-claim (e .kind) (h .0); trusts = h .1; derives = derivable-exact (s .known) (w .0) .0 (h .2) },
+        v .1,
+      )
 
   broken-event : (j : ℕ) (e : Event) → BrokenEvent e → brokenEvent sc s (suc k) run p j e ≡ some (claimAt k j)
   unfolding brokenEvent
   broken-event j e b =
       rw (b .value)
-      (some-provided (isClaim (e .kind) && allTrusted (sc .rows) run && derivable (s .known) (b .term)) (claimAt k j)
-      (both (isClaim (e .kind) && allTrusted (sc .rows) run) (derivable (s .known) (b .term))
-      (both (isClaim (e .kind)) (allTrusted (sc .rows) run) (claim-is (e .kind) (b .isOne)) (b .trusts))
-      (derivable-exact (s .known) (b .term) .1 (b .derives))))
+      (provided-some (holds e (b .term)) .1 (
+        all-three (isClaim (e .kind)) (allTrusted (sc .rows) run) (derivable (s .known) (b .term)) .1
+            (claim-is (e .kind) (b .isOne), b .trusts, derivable-exact (s .known) (b .term) .1 (b .derives)),
+        refl,
+      ))
 
   -- the claim of an event, if there is such an event and its claim is broken
   abbrev test : ℕ → Option Claim
   test j = andThen (getElem? (eventsOf sc run) j) (brokenEvent sc s (suc k) run p j)
 
   test-broken : (j : ℕ) (c : Claim) → test j ≡ some c → (e : Event) × (getElem? (eventsOf sc run) j ≡ some e) × BrokenEvent e × (c ≡ claimAt k j)
-  test-broken j c q = go (getElem? (eventsOf sc run) j) refl q
-    where
-      go : (o : Option Event) → getElem? (eventsOf sc run) j ≡ o → andThen o (brokenEvent sc s (suc k) run p j) ≡ some c
-          → (e : Event) × (getElem? (eventsOf sc run) j ≡ some e) × BrokenEvent e × (c ≡ claimAt k j)
-      go none at h = absurd (Option·none-ne-some c h)
-      go (some e) at h = let w = event-broken j e c h in (e, at, w .0, w .1)
+  test-broken j c q =
+      let w = andThen-some (getElem? (eventsOf sc run) j) (brokenEvent sc s (suc k) run p j) .0 q in
+      let v = event-broken j (w .0) c (w .2) in
+      (w .0, w .1, v .0, v .1)
 
   broken-test : (j : ℕ) (e : Event) → getElem? (eventsOf sc run) j ≡ some e → BrokenEvent e → test j ≡ some (claimAt k j)
   broken-test j e at b = rw at (broken-event j e b)
@@ -196,7 +175,7 @@ module _ (sc : Scenario) (s : State) where
     unbroken : ((d : Claim) → Breaks sc s d → ⊥) → Named none
 
   breaks-number : (d : Claim) → Breaks sc s d → (k : ℕ) × (d .run ≡ suc k) × (k < length (sc .runs))
-  breaks-number d (breaks {k = k} {run = run} hr hp at l isOne trusts value derives num kind) = (k, num, present-below (sc .runs) k run hr)
+  breaks-number d (breaks {k = k} {run = run} hr hp at l isOne trusts value derives num kind) = (k, num, getElem-below (sc .runs) k hr)
 
   none-before : (k : ℕ) → brokenInRun sc s k ≡ none → (d : Claim) → Breaks sc s d → d .run ≡ suc k → ⊥
   none-before k e d b q = go (rw e at (brokenInRun-view k))

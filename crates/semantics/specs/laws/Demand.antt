@@ -12,11 +12,12 @@ use Rattle.semantics.specs.Moves.{Move}
 use Rattle.semantics.specs.Verdict.{Entry, Claim, traceList, broken, Finding, found, nothing, cut, walked, Verdict, brokenAt, held, stopped, verdictFrom, verdict}
 use Rattle.semantics.specs.Allowed.{AllowedTrace, Breaks, Names}
 use Rattle.semantics.specs.Demand.{entryAt, SomeBreak, FirstBreak, NoBreak}
-use Rattle.semantics.specs.laws.List.{mem-getElem}
-use Rattle.semantics.specs.laws.Broken.{present-below, names-one, broken-named, broken-none}
+use Rattle.semantics.specs.laws.List.{mem-getElem, getElem-below}
+use Rattle.semantics.specs.laws.Traces.{traces-exact}
+use Rattle.semantics.specs.laws.Broken.{names-one, broken-named, broken-none}
 use Rattle.semantics.specs.laws.Verdict.{Walked, walkedFound, walkedAll, walkedCut, walked-view}
 
-module _ (sc : Scenario) (exact : (ms : List Move) (s : State) → List·Memᴰ (ms, s) (traceList sc) ↔ AllowedTrace sc ms s) where
+module _ (sc : Scenario) where
   -- no trace up to a place breaks a claim
   abbrev Unbroken : ℕ → Type 0
   Unbroken n = (i : ℕ) (e : Entry) → i < n → getElem? (traceList sc) i ≡ some e → (c : Claim) → Breaks sc (e .1) c → ⊥
@@ -65,7 +66,7 @@ module _ (sc : Scenario) (exact : (ms : List Move) (s : State) → List·Memᴰ 
         trace = ms;
         end = f .end;
         claim = c;
-        allowed = exact ms (f .end) .0 (mem-getElem (traceList sc) .1 (i, f .listed));
+        allowed = traces-exact sc ms (f .end) .0 (mem-getElem (traceList sc) .1 (i, f .listed));
         listed = f .listed;
         inBudget = f .inBudget;
         broken = f .names .isBroken;
@@ -73,8 +74,8 @@ module _ (sc : Scenario) (exact : (ms : List Move) (s : State) → List·Memᴰ 
 
   unbroken-no-break : Unbroken (length (traceList sc)) → NoBreak sc
   unbroken-no-break all ms s a c b =
-      let w = mem-getElem (traceList sc) .0 (exact ms s .1 a) in
-      all (w .0) (ms, s) (present-below (traceList sc) (w .0) (ms, s) (w .1)) (w .1) c b
+      let w = mem-getElem (traceList sc) .0 (traces-exact sc ms s .1 a) in
+      all (w .0) (ms, s) (getElem-below (traceList sc) (w .0) (w .1)) (w .1) c b
 
   no-break-none : NoBreak sc → SomeBreak sc → ⊥
   no-break-none all b = all (b .trace) (b .end) (b .allowed) (b .claim) (b .broken)

@@ -9,7 +9,7 @@ use mathlib.Core.Option.{Option, none, some, Option·some-injective, Option·non
 use mathlib.Core.List.{List, [], _∷_, _++_, map, List·Memᴰ, List·Memᴰ·head, List·Memᴰ·tail, List·Memᴰ·not-nil}
 use mathlib.Core.List.{List·Memᴰ·append-cases, Memᴰ·append-left, Memᴰ·append-right}
 use lib.Dec.{T}
-use lib.ListN.{getElem?}
+use lib.ListN.{length, getElem?}
 use Rattle.semantics.specs.Basic.{joined, keep, presentOnes, numbersFrom, every}
 use Rattle.semantics.specs.laws.Test.{both-left, both-right, both}
 
@@ -152,3 +152,33 @@ module _ {A : Type 0} {R : A → A → Type 0} where
         go none e rest = rest
         go (some y) e rest =
             ordered-more (λ y′ m. let w = mem-map g xs .0 (mem-present (map g xs) .0 m) in across x (w .0) y y′ (a (w .0) (w .1)) e (sym (w .2))) rest
+
+module _ {A : Type 0} where
+  -- a place with an element is below the length
+  pub getElem-below : (xs : List A) (i : ℕ) {x : A} → getElem? xs i ≡ some x → i < length xs
+  getElem-below [] i {x} e = absurd (Option·none-ne-some x e)
+  getElem-below (y ∷ xs) zero e = omega arith
+  getElem-below (y ∷ xs) (suc i) e = let l = getElem-below xs i e in omega arith
+
+  -- each place below the length has an element
+  pub getElem-there : (xs : List A) (i : ℕ) → i < length xs → (x : A) × (getElem? xs i ≡ some x)
+  getElem-there [] i l = absurd (not-suc-le-zero l)
+  getElem-there (y ∷ xs) zero l = (y, refl)
+  getElem-there (y ∷ xs) (suc i) l = getElem-there xs i (le-of-suc-le-suc l)
+
+  -- with one more element, a place has the element that it had, or it is the last place and has the new one
+  pub getElem-more : (xs : List A) (x : A) (i : ℕ) {y : A} → getElem? (xs ++ x ∷ []) i ≡ some y → (getElem? xs i ≡ some y) ⊎ ((i ≡ length xs) × (y ≡ x))
+  getElem-more [] x zero {y} e = inr (refl, sym (Option·some-injective x y e))
+  getElem-more [] x (suc i) e = inl e
+  getElem-more (z ∷ xs) x zero e = inl e
+  getElem-more (z ∷ xs) x (suc i) e = ⊎-elim inl (λ w. inr (ap suc (w .0), w .1)) (getElem-more xs x i e)
+
+  -- the values that are there are no more than all
+  pub present-length : (os : List (Option A)) → length (presentOnes os) ≤ length os
+  present-length [] = omega arith
+  present-length (none ∷ os) = let l = present-length os in omega arith
+  present-length (some x ∷ os) = let l = present-length os in omega arith
+
+-- one element is in order
+pub ordered-one : {A : Type 0} {R : A → A → Type 0} {x : A} → Ordered R (x ∷ [])
+ordered-one = ordered-more (λ y h. absurd (List·Memᴰ·not-nil h)) ordered-none

@@ -1,9 +1,11 @@
--- Laws of tests and decisions. Assumes nothing.
-use mathlib.Core.Path.{_≡_, refl}
+-- Laws of tests, decisions and what may be missing. Assumes nothing.
+use mathlib.Core.Path.{_≡_, refl, sym, ap}
 use mathlib.Core.Logic.{_↔_, _⊎_, inl, inr}
 use mathlib.Core.Bool.{Bool, true, false, _&&_, _||_, not}
+use mathlib.Core.List.{[], _∷_}
+use mathlib.Core.Option.{Option, none, some, Option·some-injective, Option·none-ne-some}
 use lib.Dec.{T}
-use Rattle.semantics.specs.Basic.{decided}
+use Rattle.semantics.specs.Basic.{decided, present, andThen, mapped, provided, firstOf}
 
 -- two tests pass
 pub both-left : (a b : Bool) → T (a && b) → T a
@@ -17,6 +19,12 @@ both-right false b t = absurd t
 pub both : (a b : Bool) → T a → T b → T (a && b)
 both true b x y = y
 both false b x y = x
+
+-- three tests pass
+pub all-three : (a b c : Bool) → T (a && b && c) ↔ (T a × T b × T c)
+all-three true true c = (λ t. (tt, tt, t), λ w. w .2)
+all-three true false c = (λ t. absurd t, λ w. w .1)
+all-three false b c = (λ t. absurd t, λ w. w .0)
 
 -- one of two tests passes
 pub either-left : (a b : Bool) → T a → T (a || b)
@@ -64,3 +72,54 @@ decided-holds (no n) t = absurd t
 pub holds-decided : {A : Type 0} (d : Dec A) → A → T (decided d)
 holds-decided (yes a) x = tt
 holds-decided (no n) x = n x
+
+module _ {A : Type 0} where
+  -- a value is given exactly where the test passes
+  pub provided-some : (b : Bool) {a x : A} → (provided b a ≡ some x) ↔ (T b × (x ≡ a))
+  provided-some true {a} {x} = (λ e. (tt, sym (Option·some-injective a x e)), λ w. ap some (sym (w .1)))
+  provided-some false {x = x} = (λ e. absurd (Option·none-ne-some x e), λ w. absurd (w .0))
+
+  -- and so is what may be missing
+  pub guarded-some : (b : Bool) {o : Option A} {x : A} → (_≡_ {A = Option A} (elim b [ true ↦ o | false ↦ none ]) (some x)) ↔ (T b × (o ≡ some x))
+  guarded-some true = (λ e. (tt, e), λ w. w .1)
+  guarded-some false {x = x} = (λ e. absurd (Option·none-ne-some x e), λ w. absurd (w .0))
+
+module _ {A B : Type 0} where
+  -- what follows from a value is there exactly if the value is and gives it
+  pub andThen-some : (o : Option A) (f : A → Option B) {y : B} → (andThen o f ≡ some y) ↔ ((x : A) × (o ≡ some x) × (f x ≡ some y))
+  andThen-some none f {y} = (λ e. absurd (Option·none-ne-some y e), λ w. absurd (Option·none-ne-some (w .0) (w .1)))
+  andThen-some (some x) f = (λ e. (x, refl, e), λ w. rw (← Option·some-injective x (w .0) (w .1)) at (w .2))
+
+  -- the image of a value is there exactly if the value is
+  pub mapped-some : (f : A → B) (o : Option A) {y : B} → (mapped f o ≡ some y) ↔ ((x : A) × (o ≡ some x) × (y ≡ f x))
+  mapped-some f none {y} = (λ e. absurd (Option·none-ne-some y e), λ w. absurd (Option·none-ne-some (w .0) (w .1)))
+  mapped-some f (some x) {y} = (λ e. (x, refl, sym (Option·some-injective (f x) y e)), λ w. cc)
+
+-- a value that is there
+pub present-some : {A : Type 0} (o : Option A) → T (present o) → (a : A) × (o ≡ some a)
+present-some none t = absurd t
+present-some (some a) t = (a, refl)
+
+-- where a failed test gives a value, there is none only if the test passes
+pub passed-none : {A : Type 0} (a : Bool) (o : Option A) (x : A) → _≡_ {A = Option A} (elim a [ true ↦ o | false ↦ some x ]) none → T a × (o ≡ none)
+passed-none true o x e = (tt, e)
+passed-none false o x e = absurd (Option·none-ne-some x (sym e))
+
+-- there is no value only where the test fails
+pub provided-none : {A : Type 0} (a : Bool) (x : A) → provided a x ≡ none → ¬ T a
+provided-none true x e t = Option·none-ne-some x (sym e)
+provided-none false x e t = t
+
+-- where a missing value gives a value, there is none only if the value is there and gives none
+pub found-none : {A B : Type 0} (o : Option A) (f : A → Option B) (x : B) → _≡_ {A = Option B} (elim o [ none ↦ some x | some a ↦ f a ]) none → (a : A) × (o ≡ some a) × (f a ≡ none)
+found-none none f x e = absurd (Option·none-ne-some x (sym e))
+found-none (some a) f x e = (a, refl, e)
+
+-- neither of two values is there
+pub firstOf-none : {A : Type 0} (o p : Option A) → firstOf (o ∷ p ∷ []) ≡ none → (o ≡ none) × (p ≡ none)
+firstOf-none none none e = (refl, refl)
+firstOf-none none (some x) e = absurd (Option·none-ne-some x (sym e))
+firstOf-none (some x) p e = absurd (Option·none-ne-some x (sym e))
+
+-- each of several tests that pass
+pub ruleset both-parts = (both-left, both-right)

@@ -22,6 +22,12 @@ module _ {State Move : Type 0} {Step : State → Move → State → Type 0} wher
   follows-append stays k = k
   follows-append (moves p h) k = moves p (follows-append h k)
 
+  -- moves that fix the state after them fix the end
+  pub follows-determined : ((s : State) (m : Move) (t t′ : State) → Step s m t → Step s m t′ → t ≡ t′)
+      → {s t t′ : State} {ms : List Move} → Follows Step s ms t → Follows Step s ms t′ → t ≡ t′
+  follows-determined one stays stays = refl
+  follows-determined one (moves {s = s} {s′ = u} {m = m} p h) (moves {s′ = v} q k) = follows-determined one h (rw (one s m v u q p) at k)
+
   module _ (Good : State → Type 0) (keeps : (s : State) → Good s → (m : Move) (s′ : State) → Step s m s′ → Good s′) where
     -- a property that steps keep holds at the end
     pub follows-good : {s e : State} {ms : List Move} → Good s → Follows Step s ms e → Good e
