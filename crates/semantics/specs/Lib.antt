@@ -22,3 +22,4 @@ pub mod Demand
 pub mod Guarantee
 pub mod Worked
 pub mod laws
+pub mod Theorems

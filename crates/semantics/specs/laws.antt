@@ -4,12 +4,15 @@ pub mod List
 pub mod Answer
 pub mod Inference
 pub mod Table
+pub mod Value
 pub mod Frame
 pub mod WellFormed
 pub mod Open
 pub mod Tree
 pub mod Moves
 pub mod Traces
+pub mod Reached
+pub mod Bytes
 pub mod Broken
 pub mod Verdict
 pub mod Demand

@@ -3,13 +3,13 @@ use Prim.Native.Nat.{ℕ, zero, suc, _+_, _≤_, _<_}
 use native.Mathlib.Nat.{le-of-suc-le-suc, not-suc-le-zero, eq-or-lt-of-le}
 use native.Mathlib.Omega.{arith}
 use mathlib.Core.Path.{_≡_, refl, sym, ap}
-use mathlib.Core.Logic.{_↔_, _⊎_, inl, inr, ⊎-elim}
+use mathlib.Core.Logic.{_↔_, _⊎_, inl, inr, ⊎-elim, ⊎-map}
 use mathlib.Core.Bool.{Bool, true, false}
 use mathlib.Core.Option.{Option, none, some, Option·some-injective, Option·none-ne-some}
 use mathlib.Core.List.{List, [], _∷_, _++_, map, List·Memᴰ, List·Memᴰ·head, List·Memᴰ·tail, List·Memᴰ·not-nil}
 use mathlib.Core.List.{List·Memᴰ·append-cases, Memᴰ·append-left, Memᴰ·append-right}
 use lib.Dec.{T}
-use lib.ListN.{length, getElem?}
+use lib.ListN.{length, getElem?, getD, set}
 use Rattle.semantics.specs.Basic.{joined, keep, presentOnes, numbersFrom, every}
 use Rattle.semantics.specs.laws.Test.{both-left, both-right, both}
 
@@ -182,3 +182,23 @@ module _ {A : Type 0} where
 -- one element is in order
 pub ordered-one : {A : Type 0} {R : A → A → Type 0} {x : A} → Ordered R (x ∷ [])
 ordered-one = ordered-more (λ y h. absurd (List·Memᴰ·not-nil h)) ordered-none
+
+module _ {A : Type 0} where
+  -- the element at a place, with a default
+  pub getElem-getD : (xs : List A) (i : ℕ) (d : A) {x : A} → getElem? xs i ≡ some x → getD xs i d ≡ x
+  getElem-getD [] i d {x} e = absurd (Option·none-ne-some x e)
+  getElem-getD (y ∷ xs) zero d {x} e = Option·some-injective y x e
+  getElem-getD (y ∷ xs) (suc i) d e = getElem-getD xs i d e
+
+  -- the element behind a list
+  pub getElem-seam : (xs : List A) (y : A) (ys : List A) → getElem? (xs ++ y ∷ ys) (length xs) ≡ some y
+  getElem-seam [] y ys = refl
+  getElem-seam (x ∷ xs) y ys = getElem-seam xs y ys
+
+  -- the elements after one has been replaced
+  pub set-cases : (xs : List A) (i : ℕ) (y : A) (j : ℕ) {x : A} → getElem? (set xs i y) j ≡ some x → ((j ≡ i) × (x ≡ y)) ⊎ (getElem? xs j ≡ some x)
+  set-cases [] i y j e = inr e
+  set-cases (z ∷ xs) zero y zero {x} e = inl (refl, sym (Option·some-injective y x e))
+  set-cases (z ∷ xs) zero y (suc j) e = inr e
+  set-cases (z ∷ xs) (suc i) y zero e = inr e
+  set-cases (z ∷ xs) (suc i) y (suc j) e = ⊎-map (λ w. (ap suc (w .0), w .1)) (λ h. h) (set-cases xs i y j e)

@@ -206,6 +206,13 @@ mapped-branch u vs o {b} = (
   λ w. mapped-some (branch u vs) o .1 (b .1, w .0, λ i. (w .1 i, b .1)),
 )
 
+-- What it is for a run to be active in a state.
+pub record ActiveIn (sc : Scenario) (s : State) (u : ℕ) (a : Active) : Type 0 where
+  pub numbered : u ≡ suc (a .index)
+  pub ofRun : getElem? (sc .runs) (a .index) ≡ some (a .run)
+  pub ofProgress : getElem? (s .progress) (a .index) ≡ some (a .progress)
+  pub ofEvent : getElem? (eventsOf sc (a .run)) (a .progress .done) ≡ some (a .event)
+
 module _ (sc : Scenario) (s : State) where
   -- the state after an event
   pub performed-exact : (a : Active) (vs : List Value) (s′ : State)
@@ -247,20 +254,19 @@ module _ (sc : Scenario) (s : State) where
         λ w. there .1 (all .1 (w .0, w .1, sym (mapped-branch u (w .0) (performed sc s a (w .0)) .1 (w .2, w .3)))),
       )
 
-  -- a run with an event to come, as it stands in the scenario and the state
-  pub active-parts : (u : ℕ) {a : Active} → active sc s u ≡ some a
-      → (u ≡ suc (a .index)) × (getElem? (sc .runs) (a .index) ≡ some (a .run)) × (getElem? (s .progress) (a .index) ≡ some (a .progress)) × (getElem? (eventsOf sc (a .run)) (a .progress .done) ≡ some (a .event))
+  -- an active run is so
+  pub active-in : (u : ℕ) {a : Active} → active sc s u ≡ some a → ActiveIn sc s u a
   unfolding active
-  active-parts zero {a} e = absurd (Option·none-ne-some a e)
-  active-parts (suc k) e =
+  active-in zero {a} e = absurd (Option·none-ne-some a e)
+  active-in (suc k) e =
       let r = andThen-some (getElem? (sc .runs) k) _ .0 e in
       let p = andThen-some (getElem? (s .progress) k) _ .0 (r .2) in
       let v = mapped-some _ (getElem? (eventsOf sc (r .0)) (p .0 .done)) .0 (p .2) in
-      rw (v .2) (refl, r .1, p .1, v .1)
+      rw (v .2) (record { numbered = refl; ofRun = r .1; ofProgress = p .1; ofEvent = v .1 })
 
   -- it is a run of the scenario
   active-mem : (u : ℕ) {a : Active} → active sc s u ≡ some a → List·Memᴰ u (numbersFrom 1 (length (sc .runs)))
-  active-mem u {a} e = let w = active-parts u e in mem-numbersFrom 1 (length (sc .runs)) .1 (omega (arith, getElem-below (sc .runs) (a .index) (w .1)))
+  active-mem u {a} e = let w = active-in u e in mem-numbersFrom 1 (length (sc .runs)) .1 (omega (arith, getElem-below (sc .runs) (a .index) (w .ofRun), w .numbered))
 
   -- the moves are the allowed moves
   pub moves-exact : (m : Move) (s′ : State) → List·Memᴰ (m, s′) (movesOf sc s) ↔ Step sc s m s′

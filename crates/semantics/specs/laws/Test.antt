@@ -5,7 +5,7 @@ use mathlib.Core.Bool.{Bool, true, false, _&&_, _||_, not}
 use mathlib.Core.List.{[], _∷_}
 use mathlib.Core.Option.{Option, none, some, Option·some-injective, Option·none-ne-some}
 use lib.Dec.{T}
-use Rattle.semantics.specs.Basic.{decided, present, andThen, mapped, provided, firstOf}
+use Rattle.semantics.specs.Basic.{decided, present, andThen, mapped, mapped₂, provided, firstOf}
 
 -- two tests pass
 pub both-left : (a b : Bool) → T (a && b) → T a
@@ -123,3 +123,27 @@ firstOf-none (some x) p e = absurd (Option·none-ne-some x (sym e))
 
 -- each of several tests that pass
 pub ruleset both-parts = (both-left, both-right)
+
+-- a value that is there
+abbrev pub There : {A : Type 0} → Option A → Type 0
+There {A} o = (x : A) × (o ≡ some x)
+
+pub none-there : {A P : Type 0} → There {A = A} none → P
+none-there w = absurd (Option·none-ne-some (w .0) (w .1))
+
+module _ {A B : Type 0} where
+  -- what follows from a value is there if the value is and if that follows
+  pub andThen-there : (f : A → Option B) (o : Option A) → There o → ((x : A) → o ≡ some x → There (f x)) → There (andThen o f)
+  andThen-there f none w next = none-there w
+  andThen-there f (some x) w next = next x refl
+
+  -- a value is there before a function exactly if it is after it
+  pub mapped-there : (f : A → B) (o : Option A) → There (mapped f o) ↔ There o
+  mapped-there f none = (none-there, none-there)
+  mapped-there f (some x) = (λ w. (x, refl), λ w. (f x, refl))
+
+  -- two values joined are there exactly if both are
+  pub mapped₂-there : {C : Type 0} (f : A → B → C) (o : Option A) (p : Option B) → There (mapped₂ f o p) ↔ (There o × There p)
+  mapped₂-there f none p = (none-there, λ w. none-there (w .0))
+  mapped₂-there f (some x) none = (none-there, λ w. none-there (w .1))
+  mapped₂-there f (some x) (some y) = (λ w. ((x, refl), (y, refl)), λ w. (f x y, refl))

@@ -17,7 +17,7 @@ use Rattle.semantics.specs.Verdict.{Entry, traceList}
 use Rattle.semantics.specs.Allowed.{Step, step, AllowedTrace, MoveBefore}
 use Rattle.semantics.specs.laws.List.{Ordered, getElem-below}
 use Rattle.semantics.specs.laws.Tree.{follows-determined, follows-map, earlier-prefix, places-order, places-once, listed-first, listed-sound, listed-complete, listed-ordered}
-use Rattle.semantics.specs.laws.Moves.{active-parts, moves-exact, after-exact, moveBefore-asymmetric, moves-ordered}
+use Rattle.semantics.specs.laws.Moves.{ActiveIn, active-in, moves-exact, after-exact, moveBefore-asymmetric, moves-ordered}
 
 -- one more event of a run leaves one less
 left-set : (sc : Scenario) (runs : List Run) (ps : List Progress) (k : ℕ) {run : Run} {p : Progress} {e : Event} (q : Progress)
@@ -34,7 +34,7 @@ left-set sc (x ∷ runs) (y ∷ ps) (suc k) q r h e d = omega (arith, left-set s
 -- a move makes one event
 pub step-uses-one : (sc : Scenario) (s : State) (m : Move) (s′ : State) → Step sc s m s′ → suc (eventsLeft sc s′) ≡ eventsLeft sc s
 unfolding eventsLeft advanced
-step-uses-one sc s m s′ (step {a} e t p q) = let w = active-parts sc s (m .run) e in rw q (left-set sc (sc .runs) (s .progress) (a .index) _ (w .1) (w .2) (w .3) refl)
+step-uses-one sc s m s′ (step {a} e t p q) = let w = active-in sc s (m .run) e in rw q (left-set sc (sc .runs) (s .progress) (a .index) _ (w .ofRun) (w .ofProgress) (w .ofEvent) refl)
 
 -- so a move leaves fewer events
 pub step-uses : (sc : Scenario) (s : State) (m : Move) (s′ : State) → Step sc s m s′ → eventsLeft sc s′ < eventsLeft sc s
