@@ -1,8 +1,8 @@
 -- Laws of lists: membership and order. Assumes nothing.
 use Prim.Native.Nat.{ℕ, zero, suc, _+_, _≤_, _<_}
-use native.Mathlib.Nat.{le-of-suc-le-suc, not-suc-le-zero, eq-or-lt-of-le}
+use native.Mathlib.Nat.{le-refl, le-of-suc-le-suc, not-suc-le-zero, eq-or-lt-of-le}
 use native.Mathlib.Omega.{arith}
-use mathlib.Core.Path.{_≡_, refl, sym, ap}
+use mathlib.Core.Path.{_≡_, refl, sym, ap, _∙_}
 use mathlib.Core.Logic.{_↔_, _⊎_, inl, inr, ⊎-elim, ⊎-map}
 use mathlib.Core.Bool.{Bool, true, false}
 use mathlib.Core.Option.{Option, none, some, Option·some-injective, Option·none-ne-some}
@@ -202,3 +202,64 @@ module _ {A : Type 0} where
   set-cases (z ∷ xs) zero y (suc j) e = inr e
   set-cases (z ∷ xs) (suc i) y zero e = inr e
   set-cases (z ∷ xs) (suc i) y (suc j) e = ⊎-map (λ w. (ap suc (w .0), w .1)) (λ h. h) (set-cases xs i y j e)
+
+  -- how many elements pass a test: one by one
+  pub keep-cons : (p : A → Bool) (x : A) (xs : List A) → length (keep p (x ∷ xs)) ≡ length (keep p (x ∷ [])) + length (keep p xs)
+  keep-cons p x xs = go (p x) refl
+    where
+      go : (b : Bool) → p x ≡ b → length (keep p (x ∷ xs)) ≡ length (keep p (x ∷ [])) + length (keep p xs)
+      go true e = rw (e, keep) (omega arith)
+      go false e = rw (e, keep) (omega arith)
+
+  -- an element that does not pass
+  pub keep-not : (p : A → Bool) (x : A) → ¬ T (p x) → length (keep p (x ∷ [])) ≡ 0
+  keep-not p x n = go (p x) refl
+    where
+      go : (b : Bool) → p x ≡ b → length (keep p (x ∷ [])) ≡ 0
+      go true e = absurd (n (rw e tt))
+      go false e = rw (e, keep)
+
+  -- a test that implies another passes no more elements
+  pub keep-fewer : (p q : A → Bool) → ((x : A) → T (q x) → T (p x)) → (xs : List A) → length (keep q xs) ≤ length (keep p xs)
+  keep-fewer p q h [] = le-refl 0
+  keep-fewer p q h (x ∷ xs) = go (q x) refl (p x) refl (h x) (keep-fewer p q h xs)
+    where
+      go : (b : Bool) → q x ≡ b → (c : Bool) → p x ≡ c → (T (q x) → T (p x)) → length (keep q xs) ≤ length (keep p xs) → length (keep q (x ∷ xs)) ≤ length (keep p (x ∷ xs))
+      go true e true f k l = rw (e, f, keep) (omega arith)
+      go true e false f k l = absurd (rw f at (k (rw e tt)))
+      go false e true f k l = rw (e, f, keep) (omega arith)
+      go false e false f k l = rw (e, f, keep) l
+
+  module _ {B : Type 0} (f : B → Option A) (b : B → Bool) (p q : A → Bool) (weaker : (x : A) → T (q x) → T (p x)) where
+    -- those that pass one test and are chosen, and those that pass a stronger test, are apart if none chosen passes that
+    pub keep-apart : (ns : List B) → ((n : B) (x : A) → List·Memᴰ n ns → T (b n) → f n ≡ some x → T (p x) → ¬ T (q x))
+        → length (keep p (presentOnes (map f (keep b ns)))) + length (keep q (presentOnes (map f ns))) ≤ length (keep p (presentOnes (map f ns)))
+    keep-apart [] h = le-refl 0
+    keep-apart (n ∷ ns) h = go (b n) refl (f n) refl (keep-apart ns (λ m x k. h m x (List·Memᴰ·tail k)))
+      where
+        chosen : List A
+        chosen = presentOnes (map f (keep b ns))
+
+        rest : List A
+        rest = presentOnes (map f ns)
+
+        go : (c : Bool) → b n ≡ c → (o : Option A) → f n ≡ o → length (keep p chosen) + length (keep q rest) ≤ length (keep p rest)
+            → length (keep p (presentOnes (map f (keep b (n ∷ ns))))) + length (keep q (presentOnes (map f (n ∷ ns)))) ≤ length (keep p (presentOnes (map f (n ∷ ns))))
+        go true e none g l = rw (e, keep) (rw (g, presentOnes) l)
+        go false e none g l = rw (e, keep) (rw (g, presentOnes) l)
+        go true e (some x) g l =
+            let apart = keep-not q x (λ t. h n x (List·Memᴰ·head refl) (rw e tt) g (weaker x t) t) in
+            rw (e, keep) (rw (g, presentOnes) (rw (keep-cons p x chosen, keep-cons q x rest, keep-cons p x rest) (omega arith)))
+        go false e (some x) g l =
+            let fewer = keep-fewer p q weaker (x ∷ []) in
+            rw (e, keep) (rw (g, presentOnes) (rw (keep-cons q x rest, keep-cons p x rest) (omega arith)))
+
+  -- numbers one higher
+  map-shift : (g : ℕ → A) (a n : ℕ) → map g (numbersFrom (suc a) n) ≡ map (λ i. g (suc i)) (numbersFrom a n)
+  map-shift g a zero = refl
+  map-shift g a (suc n) = ap (λ r. g (suc a) ∷ r) (map-shift g (suc a) n)
+
+  -- what is found at each place of a list
+  pub map-places : {B : Type 0} (h : Option B → A) (xs : List B) → map (λ i. h (getElem? xs i)) (numbersFrom 0 (length xs)) ≡ map (λ x. h (some x)) xs
+  map-places h [] = refl
+  map-places h (x ∷ xs) = ap (λ r. h (some x) ∷ r) (map-shift (λ i. h (getElem? (x ∷ xs) i)) 0 (length xs) ∙ map-places h xs)

@@ -1,20 +1,20 @@
 -- The laws of reached states: whatever an event needs has a value. Assumes nothing.
-use Prim.Native.Nat.{ℕ, zero, suc, _+_, _≤_, _<_, suc-le-suc}
+use Prim.Native.Nat.{ℕ, zero, suc, _≤_, _<_, suc-le-suc}
 use native.Mathlib.Nat.{not-suc-le-zero, le-of-suc-le-suc, eq-or-lt-of-le}
 use native.Mathlib.Omega.{arith}
 use mathlib.Core.Path.{_≡_, refl, sym, ap, _∙_}
-use mathlib.Core.Logic.{_↔_, _⊎_, inl, inr, ⊎-elim}
-use mathlib.Core.Bool.{Bool, true, false, _&&_, not}
-use mathlib.Core.Option.{Option, none, some, Option·some-injective, Option·none-ne-some}
-use mathlib.Core.List.{List, [], _∷_, _++_, map, List·Memᴰ, List·Memᴰ·head as here, List·Memᴰ·tail as later, List·Memᴰ·not-nil}
-use lib.Dec.{T, ltb, eqb, ltb→lt, eqb→eq}
-use lib.ListN.{length, getElem?, set, length-set, length-map}
-use Rattle.semantics.specs.Basic.{present, andThen, mapped, keep, presentOnes, numbersFrom}
+use mathlib.Core.Logic.{_↔_, ⊎-elim}
+use mathlib.Core.Bool.{Bool, _&&_, not}
+use mathlib.Core.Option.{Option, none, some, Option·some-injective}
+use mathlib.Core.List.{List, [], _∷_, _++_, map, List·Memᴰ, List·Memᴰ·not-nil}
+use lib.Dec.{T, ltb→lt, eqb→eq}
+use lib.ListN.{length, getElem?, length-set, length-map}
+use Rattle.semantics.specs.Basic.{present, keep, presentOnes, numbersFrom}
 use Rattle.semantics.specs.Term.{Atom, trusted, untrusted, global, intruder, role, variable, local, atom?, Term, atom}
 use Rattle.semantics.specs.Table.{Row, atomic, pkOf, skOf, sharedOf, pairOf, encryptedOf, variableAtom}
 use Rattle.semantics.specs.Value.{Reading, asAtoms, withoutVariables, valueOf, beneath}
 use Rattle.semantics.specs.Roles.{EventKind, send, read, claim, Event, Role, peerFits}
-use Rattle.semantics.specs.WellFormed.{wellFormed, readable, learned, eventTerm, roleKnowledge}
+use Rattle.semantics.specs.WellFormed.{wellFormed, learned, eventTerm, roleKnowledge}
 use Rattle.semantics.specs.Inference.{derivable}
 use Rattle.semantics.specs.Runs.{Run, atomOf, atomAt, isAgent}
 use Rattle.semantics.specs.Scenario.{Scenario}
@@ -22,9 +22,9 @@ use Rattle.semantics.specs.State.{Value, Progress, State, inRun, termOf,
 use Rattle.semantics.specs.Moves.{Move, Message, message, toSet, setAfter, messageAfter, advanced}
 use Rattle.semantics.specs.Allowed.{MayTake, anAgent, anIntruder, aLocal, Takes, takesNone, takesMore, Step, step, AllowedTrace}
 use Rattle.semantics.specs.Guarantee.{HasValue, GoodRole, GoodRun, WellFormedEvents, noEvents, moreEvents, Guarantee}
-use Rattle.semantics.specs.laws.Test.{both, both-left, both-right, There, none-there, andThen-there, andThen-some, mapped-there}
+use Rattle.semantics.specs.laws.Test.{both, both-left, both-right, There, none-there, absent-none, andThen-there, andThen-some, mapped-there}
 use Rattle.semantics.specs.laws.List.{mem-cases, mem-keep, mem-present, mem-map, mem-numbersFrom, mem-getElem, getElem-below, getElem-there, set-cases}
-use Rattle.semantics.specs.laws.Inference.{Carried, derives-keeps, derivable-sound}
+use Rattle.semantics.specs.laws.Inference.{derives-keeps, derivable-sound}
 use Rattle.semantics.specs.laws.Value.{substituted, substituted-carried, value-exact, value-term, value-imply}
 use Rattle.semantics.specs.laws.Tree.{follows-good}
 use Rattle.semantics.specs.laws.Moves.{ActiveIn, active-in}
@@ -129,6 +129,14 @@ module _ {rows : List Row} {runs : ℕ} where
 abbrev pub readingOf : Scenario → ℕ → Run → List (Atom × Value) → Reading
 readingOf sc k run sets = readingIn (sc .rows) (suc k) run sets
 
+-- the variables to which an event gives values in a run
+abbrev pub newAt : Scenario → Progress → Event → List Atom
+newAt sc p e = newVariables (sc .rows) (p .values) (e .kind) (e .row)
+
+-- what is set after it
+abbrev pub setAt : Scenario → Progress → Event → List Value → List (Atom × Value)
+setAt sc p e vs = p .values ++ paired (newAt sc p e) vs
+
 -- What holds of a run in a reached state: its values stand for terms, and the events that it has made have values.
 pub record RunReached (sc : Scenario) (k : ℕ) (run : Run) (p : Progress) : Type 0 where
   pub within : p .done ≤ length (eventsOf sc run)
@@ -140,14 +148,14 @@ pub record Reached (sc : Scenario) (s : State) : Type 0 where
   pub counted : length (s .progress) ≡ length (sc .runs)
   pub reached : (k : ℕ) (run : Run) (p : Progress) → getElem? (sc .runs) k ≡ some run → getElem? (s .progress) k ≡ some p → RunReached sc k run p
 
--- what was known and is learned has a property if a term has it
+-- what is known after an event has a property that what was known and the event's term have
 learned-holds : {P : Term → Type 0} (known : List Term) (kind : EventKind) (t : Term) → ((x : Term) → List·Memᴰ x known → P x) → P t
     → (x : Term) → List·Memᴰ x (learned known kind t) → P x
 learned-holds known send t h p x m = h x m
 learned-holds known read t h p x m = mem-cases m (λ e. rw e p) (h x)
 learned-holds known claim t h p x m = h x m
 
--- What a role knows at an event, if it knows and has learned terms with a property only.
+-- An event that is well formed for some knowledge, each term of which has a property.
 record WellFormedAt (rows : List Row) (own : ℕ) (P : Term → Type 0) (e : Event) : Type 0 where
   known : List Term
   term : Term
@@ -155,7 +163,7 @@ record WellFormedAt (rows : List Row) (own : ℕ) (P : Term → Type 0) (e : Eve
   holds : (x : Term) → List·Memᴰ x known → P x
   fits : T (wellFormed own known (e .kind) (e .peer) term)
 
--- each event is well formed for knowledge with a property that the terms of the events before it have
+-- each event is so, if the initial knowledge and the terms of the events before it have the property
 wellFormed-at : {rows : List Row} {own : ℕ} {known : List Term} {es : List Event} (P : Term → Type 0) → WellFormedEvents rows own known es
     → ((x : Term) → List·Memᴰ x known → P x) → (j : ℕ) (e : Event) → getElem? es j ≡ some e
     → ((i : ℕ) (e′ : Event) (t : Term) → getElem? es i ≡ some e′ → i < j → eventTerm rows e′ ≡ some t → P t) → WellFormedAt rows own P e
@@ -199,19 +207,30 @@ reading-grows rows u run sets more (variable n y) w =
     rw (assigned-stays (variable n y) sets more (v .1)) (w .0, v .2)
 reading-grows rows u run sets more (local n c) w = w
 
--- a variable beneath a pattern that is not set is one to set
+-- a variable that is not set
+abbrev pub isUnset : List (Atom × Value) → Atom → Bool
+isUnset sets a = variableAtom a && not (present (assigned a sets))
+
+pub unset-iff : (sets : List (Atom × Value)) (a : Atom) → T (isUnset sets a) ↔ (T (variableAtom a) × (assigned a sets ≡ none))
+unset-iff sets a = (
+  λ t. (both-left (variableAtom a) (not (present (assigned a sets))) t, absent-none (assigned a sets) (both-right (variableAtom a) (not (present (assigned a sets))) t)),
+  λ w. both (variableAtom a) (not (present (assigned a sets))) (w .0) (rw (w .1) tt),
+)
+
+-- such a variable beneath a pattern is one to set
 pub unset-mem : (rows : List Row) (sets : List (Atom × Value)) (pattern x : ℕ) {a : Atom} → atomAt rows x ≡ some a → T (beneath rows x pattern)
-    → T (variableAtom a) → assigned a sets ≡ none → List·Memᴰ a (unsetBeneath rows sets pattern)
+    → T (isUnset sets a) → List·Memᴰ a (unsetBeneath rows sets pattern)
 unfolding unsetBeneath
-unset-mem rows sets pattern x {a} f b t e =
-    let l = getElem-below rows x (atomOf-row (getElem? rows x) f) in
-    let at : List·Memᴰ x (numbersFrom 0 (length rows)) = mem-numbersFrom 0 (length rows) .1 (omega arith) in
-    let below = mem-keep (λ y. beneath rows y pattern) (numbersFrom 0 (length rows)) .1 (at, b) in
-    mem-keep (λ c. variableAtom c && not (present (assigned c sets))) (presentOnes (map (atomAt rows) (keep (λ y. beneath rows y pattern) (numbersFrom 0 (length rows))))) .1 (
-      mem-present (map (atomAt rows) (keep (λ y. beneath rows y pattern) (numbersFrom 0 (length rows)))) .1
-          (mem-map (atomAt rows) (keep (λ y. beneath rows y pattern) (numbersFrom 0 (length rows))) .1 (x, below, sym f)),
-      both (variableAtom a) (not (present (assigned a sets))) t (rw e tt),
-    )
+unset-mem rows sets pattern x f b t =
+    mem-keep (isUnset sets) (presentOnes (map (atomAt rows) places)) .1 (mem-present (map (atomAt rows) places) .1 (mem-map (atomAt rows) places .1 (x, place, sym f)), t)
+  where
+    places : List ℕ
+    places = keep (λ y. beneath rows y pattern) (numbersFrom 0 (length rows))
+
+    place : List·Memᴰ x places
+    place =
+        let l = getElem-below rows x (atomOf-row (getElem? rows x) f) in
+        mem-keep (λ y. beneath rows y pattern) (numbersFrom 0 (length rows)) .1 (mem-numbersFrom 0 (length rows) .1 (omega arith), b)
 
 module _ (own peer : ℕ) (known : List Term) (t : Term) where
   -- what a role sends or claims derives from what it knows
@@ -291,7 +310,7 @@ module _ {sc : Scenario} (g : Guarantee sc) (k : ℕ) {run : Run} (found : getEl
       isSet x a f b t = go (assigned a sets) refl
         where
           go : (o : Option Value) → assigned a sets ≡ o → There (assigned a (sets ++ more))
-          go none e = rw (assigned-new a sets more e) (takes-set h (unset-mem (sc .rows) sets row x f b t e))
+          go none e = rw (assigned-new a sets more e) (takes-set h (unset-mem (sc .rows) sets row x f b (unset-iff sets a .1 (t, e))))
           go (some v) e = (v, assigned-stays a sets more e)
 
   module _ (p : Progress) (r : RunReached sc k run p) (e : Event) (next : getElem? (eventsOf sc run) (p .done) ≡ some e) where
@@ -315,8 +334,8 @@ module _ {sc : Scenario} (g : Guarantee sc) (k : ℕ) {run : Run} (found : getEl
         (derives-keeps (substituted-carried (readingOf sc k run (p .values))) (known-reads .holds) (derivable-sound (known-reads .known) (known-reads .term) d))
 
     -- with the new variables set, the event's row has a value
-    next-reads : {vs : List Value} → Takes (sc .rows) (length (sc .runs)) (newVariables (sc .rows) (p .values) (e .kind) (e .row)) vs
-        → HasValue (readingOf sc k run (p .values ++ paired (newVariables (sc .rows) (p .values) (e .kind) (e .row)) vs)) (sc .rows) (e .row)
+    next-reads : {vs : List Value} → Takes (sc .rows) (length (sc .runs)) (newAt sc p e) vs
+        → HasValue (readingOf sc k run (setAt sc p e vs)) (sc .rows) (e .row)
     unfolding newVariables
     next-reads {vs} h = go (e .kind) (known-reads .fits) h
       where
@@ -328,8 +347,8 @@ module _ {sc : Scenario} (g : Guarantee sc) (k : ℕ) {run : Run} (found : getEl
         go claim w t = value-grows (p .values) (paired [] vs) (e .row) (derived-reads (claimed-derives (run .role) (e .peer) (known-reads .known) (known-reads .term) w))
 
     -- the event leaves the run reached
-    run-advances : {vs : List Value} → Takes (sc .rows) (length (sc .runs)) (newVariables (sc .rows) (p .values) (e .kind) (e .row)) vs
-        → RunReached sc k run (record { done = suc (p .done); values = p .values ++ paired (newVariables (sc .rows) (p .values) (e .kind) (e .row)) vs })
+    run-advances : {vs : List Value} → Takes (sc .rows) (length (sc .runs)) (newAt sc p e) vs
+        → RunReached sc k run (record { done = suc (p .done); values = setAt sc p e vs })
     run-advances {vs} h = record {
       within = getElem-below (eventsOf sc run) (p .done) next;
       standing = standing-append (sc .rows) (p .values) more (r .standing) (takes-standing h);
@@ -337,7 +356,7 @@ module _ {sc : Scenario} (g : Guarantee sc) (k : ℕ) {run : Run} (found : getEl
     }
       where
         more : List (Atom × Value)
-        more = paired (newVariables (sc .rows) (p .values) (e .kind) (e .row)) vs
+        more = paired (newAt sc p e) vs
 
         last : (j : ℕ) (d : Event) → getElem? (eventsOf sc run) j ≡ some d → suc j ≡ suc (p .done) → HasValue (readingOf sc k run (p .values ++ more)) (sc .rows) (d .row)
         last j d f q =
@@ -345,27 +364,29 @@ module _ {sc : Scenario} (g : Guarantee sc) (k : ℕ) {run : Run} (found : getEl
             rw (Option·some-injective d e (sym f ∙ ap (getElem? (eventsOf sc run)) same ∙ next)) (next-reads h)
 
     -- the event has a message
-    next-message : {vs : List Value} → Takes (sc .rows) (length (sc .runs)) (newVariables (sc .rows) (p .values) (e .kind) (e .row)) vs
-        → There (message (sc .rows) (readingOf sc k run (p .values ++ paired (newVariables (sc .rows) (p .values) (e .kind) (e .row)) vs)) run e)
+    next-message : {vs : List Value} → Takes (sc .rows) (length (sc .runs)) (newAt sc p e) vs
+        → There (message (sc .rows) (readingOf sc k run (setAt sc p e vs)) run e)
     unfolding message
     next-message {vs} h =
         let l = good-run .rolePresent in
-        andThen-there _ _ (role-reads sets (run .role) l) λ a q.
-        andThen-there _ _ (role-reads sets (e .peer) (peer-within (length (sc .roles)) (e .kind) (e .peer) (omega arith) (good-role .peers e event-of))) λ b q′.
+        let peer = peer-within (length (sc .roles)) (e .kind) (e .peer) (omega arith) (good-role .peers e event-of) in
+        andThen-there _ _ (role-reads (setAt sc p e vs) (run .role) l) λ a q.
+        andThen-there _ _ (role-reads (setAt sc p e vs) (e .peer) peer) λ b q′.
         mapped-there _ _ .1 (next-reads h)
-      where
-        sets : List (Atom × Value)
-        sets = p .values ++ paired (newVariables (sc .rows) (p .values) (e .kind) (e .row)) vs
+
+-- a run that has made no event
+abbrev pub unmoved : Progress
+unmoved = record { done = 0; values = [] }
 
 -- at the start every run is reached
 initial-reached : (sc : Scenario) → Reached sc (initial sc)
 unfolding initial assigned
 initial-reached sc = record {
-  counted = length-map (sc .runs) (λ run. record { done = 0; values = [] });
-  reached = λ k run p f h. start k run p (mem-map (λ run. record { done = 0; values = [] }) (sc .runs) .0 (mem-getElem (map (λ run. record { done = 0; values = [] }) (sc .runs)) .1 (k, h)) .2);
+  counted = length-map (sc .runs) (λ run. unmoved);
+  reached = λ k run p f h. start k run p (mem-map (λ run. unmoved) (sc .runs) .0 (mem-getElem (map (λ run. unmoved) (sc .runs)) .1 (k, h)) .2);
 }
   where
-    start : (k : ℕ) (run : Run) (p : Progress) → p ≡ record { done = 0; values = [] } → RunReached sc k run p
+    start : (k : ℕ) (run : Run) (p : Progress) → p ≡ unmoved → RunReached sc k run p
     start k run p e = rw e (record { within = omega arith; standing = λ x v q. none-there (v, q); passed = λ j d f l. absurd (not-suc-le-zero l) })
 
 module _ {sc : Scenario} (g : Guarantee sc) where
@@ -378,7 +399,7 @@ module _ {sc : Scenario} (g : Guarantee sc) where
   })
     where
       after : Progress
-      after = record { done = suc (a .progress .done); values = a .progress .values ++ paired (toSet sc a) (m .values) }
+      after = record { done = suc (a .progress .done); values = setAt sc (a .progress) (a .event) (m .values) }
 
       moved : (k : ℕ) (run : Run) (p : Progress) → getElem? (sc .runs) k ≡ some run → k ≡ a .index → p ≡ after → RunReached sc k run p
       moved k run p f x y =

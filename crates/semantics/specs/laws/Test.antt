@@ -131,6 +131,11 @@ There {A} o = (x : A) × (o ≡ some x)
 pub none-there : {A P : Type 0} → There {A = A} none → P
 none-there w = absurd (Option·none-ne-some (w .0) (w .1))
 
+-- what is not present is none
+pub absent-none : {A : Type 0} (o : Option A) → T (not (present o)) → o ≡ none
+absent-none none t = refl
+absent-none (some x) t = absurd t
+
 module _ {A B : Type 0} where
   -- what follows from a value is there if the value is and if that follows
   pub andThen-there : (f : A → Option B) (o : Option A) → There o → ((x : A) → o ≡ some x → There (f x)) → There (andThen o f)

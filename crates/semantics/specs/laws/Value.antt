@@ -3,9 +3,9 @@ use Prim.Native.Nat.{ℕ, zero, suc, _+_, _≤_, _<_}
 use native.Mathlib.Nat.{add-zero, zero-add, not-suc-le-zero}
 use native.Mathlib.Omega.{arith}
 use native.Mathlib.Decide.{decLt}
-use mathlib.Core.Path.{_≡_, refl, sym, ap, _∙_}
+use mathlib.Core.Path.{_≡_, refl, sym, _∙_}
 use mathlib.Core.Logic.{_↔_, _⊎_, inl, inr, ⊎-elim, ⊎-map, Iff·rfl}
-use mathlib.Core.Bool.{Bool, true, false, _||_}
+use mathlib.Core.Bool.{Bool, false, _||_}
 use mathlib.Core.Option.{Option, none, some, Option·some-injective, Option·none-ne-some}
 use mathlib.Core.List.{List, [], _∷_, _++_, append-nil, List·Memᴰ, List·Memᴰ·head as here, List·Memᴰ·tail as later, List·Memᴰ·not-nil, List·Memᴰ·eq-of-singleton}
 use lib.Dec.{T, eqb, eqb→eq, eqb-refl}
@@ -64,76 +64,16 @@ rowBeneath x i below (sharedOf a b) = eqb x i || (below a || below b)
 rowBeneath x i below (pairOf l r) = eqb x i || (below l || below r)
 rowBeneath x i below (encryptedOf l r) = eqb x i || (below l || below r)
 
-module _ {rows : List Row} (good : GoodTable rows) where
-  -- each result of a fold, with a default
-  folded-row : {A : Type 0} (f : List A → Row → A) (d : A) (i : ℕ) {row : Row} → getElem? rows i ≡ some row
-      → getD (folded f [] rows) i d ≡ f (take i (folded f [] rows)) row
-  folded-row f d i e = getElem-getD (folded f [] rows) i d (rw zero-add at (folded-at f [] rows i e))
-
-  -- the results of the rows referred to are among those below
-  referred : {A : Type 0} (vs : List A) (d : A) (i : ℕ) {row : Row} → getElem? rows i ≡ some row → (r : ℕ) → List·Memᴰ r (refersTo row)
-      → getD (take i vs) r d ≡ getD vs r d
-  referred vs d i {row} e r m = getD-take i vs r d (good .lower i row e r m)
-
-  -- a row's value comes from the values of the rows that it refers to
-  pub value-unfolds : (reading : Reading) (i : ℕ) {row : Row} → getElem? rows i ≡ some row
-      → valueOf reading rows i ≡ rowValue reading (valueOf reading rows) row
-  unfolding valueOf values valueFrom
-  value-unfolds reading i {row} e = folded-row (valueFrom reading) none i e ∙ go row (referred vs none i e)
-    where
-      vs : List (Option Term)
-      vs = folded (valueFrom reading) [] rows
-
-      go : (row : Row) → ((r : ℕ) → List·Memᴰ r (refersTo row) → getD (take i vs) r none ≡ getD vs r none)
-          → valueFrom reading (take i vs) row ≡ rowValue reading (λ r. getD vs r none) row
-      go (atomic a) h = refl
-      go (pkOf a) h = rw (h a (here refl))
-      go (skOf a) h = rw (h a (here refl))
-      go (sharedOf a b) h = rw (h a (here refl), h b (later (here refl)))
-      go (pairOf l r) h = rw (h l (here refl), h r (later (here refl)))
-      go (encryptedOf l r) h = rw (h l (here refl), h r (later (here refl)))
-
-  -- and so does what lies beneath it
-  pub beneath-unfolds : (x i : ℕ) {row : Row} → getElem? rows i ≡ some row → beneath rows x i ≡ rowBeneath x i (beneath rows x) row
-  unfolding beneath beneathFrom
-  beneath-unfolds x i {row} e = folded-row (beneathFrom x) false i e ∙ go row (referred bs false i e)
-    where
-      bs : List Bool
-      bs = folded (beneathFrom x) [] rows
-
-      own : length (take i bs) ≡ i
-      own = let l = getElem-below rows i e in length-take-le i bs (rw (folded-length (beneathFrom x) [] rows) (omega arith))
-
-      go : (row : Row) → ((r : ℕ) → List·Memᴰ r (refersTo row) → getD (take i bs) r false ≡ getD bs r false)
-          → beneathFrom x (take i bs) row ≡ rowBeneath x i (λ r. getD bs r false) row
-      go (atomic a) h = rw own
-      go (pkOf a) h = rw (own, h a (here refl))
-      go (skOf a) h = rw (own, h a (here refl))
-      go (sharedOf a b) h = rw (own, h a (here refl), h b (later (here refl)))
-      go (pairOf l r) h = rw (own, h l (here refl), h r (later (here refl)))
-      go (encryptedOf l r) h = rw (own, h l (here refl), h r (later (here refl)))
-
-  -- What holds of a row if it holds of the rows that it refers to holds of every row.
-  pub row-induction : (P : ℕ → Type 0) → ((i : ℕ) (row : Row) → getElem? rows i ≡ some row → ((r : ℕ) → List·Memᴰ r (refersTo row) → P r) → P i)
-      → (i : ℕ) → i < length rows → P i
-  row-induction P up i l = upTo (length rows) i l l
-    where
-      upTo : (n i : ℕ) → i < n → i < length rows → P i
-      upTo zero i l within = absurd (not-suc-le-zero l)
-      upTo (suc n) i l within =
-          let w = getElem-there rows i within in
-          up i (w .0) (w .1) (λ r m. let b = good .lower i (w .0) (w .1) r m in upTo n r (omega arith) (omega arith))
-
 module _ (x i : ℕ) (below : ℕ → Bool) where
   -- beneath a row that refers to one row, and to two
-  one : (a : ℕ) → T (eqb x i || below a) ↔ ((x ≡ i) ⊎ ((r : ℕ) × List·Memᴰ r (a ∷ []) × T (below r)))
-  one a = (
+  beneath-one : (a : ℕ) → T (eqb x i || below a) ↔ ((x ≡ i) ⊎ ((r : ℕ) × List·Memᴰ r (a ∷ []) × T (below r)))
+  beneath-one a = (
     λ t. ⊎-map (eqb→eq x i) (λ u. (a, here refl, u)) (either-cases (eqb x i) (below a) t),
-    ⊎-elim (λ e. either-left (eqb x i) (below a) (rw e (eqb-refl i))) (λ w. either-right (eqb x i) (below a) (mem-cases (w .1) (λ e. rw e at (w .2)) (λ m. absurd (List·Memᴰ·not-nil m)))),
+    ⊎-elim (λ e. either-left (eqb x i) (below a) (rw e (eqb-refl i))) (λ w. either-right (eqb x i) (below a) (rw (List·Memᴰ·eq-of-singleton (w .1)) at (w .2))),
   )
 
-  two : (a b : ℕ) → T (eqb x i || (below a || below b)) ↔ ((x ≡ i) ⊎ ((r : ℕ) × List·Memᴰ r (a ∷ b ∷ []) × T (below r)))
-  two a b = (
+  beneath-two : (a b : ℕ) → T (eqb x i || (below a || below b)) ↔ ((x ≡ i) ⊎ ((r : ℕ) × List·Memᴰ r (a ∷ b ∷ []) × T (below r)))
+  beneath-two a b = (
     λ t. ⊎-map (eqb→eq x i) (λ u. ⊎-elim (λ v. (a, here refl, v)) (λ v. (b, later (here refl), v)) (either-cases (below a) (below b) u)) (either-cases (eqb x i) (below a || below b) t),
     ⊎-elim (λ e. either-left (eqb x i) (below a || below b) (rw e (eqb-refl i)))
         (λ w. either-right (eqb x i) (below a || below b)
@@ -144,11 +84,11 @@ module _ (x i : ℕ) (below : ℕ → Bool) where
 -- a row lies beneath itself, and what lies beneath a row referred to lies beneath the row: nothing else does
 rowBeneath-iff : (x i : ℕ) (below : ℕ → Bool) (row : Row) → T (rowBeneath x i below row) ↔ ((x ≡ i) ⊎ ((r : ℕ) × List·Memᴰ r (refersTo row) × T (below r)))
 rowBeneath-iff x i below (atomic a) = (λ t. inl (eqb→eq x i t), ⊎-elim (λ e. rw e (eqb-refl i)) (λ w. absurd (List·Memᴰ·not-nil (w .1))))
-rowBeneath-iff x i below (pkOf a) = one x i below a
-rowBeneath-iff x i below (skOf a) = one x i below a
-rowBeneath-iff x i below (sharedOf a b) = two x i below a b
-rowBeneath-iff x i below (pairOf l r) = two x i below l r
-rowBeneath-iff x i below (encryptedOf l r) = two x i below l r
+rowBeneath-iff x i below (pkOf a) = beneath-one x i below a
+rowBeneath-iff x i below (skOf a) = beneath-one x i below a
+rowBeneath-iff x i below (sharedOf a b) = beneath-two x i below a b
+rowBeneath-iff x i below (pairOf l r) = beneath-two x i below l r
+rowBeneath-iff x i below (encryptedOf l r) = beneath-two x i below l r
 
 -- a term with its atoms read; none where an atom has no value
 abbrev pub substituted : Reading → Term → Option Term
@@ -227,33 +167,6 @@ module _ (reading : Reading) (value : ℕ → Option Term) where
 abbrev pub ReadBeneath : Reading → List Row → ℕ → Type 0
 ReadBeneath reading rows i = (x : ℕ) (a : Atom) → atomAt rows x ≡ some a → T (beneath rows x i) → There (reading a)
 
-module _ {rows : List Row} (good : GoodTable rows) where
-  -- what lies beneath a row: itself, and what lies beneath the rows that it refers to
-  pub beneath-iff : (x i : ℕ) {row : Row} → getElem? rows i ≡ some row
-      → T (beneath rows x i) ↔ ((x ≡ i) ⊎ ((r : ℕ) × List·Memᴰ r (refersTo row) × T (beneath rows x r)))
-  beneath-iff x i {row} e = rw (beneath-unfolds good x i e) (rowBeneath-iff x i (beneath rows x) row)
-
-  module _ (reading : Reading) where
-    -- a row has a value exactly if every atom beneath it has one
-    pub value-exact : (i : ℕ) → i < length rows → HasValue reading rows i ↔ ReadBeneath reading rows i
-    value-exact = row-induction good (λ i. HasValue reading rows i ↔ ReadBeneath reading rows i) λ i row e below.
-        let asked = rowValue-there reading (valueOf reading rows) row in (
-          λ w x a f b.
-              let h = asked .0 (rw (value-unfolds good reading i e) at w) in
-              ⊎-elim (λ q. h .0 a (rw e at (rw q at f))) (λ v. below (v .0) (v .1) .0 (h .1 (v .0) (v .1)) x a f (v .2)) (beneath-iff x i e .0 b),
-          λ h.
-              rw (value-unfolds good reading i e)
-              (asked .1 (
-                λ a f. h i a (rw e f) (beneath-iff i i e .1 (inl refl)),
-                λ r m. below r m .1 (λ x a f b. h x a f (beneath-iff x i e .1 (inr (r, m, b)))),
-              )),
-        )
-
-    -- a row's value is its role-level term with the atoms read
-    pub value-substituted : (i : ℕ) → i < length rows → valueOf reading rows i ≡ andThen (valueOf asAtoms rows i) (substituted reading)
-    value-substituted = row-induction good (λ i. valueOf reading rows i ≡ andThen (valueOf asAtoms rows i) (substituted reading)) λ i row e below.
-        rw (value-unfolds good reading i e, value-unfolds good asAtoms i e) (substituted-row reading (valueOf reading rows) (valueOf asAtoms rows) row below)
-
 -- a row with a value is in the table
 pub value-within : (reading : Reading) (rows : List Row) (i : ℕ) → HasValue reading rows i → i < length rows
 unfolding valueOf values
@@ -266,17 +179,102 @@ value-within reading rows i w = go (decLt i (length rows))
         none-there (rw (List·getD-eq-default (values reading rows) none enough) at w)
 
 module _ {rows : List Row} (good : GoodTable rows) where
+  -- each result of a fold, with a default
+  folded-row : {A : Type 0} (f : List A → Row → A) (d : A) (i : ℕ) {row : Row} → getElem? rows i ≡ some row
+      → getD (folded f [] rows) i d ≡ f (take i (folded f [] rows)) row
+  folded-row f d i e = getElem-getD (folded f [] rows) i d (rw zero-add at (folded-at f [] rows i e))
+
+  -- the results of the rows referred to are among those below
+  referred : {A : Type 0} (vs : List A) (d : A) (i : ℕ) {row : Row} → getElem? rows i ≡ some row → (r : ℕ) → List·Memᴰ r (refersTo row)
+      → getD (take i vs) r d ≡ getD vs r d
+  referred vs d i {row} e r m = getD-take i vs r d (good .lower i row e r m)
+
+  -- a row's value comes from the values of the rows that it refers to
+  pub value-unfolds : (reading : Reading) (i : ℕ) {row : Row} → getElem? rows i ≡ some row
+      → valueOf reading rows i ≡ rowValue reading (valueOf reading rows) row
+  unfolding valueOf values valueFrom
+  value-unfolds reading i {row} e = folded-row (valueFrom reading) none i e ∙ go row (referred vs none i e)
+    where
+      vs : List (Option Term)
+      vs = folded (valueFrom reading) [] rows
+
+      go : (row : Row) → ((r : ℕ) → List·Memᴰ r (refersTo row) → getD (take i vs) r none ≡ getD vs r none)
+          → valueFrom reading (take i vs) row ≡ rowValue reading (λ r. getD vs r none) row
+      go (atomic a) h = refl
+      go (pkOf a) h = rw (h a (here refl))
+      go (skOf a) h = rw (h a (here refl))
+      go (sharedOf a b) h = rw (h a (here refl), h b (later (here refl)))
+      go (pairOf l r) h = rw (h l (here refl), h r (later (here refl)))
+      go (encryptedOf l r) h = rw (h l (here refl), h r (later (here refl)))
+
+  -- and so does what lies beneath it
+  pub beneath-unfolds : (x i : ℕ) {row : Row} → getElem? rows i ≡ some row → beneath rows x i ≡ rowBeneath x i (beneath rows x) row
+  unfolding beneath beneathFrom
+  beneath-unfolds x i {row} e = folded-row (beneathFrom x) false i e ∙ go row (referred bs false i e)
+    where
+      bs : List Bool
+      bs = folded (beneathFrom x) [] rows
+
+      own : length (take i bs) ≡ i
+      own = let l = getElem-below rows i e in length-take-le i bs (rw (folded-length (beneathFrom x) [] rows) (omega arith))
+
+      go : (row : Row) → ((r : ℕ) → List·Memᴰ r (refersTo row) → getD (take i bs) r false ≡ getD bs r false)
+          → beneathFrom x (take i bs) row ≡ rowBeneath x i (λ r. getD bs r false) row
+      go (atomic a) h = rw own
+      go (pkOf a) h = rw (own, h a (here refl))
+      go (skOf a) h = rw (own, h a (here refl))
+      go (sharedOf a b) h = rw (own, h a (here refl), h b (later (here refl)))
+      go (pairOf l r) h = rw (own, h l (here refl), h r (later (here refl)))
+      go (encryptedOf l r) h = rw (own, h l (here refl), h r (later (here refl)))
+
+  -- What holds of a row if it holds of the rows that it refers to holds of every row.
+  pub row-induction : (P : ℕ → Type 0) → ((i : ℕ) (row : Row) → getElem? rows i ≡ some row → ((r : ℕ) → List·Memᴰ r (refersTo row) → P r) → P i)
+      → (i : ℕ) → i < length rows → P i
+  row-induction P up i l = upTo (length rows) i l l
+    where
+      upTo : (n i : ℕ) → i < n → i < length rows → P i
+      upTo zero i l within = absurd (not-suc-le-zero l)
+      upTo (suc n) i l within =
+          let w = getElem-there rows i within in
+          up i (w .0) (w .1) (λ r m. let b = good .lower i (w .0) (w .1) r m in upTo n r (omega arith) (omega arith))
+
+  -- what lies beneath a row: itself, and what lies beneath the rows that it refers to
+  pub beneath-iff : (x i : ℕ) {row : Row} → getElem? rows i ≡ some row
+      → T (beneath rows x i) ↔ ((x ≡ i) ⊎ ((r : ℕ) × List·Memᴰ r (refersTo row) × T (beneath rows x r)))
+  beneath-iff x i {row} e = rw (beneath-unfolds x i e) (rowBeneath-iff x i (beneath rows x) row)
+
+  module _ (reading : Reading) where
+    -- a row has a value exactly if every atom beneath it has one
+    pub value-exact : (i : ℕ) → i < length rows → HasValue reading rows i ↔ ReadBeneath reading rows i
+    value-exact = row-induction (λ i. HasValue reading rows i ↔ ReadBeneath reading rows i) λ i row e below.
+        let asked = rowValue-there reading (valueOf reading rows) row in (
+          λ w x a f b.
+              let h = asked .0 (rw (value-unfolds reading i e) at w) in
+              ⊎-elim (λ q. h .0 a (rw e at (rw q at f))) (λ v. below (v .0) (v .1) .0 (h .1 (v .0) (v .1)) x a f (v .2)) (beneath-iff x i e .0 b),
+          λ h.
+              rw (value-unfolds reading i e)
+              (asked .1 (
+                λ a f. h i a (rw e f) (beneath-iff i i e .1 (inl refl)),
+                λ r m. below r m .1 (λ x a f b. h x a f (beneath-iff x i e .1 (inr (r, m, b)))),
+              )),
+        )
+
+    -- a row's value is its role-level term with the atoms read
+    pub value-substituted : (i : ℕ) → i < length rows → valueOf reading rows i ≡ andThen (valueOf asAtoms rows i) (substituted reading)
+    value-substituted = row-induction (λ i. valueOf reading rows i ≡ andThen (valueOf asAtoms rows i) (substituted reading)) λ i row e below.
+        rw (value-unfolds reading i e, value-unfolds asAtoms i e) (substituted-row reading (valueOf reading rows) (valueOf asAtoms rows) row below)
+
   -- in a table every row has a role-level value
   pub asAtoms-value : (i : ℕ) → i < length rows → HasValue asAtoms rows i
-  asAtoms-value i l = value-exact good asAtoms i l .1 (λ x a f b. (atom a, refl))
+  asAtoms-value i l = value-exact asAtoms i l .1 (λ x a f b. (atom a, refl))
 
   -- a row has a value exactly if its role-level term has
   pub value-term : (reading : Reading) (i : ℕ) {t : Term} → valueOf asAtoms rows i ≡ some t → HasValue reading rows i ↔ There (substituted reading t)
-  value-term reading i {t} e = rw (value-substituted good reading i (value-within asAtoms rows i (t, e)), e) Iff·rfl
+  value-term reading i {t} e = rw (value-substituted reading i (value-within asAtoms rows i (t, e)), e) Iff·rfl
 
   -- a row keeps a value where every atom of the table does
   pub value-imply : (reading reading′ : Reading) → ((x : ℕ) (a : Atom) → atomAt rows x ≡ some a → There (reading a) → There (reading′ a))
       → (i : ℕ) → HasValue reading rows i → HasValue reading′ rows i
   value-imply reading reading′ h i w =
       let l = value-within reading rows i w in
-      value-exact good reading′ i l .1 (λ x a f b. h x a f (value-exact good reading i l .0 w x a f b))
+      value-exact reading′ i l .1 (λ x a f b. h x a f (value-exact reading i l .0 w x a f b))
