@@ -1,0 +1,25 @@
+-- The rows of a table of bytes. Assumes nothing.
+use Prim.Native.Nat.{ℕ, _+_, _*_}
+use mathlib.Core.Path.{_≡_}
+use mathlib.Core.List.{List, []}
+use mathlib.Core.Option.{Option}
+use lib.ListN.{getD}
+use Rattle.semantics.specs.Answer.{Answer, refused, accepted}
+use Rattle.semantics.specs.Table.{Row, decode, rowsFrom}
+
+-- the rows of an answer, none of a refusal
+abbrev pub rowsOr : Answer (List Row) → List Row
+rowsOr (refused r) = []
+rowsOr (accepted rows) = rows
+
+-- the rows of some bytes that are a table
+unfoldable pub rowsOf : List ℕ → List Row
+rowsOf bytes = rowsOr (rowsFrom 0 [] bytes)
+
+-- the bytes are a table: no row is refused
+abbrev pub IsTable : List ℕ → Type 0
+IsTable bytes = rowsFrom 0 [] bytes ≡ accepted (rowsOf bytes)
+
+-- the three bytes of a row, decoded
+unfoldable pub decodedAt : List ℕ → ℕ → Option Row
+decodedAt bytes i = decode (getD bytes (3 * i) 0) (getD bytes (3 * i + 1) 0) (getD bytes (3 * i + 2) 0)

@@ -1,0 +1,2 @@
+-- The laws of rows, with their proofs.
+pub mod Decodes

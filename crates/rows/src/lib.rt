@@ -1,0 +1,35 @@
+// Access to the rows of a table, three bytes each: kind, left, right.
+ghost use mathlib.Core.Path.{_≡_};
+ghost use Prim.Native.Nat.{_+_, _*_, _<_};
+ghost use lib.ListN.{length, getD};
+
+// A byte as a number.
+pub fn wide(x: u8) -> usize
+    ensures { λ r. ⌜ (r ≡ x) × (r < 256) ⌝ }
+{
+    x as usize
+}
+
+// The kind of a row.
+pub fn kind_of(t: &[u8], r: usize) -> usize
+    requires { ⌜ 3 * r + 2 < length (now t) ⌝ }
+    ensures { λ k. ⌜ (k ≡ getD (now (t .entry)) (3 * r) 0) × (k < 256) ⌝ }
+{
+    wide(t[3 * r])
+}
+
+// The left byte of a row.
+pub fn left_of(t: &[u8], r: usize) -> usize
+    requires { ⌜ 3 * r + 2 < length (now t) ⌝ }
+    ensures { λ k. ⌜ (k ≡ getD (now (t .entry)) (3 * r + 1) 0) × (k < 256) ⌝ }
+{
+    wide(t[3 * r + 1])
+}
+
+// The right byte of a row.
+pub fn right_of(t: &[u8], r: usize) -> usize
+    requires { ⌜ 3 * r + 2 < length (now t) ⌝ }
+    ensures { λ k. ⌜ (k ≡ getD (now (t .entry)) (3 * r + 2) 0) × (k < 256) ⌝ }
+{
+    wide(t[3 * r + 2])
+}
