@@ -2,12 +2,11 @@
 use Prim.Native.Nat.{ℕ, _+_, _*_}
 use native.Mathlib.Omega.{arith}
 use mathlib.Core.Path.{_≡_, sym, ap, _∙_}
-use lib.ListN.{getD, take, getElem?}
+use lib.ListN.{getD, getElem?}
 use borrow.Author.Needs.{needs}
 use Rattle.semantics.specs.Table.{agentLike}
-use Rattle.rows.specs.Rows.{rowsOf}
 use Rattle.table.specs.laws.Decode.{agentKind, agent-kinds, other-kinds}
-use Rattle.table.specs.laws.Below.{below-none, below-agent}
+use Rattle.table.specs.laws.Below.{rowsBelow, below-none, below-agent}
 use Rattle.table.proofs.agent_like.Statement.{statement}
 use Rattle.table.proofs.agent_like.Tie as tie
 
@@ -20,7 +19,7 @@ right c = getD (c .before .before .before .args .t .now) (3 * c .before .before 
 
 -- what the row is by its kind
 here : (c : tie.After-kind-of)
-    → agentLike (getElem? (rowsOf (take (3 * c .before .before .before .args .i) (c .before .before .before .args .t .now))) (c .before .before .before .args .a))
+    → agentLike (getElem? (rowsBelow (c .before .before .before .args .t .now) (c .before .before .before .args .i)) (c .before .before .before .args .a))
     ≡ agentKind (c .kind-of .result) (right c)
 here c = let s = c .before .before .before in below-agent (s .args .t .now) (s .args .i) (s .pre .0) (s .pre .1) (s .args .a) (c .before .if1 .left) (c .kind-of .ensures .0)
 

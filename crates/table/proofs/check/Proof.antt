@@ -26,7 +26,7 @@ returns c = let l = c .before in
 returns-2 : tie.Need-returns-2 Inv-loop μ-loop
 returns-2 c = let l = c .before .before in
     let s = l .before .before in
-    passed-short (s .args .t .now) (l .loop .i) (l .loop .variables) (l .loop .inv) (s .args .at) (c .before .if1 .left) (c .if2 .taken)
+    passed-short (s .args .t .now) (l .loop .i) (l .loop .variables) (l .loop .inv) (s .args .at) (c .before .if1 .left) (omega arith)
 
 returns-3 : tie.Need-returns-3 Inv-loop μ-loop
 returns-3 c = let l = c .before .before .before .before in

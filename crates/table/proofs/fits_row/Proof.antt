@@ -1,25 +1,25 @@
 -- `table::fits_row` meets its contract: kind by kind, the code tests what the definition asks. Assumes nothing.
-use Prim.Native.Nat.{ℕ, _*_}
+use Prim.Native.Nat.{ℕ}
 use native.Mathlib.Omega.{arith}
 use mathlib.Core.Path.{_≡_, refl, sym, ap, _∙_}
 use mathlib.Core.Logic.{⊎-elim, inl, inr}
 use mathlib.Core.List.{List}
 use lib.Dec.{ltb}
-use lib.ListN.{take, getElem?}
+use lib.ListN.{getElem?}
 use borrow.Author.Needs.{needs}
 use borrow.Author.Tests.{lt-ltb, le-ltb}
 use Rattle.semantics.specs.Basic.{present}
 use Rattle.semantics.specs.Table.{Row, decode}
-use Rattle.rows.specs.Rows.{rowsOf, decodedAt}
+use Rattle.rows.specs.Rows.{decodedAt}
 use Rattle.table.specs.Check.{fitsDecoded}
-use Rattle.table.specs.laws.Below.{below-length, present-below}
+use Rattle.table.specs.laws.Below.{rowsBelow, below-length, present-below}
 use Rattle.table.specs.laws.Fits.{decoded-as, fits-plain, fits-variable, fits-none, fits-role, fits-role-not, fits-key, fits-key-not, fits-shared, fits-shared-not, fits-pair, fits-pair-not, fits-encrypted, fits-encrypted-not}
 use Rattle.table.proofs.fits_row.Statement.{statement}
 use Rattle.table.proofs.fits_row.Tie as tie
 
 -- the rows below row i
 abbrev below : tie.Start → List Row
-below s = rowsOf (take (3 * s .args .i) (s .args .t .now))
+below s = rowsBelow (s .args .t .now) (s .args .i)
 
 -- a number of a row is below i exactly if there is such a row
 is-below : (s : tie.Start) (x : ℕ) → ltb x (s .args .i) ≡ present (getElem? (below s) x)

@@ -21,7 +21,7 @@ loop-holds c = (omega arith, below-none _)
 
 returns : tie.Need-returns Inv-loop μ-loop
 returns c = let s = c .before .before .before .before .before in
-    sym (repeats-yes (s .args .t .now) (s .args .i) (omega arith) (s .pre .1) (c .before .before .before .loop .j) (c .before .before .loop-test .taken) (sym (c .before .same-bytes .ensures) ∙ c .if1 .taken))
+    sym (repeats-yes (s .args .t .now) (s .args .i) (omega arith) (s .pre .1) (c .before .before .before .loop .j) (omega arith) (sym (c .before .same-bytes .ensures) ∙ c .if1 .taken))
 
 loop-again : tie.Need-loop-again Inv-loop μ-loop
 loop-again c = (omega arith, below-more _ _ (c .before .before .before .loop .inv .1) (sym (c .before .same-bytes .ensures) ∙ c .if1 .left))

@@ -18,6 +18,10 @@ use Rattle.rows.specs.laws.Decodes.{Decodes, table-length}
 use Rattle.table.specs.laws.Decode.{agentKind, decodes-agent, decodes-pair}
 use Rattle.table.specs.laws.Table.{row-bytes}
 
+-- the rows below row i
+abbrev pub rowsBelow : List ℕ → ℕ → List Row
+rowsBelow t i = rowsOf (take (3 * i) t)
+
 -- a place past the end has no element
 pub getElem-past : {A : Type 0} (xs : List A) (i : ℕ) → length xs ≤ i → getElem? xs i ≡ none
 getElem-past [] i l = refl
@@ -34,24 +38,24 @@ present-below xs i n e = go (ltb i n) refl
 
 module _ (t : List ℕ) (i : ℕ) (within : 3 * i ≤ length t) (table : IsTable (take (3 * i) t)) where
   -- there are i rows below row i
-  pub below-length : length (rowsOf (take (3 * i) t)) ≡ i
+  pub below-length : length (rowsBelow t i) ≡ i
   below-length = omega (arith, table-length (take (3 * i) t) table, length-take-le (3 * i) t within)
 
   module _ (a : ℕ) where
     -- there is no row from i on
-    pub below-none : i ≤ a → getElem? (rowsOf (take (3 * i) t)) a ≡ none
-    below-none l = getElem-past (rowsOf (take (3 * i) t)) a (omega (arith, below-length))
+    pub below-none : i ≤ a → getElem? (rowsBelow t i) a ≡ none
+    below-none l = getElem-past (rowsBelow t i) a (omega (arith, below-length))
 
     -- a row below row i and its three bytes
-    pub below-row : a < i → (row : Row) × (getElem? (rowsOf (take (3 * i) t)) a ≡ some row) × Decodes (getD t (3 * a) 0) (getD t (3 * a + 1) 0) (getD t (3 * a + 2) 0) row
+    pub below-row : a < i → (row : Row) × (getElem? (rowsBelow t i) a ≡ some row) × Decodes (getD t (3 * a) 0) (getD t (3 * a + 1) 0) (getD t (3 * a + 2) 0) row
     below-row l =
         let w = row-bytes (take (3 * i) t) table a (omega (arith, below-length)) in
         (w .0, w .1, rw (getD-take (3 * i) t (3 * a) 0 (omega arith), getD-take (3 * i) t (3 * a + 1) 0 (omega arith), getD-take (3 * i) t (3 * a + 2) 0 (omega arith)) at (w .2))
 
     -- whether it is agent-like
-    pub below-agent : a < i → {k : ℕ} → k ≡ getD t (3 * a) 0 → agentLike (getElem? (rowsOf (take (3 * i) t)) a) ≡ agentKind k (getD t (3 * a + 2) 0)
+    pub below-agent : a < i → {k : ℕ} → k ≡ getD t (3 * a) 0 → agentLike (getElem? (rowsBelow t i) a) ≡ agentKind k (getD t (3 * a + 2) 0)
     below-agent l e = let w = below-row l in rw (w .1, e) (decodes-agent (w .2))
 
     -- whether it is no pair
-    pub below-pair : a < i → {k : ℕ} → k ≡ getD t (3 * a) 0 → noPair (getElem? (rowsOf (take (3 * i) t)) a) ≡ not (eqb k 11)
+    pub below-pair : a < i → {k : ℕ} → k ≡ getD t (3 * a) 0 → noPair (getElem? (rowsBelow t i) a) ≡ not (eqb k 11)
     below-pair l e = let w = below-row l in rw (w .1, e) (decodes-pair (w .2))

@@ -14,11 +14,11 @@ use Rattle.semantics.specs.Guarantee.{GoodTable}
 use Rattle.semantics.specs.Table.{Row, variableRow, admissible, repeated, rowRefusal, rowsFrom}
 use Rattle.semantics.specs.laws.Table.{rowRefusal-none}
 use Rattle.table.specs.declared.Judged.the-variants.{Refused, Rows}
-use Rattle.rows.specs.Rows.{IsTable, rowsOf, decodedAt}
+use Rattle.rows.specs.Rows.{IsTable, decodedAt}
 use Rattle.table.specs.Check.{numberOr, judgedAs}
 use Rattle.rows.specs.laws.Decodes.{table-good}
 use Rattle.table.specs.laws.Table.{table-append, table-empty, table-more, rowsFrom-refused}
-use Rattle.table.specs.laws.Below.{below-length}
+use Rattle.table.specs.laws.Below.{rowsBelow, below-length}
 use Rattle.table.specs.laws.Refusal.{number-none, number-some, variables-with}
 
 -- i rows are passed: they are a table with so many variables
@@ -26,7 +26,7 @@ pub record Passed (t : List ℕ) (i variables : ℕ) : Type 0 where
   pub few : i ≤ 96
   pub within : 3 * i ≤ length t
   pub table : IsTable (take (3 * i) t)
-  pub counted : variables ≡ length (keep variableRow (rowsOf (take (3 * i) t)))
+  pub counted : variables ≡ length (keep variableRow (rowsBelow t i))
   pub fewVariables : variables ≤ 8
 
 -- three elements from a place on
@@ -56,10 +56,10 @@ passed-none t = record { few = omega arith; within = omega arith; table = table-
 
 module _ (t : List ℕ) (i v : ℕ) (p : Passed t i v) where
   -- the rest is read on from row i
-  passed-rest : (at : ℕ) → rowsFrom at [] t ≡ rowsFrom (at + 3 * i) (rowsOf (take (3 * i) t)) (drop (3 * i) t)
+  passed-rest : (at : ℕ) → rowsFrom at [] t ≡ rowsFrom (at + 3 * i) (rowsBelow t i) (drop (3 * i) t)
   passed-rest at =
       ap (rowsFrom at []) (sym (take-append-drop (3 * i) t)) ∙ table-append (take (3 * i) t) (p .table) at (drop (3 * i) t)
-      ∙ ap (λ (n : ℕ). rowsFrom (at + n) (rowsOf (take (3 * i) t)) (drop (3 * i) t)) (length-take-le (3 * i) t (p .within))
+      ∙ ap (λ (n : ℕ). rowsFrom (at + n) (rowsBelow t i) (drop (3 * i) t)) (length-take-le (3 * i) t (p .within))
 
   -- all rows are passed where the bytes end
   pub passed-all : (at : ℕ) → length t ≡ 3 * i → Rows i ≡ judgedAs (rowsFrom at [] t)
@@ -70,19 +70,19 @@ module _ (t : List ℕ) (i v : ℕ) (p : Passed t i v) where
   pub passed-short : (at : ℕ) → ¬ (length t ≡ 3 * i) → length t - 3 * i < 3 → Refused 4 (at + 3 * i) ≡ judgedAs (rowsFrom at [] t)
   passed-short at n l =
       let size = length-drop (3 * i) t in
-      rw (passed-rest at, rowsFrom-short (at + 3 * i) (rowsOf (take (3 * i) t)) (drop (3 * i) t) (omega (arith, p .within, n)) (omega arith))
+      rw (passed-rest at, rowsFrom-short (at + 3 * i) (rowsBelow t i) (drop (3 * i) t) (omega (arith, p .within, n)) (omega arith))
 
   module _ (whole : 3 * i + 3 ≤ length t) where
     -- a row is refused by its number
-    pub passed-refused : (at n : ℕ) → n ≡ numberOr (rowRefusal (rowsOf (take (3 * i) t)) (decodedAt t i)) → ¬ (n ≡ 0) → Refused n (at + 3 * i) ≡ judgedAs (rowsFrom at [] t)
+    pub passed-refused : (at n : ℕ) → n ≡ numberOr (rowRefusal (rowsBelow t i) (decodedAt t i)) → ¬ (n ≡ 0) → Refused n (at + 3 * i) ≡ judgedAs (rowsFrom at [] t)
     unfolding decodedAt
     passed-refused at n e z =
-        let below = rowsOf (take (3 * i) t) in
+        let below = rowsBelow t i in
         let o = number-some (rowRefusal below (decodedAt t i)) (λ q. z (e ∙ q)) ∙ ap some (sym e) in
         rw (passed-rest at, drop-three t (3 * i) whole, rowsFrom-refused (at + 3 * i) below (getD t (3 * i) 0) (getD t (3 * i + 1) 0) (getD t (3 * i + 2) 0) (drop (3 * i + 3) t) n o)
 
     -- a row that is not refused is passed
-    pub passed-more : (n : ℕ) → 0 ≡ numberOr (rowRefusal (rowsOf (take (3 * i) t)) (decodedAt t i))
+    pub passed-more : (n : ℕ) → 0 ≡ numberOr (rowRefusal (rowsBelow t i) (decodedAt t i))
         → (getD t (3 * i) 0 ≡ 6 → n ≡ v + 1) × ((getD t (3 * i) 0 ≡ 6 → ⊥) → n ≡ v) → Passed t (i + 1) n
     unfolding decodedAt
     passed-more n e w = record {
@@ -94,7 +94,7 @@ module _ (t : List ℕ) (i v : ℕ) (p : Passed t i v) where
     }
       where
         below : List Row
-        below = rowsOf (take (3 * i) t)
+        below = rowsBelow t i
 
         row : (row : Row) × (decodedAt t i ≡ some row) × T (admissible below row) × ¬ T (repeated below row)
         row = rowRefusal-none below (decodedAt t i) (number-none below (decodedAt t i) (sym e))
@@ -102,10 +102,10 @@ module _ (t : List ℕ) (i v : ℕ) (p : Passed t i v) where
         bytes : take (3 * (i + 1)) t ≡ take (3 * i) t ++ getD t (3 * i) 0 ∷ getD t (3 * i + 1) 0 ∷ getD t (3 * i + 2) 0 ∷ []
         bytes = let z : 3 * (i + 1) ≡ 3 * i + 3 = omega arith in ap (λ (m : ℕ). take m t) z ∙ take-three t (3 * i) whole
 
-        table : IsTable (take (3 * (i + 1)) t) × (n ≡ length (keep variableRow (rowsOf (take (3 * (i + 1)) t))))
+        table : IsTable (take (3 * (i + 1)) t) × (n ≡ length (keep variableRow (rowsBelow t (i + 1))))
         table =
             let m = table-more (take (3 * i) t) (p .table) (getD t (3 * i) 0) (getD t (3 * i + 1) 0) (getD t (3 * i + 2) 0) (row .0) (row .1) (row .2) (row .3) in
             rw bytes (m .0, rw (m .1) (variables-with t i (p .within) (p .table) v n (p .counted) w (row .0) (row .1)))
 
-        good : GoodTable (rowsOf (take (3 * (i + 1)) t))
+        good : GoodTable (rowsBelow t (i + 1))
         good = table-good (take (3 * (i + 1)) t) (table .0)

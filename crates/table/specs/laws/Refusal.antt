@@ -13,12 +13,12 @@ use Rattle.semantics.specs.Table.{Row, variableRow, fits, admissible, repeated,
 use Rattle.semantics.specs.laws.Table.{admissible-holds}
 use Rattle.semantics.specs.laws.Test.{all-three}
 use Rattle.semantics.specs.laws.List.{keep-cons}
-use Rattle.rows.specs.Rows.{IsTable, rowsOf, decodedAt}
+use Rattle.rows.specs.Rows.{IsTable, decodedAt}
 use Rattle.table.specs.Check.{fitsDecoded, repeatsDecoded, numberOr}
 use Rattle.rows.specs.laws.Decodes.{Decodes, decode-view}
 use Rattle.table.specs.laws.Decode.{decodes-variable}
 use Rattle.table.specs.laws.Table.{passes, fails, not-refused}
-use Rattle.table.specs.laws.Below.{below-length}
+use Rattle.table.specs.laws.Below.{rowsBelow, below-length}
 
 module _ {A : Type 0} (p : A → Bool) where
   -- how many of a list and one element more pass a test
@@ -85,44 +85,44 @@ number-some (some x) n = refl
 
 module _ (t : List ℕ) (i : ℕ) (within : 3 * i ≤ length t) (table : IsTable (take (3 * i) t)) where
   -- a 97th row is refused with 4
-  pub refusal-many : 96 ≤ i → 4 ≡ numberOr (rowRefusal (rowsOf (take (3 * i) t)) (decodedAt t i))
+  pub refusal-many : 96 ≤ i → 4 ≡ numberOr (rowRefusal (rowsBelow t i) (decodedAt t i))
   unfolding rowRefusal
   refusal-many h = go (decodedAt t i)
     where
-      go : (o : Option Row) → 4 ≡ numberOr (rowRefusal (rowsOf (take (3 * i) t)) o)
+      go : (o : Option Row) → 4 ≡ numberOr (rowRefusal (rowsBelow t i) o)
       go none = refl
-      go (some row) = number-four (rowsOf (take (3 * i) t)) row (λ w. omega (arith, below-length t i within table))
+      go (some row) = number-four (rowsBelow t i) row (λ w. omega (arith, below-length t i within table))
 
   -- a row that does not fit is refused with 4
-  pub refusal-unfit : fitsDecoded (rowsOf (take (3 * i) t)) (decodedAt t i) ≡ false → 4 ≡ numberOr (rowRefusal (rowsOf (take (3 * i) t)) (decodedAt t i))
+  pub refusal-unfit : fitsDecoded (rowsBelow t i) (decodedAt t i) ≡ false → 4 ≡ numberOr (rowRefusal (rowsBelow t i) (decodedAt t i))
   unfolding rowRefusal
   refusal-unfit = go (decodedAt t i)
     where
-      go : (o : Option Row) → fitsDecoded (rowsOf (take (3 * i) t)) o ≡ false → 4 ≡ numberOr (rowRefusal (rowsOf (take (3 * i) t)) o)
+      go : (o : Option Row) → fitsDecoded (rowsBelow t i) o ≡ false → 4 ≡ numberOr (rowRefusal (rowsBelow t i) o)
       go none e = refl
-      go (some row) e = number-four (rowsOf (take (3 * i) t)) row (λ w. rw e at (w .2))
+      go (some row) e = number-four (rowsBelow t i) row (λ w. rw e at (w .2))
 
-  module _ (v n : ℕ) (counted : v ≡ length (keep variableRow (rowsOf (take (3 * i) t)))) (more : (getD t (3 * i) 0 ≡ 6 → n ≡ v + 1) × ((getD t (3 * i) 0 ≡ 6 → ⊥) → n ≡ v)) where
+  module _ (v n : ℕ) (counted : v ≡ length (keep variableRow (rowsBelow t i))) (more : (getD t (3 * i) 0 ≡ 6 → n ≡ v + 1) × ((getD t (3 * i) 0 ≡ 6 → ⊥) → n ≡ v)) where
     -- how many variables there are with row i
-    pub variables-with : (row : Row) → decodedAt t i ≡ some row → n ≡ length (keep variableRow (rowsOf (take (3 * i) t) ++ row ∷ []))
+    pub variables-with : (row : Row) → decodedAt t i ≡ some row → n ≡ length (keep variableRow (rowsBelow t i ++ row ∷ []))
     unfolding decodedAt
-    variables-with row e = variables-more (rowsOf (take (3 * i) t)) (decode-view (getD t (3 * i) 0) (getD t (3 * i + 1) 0) (getD t (3 * i + 2) 0) e) v n counted more
+    variables-with row e = variables-more (rowsBelow t i) (decode-view (getD t (3 * i) 0) (getD t (3 * i + 1) 0) (getD t (3 * i + 2) 0) e) v n counted more
 
     -- a ninth variable is refused with 4
-    pub refusal-variables : 8 < n → 4 ≡ numberOr (rowRefusal (rowsOf (take (3 * i) t)) (decodedAt t i))
+    pub refusal-variables : 8 < n → 4 ≡ numberOr (rowRefusal (rowsBelow t i) (decodedAt t i))
     unfolding rowRefusal
     refusal-variables h = go (decodedAt t i) refl
       where
-        go : (o : Option Row) → decodedAt t i ≡ o → 4 ≡ numberOr (rowRefusal (rowsOf (take (3 * i) t)) o)
+        go : (o : Option Row) → decodedAt t i ≡ o → 4 ≡ numberOr (rowRefusal (rowsBelow t i) o)
         go none e = refl
-        go (some row) e = number-four (rowsOf (take (3 * i) t)) row (λ w. omega (arith, variables-with row e))
+        go (some row) e = number-four (rowsBelow t i) row (λ w. omega (arith, variables-with row e))
 
     -- any other row is refused with 5 if it is repeated, and otherwise not
-    pub refusal-other : i < 96 → n ≤ 8 → fitsDecoded (rowsOf (take (3 * i) t)) (decodedAt t i) ≡ true → (r : Bool) → repeatsDecoded (rowsOf (take (3 * i) t)) (decodedAt t i) ≡ r
-        → numberIf true r ≡ numberOr (rowRefusal (rowsOf (take (3 * i) t)) (decodedAt t i))
+    pub refusal-other : i < 96 → n ≤ 8 → fitsDecoded (rowsBelow t i) (decodedAt t i) ≡ true → (r : Bool) → repeatsDecoded (rowsBelow t i) (decodedAt t i) ≡ r
+        → numberIf true r ≡ numberOr (rowRefusal (rowsBelow t i) (decodedAt t i))
     refusal-other few fewVariables = go (decodedAt t i) refl
       where
-        go : (o : Option Row) → decodedAt t i ≡ o → fitsDecoded (rowsOf (take (3 * i) t)) o ≡ true → (r : Bool) → repeatsDecoded (rowsOf (take (3 * i) t)) o ≡ r
-            → numberIf true r ≡ numberOr (rowRefusal (rowsOf (take (3 * i) t)) o)
+        go : (o : Option Row) → decodedAt t i ≡ o → fitsDecoded (rowsBelow t i) o ≡ true → (r : Bool) → repeatsDecoded (rowsBelow t i) o ≡ r
+            → numberIf true r ≡ numberOr (rowRefusal (rowsBelow t i) o)
         go none e f r g = let z : _≡_ {A = ℕ} 0 1 = cc in absurd (omega arith)
-        go (some row) e f r g = number-five (rowsOf (take (3 * i) t)) row (omega (arith, below-length t i within table)) (omega (arith, variables-with row e)) f r g
+        go (some row) e f r g = number-five (rowsBelow t i) row (omega (arith, below-length t i within table)) (omega (arith, variables-with row e)) f r g

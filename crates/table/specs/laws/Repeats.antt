@@ -13,12 +13,12 @@ use Rattle.semantics.specs.Table.{Row, row?, repeated}
 use Rattle.semantics.specs.laws.Table.{repeated-no}
 use Rattle.semantics.specs.laws.Test.{all-three}
 use Rattle.semantics.specs.laws.List.{getElem-below}
-use Rattle.rows.specs.Rows.{IsTable, rowsOf, decodedAt}
+use Rattle.rows.specs.Rows.{IsTable, decodedAt}
 use Rattle.table.specs.Check.{repeatsDecoded, sameBytes}
 use Rattle.rows.specs.laws.Decodes.{decode-view}
 use Rattle.table.specs.laws.Decode.{decodes-decode, decodes-same}
 use Rattle.table.specs.laws.Table.{fails}
-use Rattle.table.specs.laws.Below.{below-length, below-row}
+use Rattle.table.specs.laws.Below.{rowsBelow, below-length, below-row}
 
 -- a repeated row is at some place below
 repeated-place : (below : List Row) (row : Row) → T (repeated below row) → (j : ℕ) × (getElem? below j ≡ some row)
@@ -53,23 +53,23 @@ same-bytes-iff t i j = same-three (getD t (3 * i) 0) (getD t (3 * i + 1) 0) (get
 
 module _ (t : List ℕ) (i : ℕ) (within : 3 * i ≤ length t) (table : IsTable (take (3 * i) t)) where
   -- a row with the bytes of an earlier row repeats it
-  pub repeats-yes : (j : ℕ) → j < i → sameBytes t i j ≡ true → repeatsDecoded (rowsOf (take (3 * i) t)) (decodedAt t i) ≡ true
+  pub repeats-yes : (j : ℕ) → j < i → sameBytes t i j ≡ true → repeatsDecoded (rowsBelow t i) (decodedAt t i) ≡ true
   unfolding decodedAt
   repeats-yes j l e =
       let w = below-row t i within table j l in
       let s = same-bytes-iff t i j .0 (rw e tt) in
-      rw (s .0, s .1, s .2, decodes-decode (w .2)) (repeated-yes (rowsOf (take (3 * i) t)) (w .0) j (w .1))
+      rw (s .0, s .1, s .2, decodes-decode (w .2)) (repeated-yes (rowsBelow t i) (w .0) j (w .1))
 
   -- a row with the bytes of no earlier row repeats none
-  pub repeats-no : ((j : ℕ) → j < i → sameBytes t i j ≡ false) → repeatsDecoded (rowsOf (take (3 * i) t)) (decodedAt t i) ≡ false
+  pub repeats-no : ((j : ℕ) → j < i → sameBytes t i j ≡ false) → repeatsDecoded (rowsBelow t i) (decodedAt t i) ≡ false
   unfolding decodedAt
   repeats-no h = go (decodedAt t i) refl
     where
-      go : (o : Option Row) → decodedAt t i ≡ o → repeatsDecoded (rowsOf (take (3 * i) t)) o ≡ false
+      go : (o : Option Row) → decodedAt t i ≡ o → repeatsDecoded (rowsBelow t i) o ≡ false
       go none e = refl
-      go (some row) e = fails (repeated (rowsOf (take (3 * i) t)) row) (λ u.
-          let p = repeated-place (rowsOf (take (3 * i) t)) row u in
-          let l : p .0 < i = omega (arith, getElem-below (rowsOf (take (3 * i) t)) (p .0) (p .1), below-length t i within table) in
+      go (some row) e = fails (repeated (rowsBelow t i) row) (λ u.
+          let p = repeated-place (rowsBelow t i) row u in
+          let l : p .0 < i = omega (arith, getElem-below (rowsBelow t i) (p .0) (p .1), below-length t i within table) in
           let w = below-row t i within table (p .0) l in
           let q : w .0 ≡ row = cc in
           let same = decodes-same (decode-view (getD t (3 * i) 0) (getD t (3 * i + 1) 0) (getD t (3 * i + 2) 0) e) (rw q at (w .2)) in

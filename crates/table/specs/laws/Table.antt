@@ -15,7 +15,7 @@ use Rattle.semantics.specs.laws.Table.{Reads, ends, reads, rowsFrom-reads, rows
 use Rattle.semantics.specs.laws.List.{getElem-there}
 use Rattle.rows.specs.Rows.{IsTable, rowsOf, rowsOr, decodedAt}
 use Rattle.table.specs.Check.{judgedAs}
-use Rattle.table.specs.declared.Judged.the-variants.{Rows}
+use Rattle.table.specs.declared.Judged.the-variants.{Refused, Rows}
 use Rattle.rows.specs.laws.Decodes.{Decodes, table-row}
 
 -- a test that passes, and one that does not
@@ -32,22 +32,20 @@ pub not-refused : (below : List Row) (row : Row) → T (admissible below row) �
 unfolding rowRefusal
 not-refused below row a n = rw (passes (admissible below row) a, rowRefusal, fails (repeated below row) n)
 
+-- how the reading goes on after a row, by the number of its refusal
+abbrev rowsNext : ℕ → List Row → Option Row → List ℕ → Option ℕ → Answer (List Row)
+rowsNext at below row bytes o = elim o [ some number ↦ refuse number at | none ↦ rowsFrom (at + 3) (extended below row) bytes ]
+
 -- a row that is read is added to those below it
 pub rowsFrom-step : (at : ℕ) (below : List Row) (k l r : ℕ) (bytes : List ℕ) (row : Row) → decode k l r ≡ some row → rowRefusal below (decode k l r) ≡ none
     → rowsFrom at below (k ∷ l ∷ r ∷ bytes) ≡ rowsFrom (at + 3) (below ++ row ∷ []) bytes
 unfolding rowsFrom
-rowsFrom-step at below k l r bytes row d e = ap next e ∙ ap (λ (o : Option Row). rowsFrom (at + 3) (extended below o) bytes) d
-  where
-    next : Option ℕ → Answer (List Row)
-    next o = elim o [ some number ↦ refuse number at | none ↦ rowsFrom (at + 3) (extended below (decode k l r)) bytes ]
+rowsFrom-step at below k l r bytes row d e = ap (rowsNext at below (decode k l r) bytes) e ∙ ap (λ (o : Option Row). rowsFrom (at + 3) (extended below o) bytes) d
 
 -- a row that is refused
 pub rowsFrom-refused : (at : ℕ) (below : List Row) (k l r : ℕ) (bytes : List ℕ) (n : ℕ) → rowRefusal below (decode k l r) ≡ some n → rowsFrom at below (k ∷ l ∷ r ∷ bytes) ≡ refuse n at
 unfolding rowsFrom
-rowsFrom-refused at below k l r bytes n e = ap next e
-  where
-    next : Option ℕ → Answer (List Row)
-    next o = elim o [ some number ↦ refuse number at | none ↦ rowsFrom (at + 3) (extended below (decode k l r)) bytes ]
+rowsFrom-refused at below k l r bytes n e = ap (rowsNext at below (decode k l r) bytes) e
 
 -- rows that are read are accepted, at whatever place
 reads-accepted : {below rows : List Row} {bytes : List ℕ} → Reads below bytes rows → (at : ℕ) → rowsFrom at below bytes ≡ accepted rows
@@ -73,13 +71,25 @@ pub accepted-table : (at : ℕ) (bytes : List ℕ) (rows : List Row) → rowsFro
 unfolding rowsOf
 accepted-table at bytes rows e = let z = rowsFrom-place at 0 bytes rows .0 e in (z ∙ ap accepted (sym (ap rowsOr z)), ap rowsOr z)
 
+-- what an answer is by what the check says of it: so many rows
+pub judged-accepted : (a : Answer (List Row)) (n : ℕ) → judgedAs a ≡ Rows n → (rows : List Row) × (a ≡ accepted rows) × (n ≡ length rows)
+judged-accepted (refused r) n e = let z : _≡_ {A = ℕ} 0 1 = cc in absurd (omega arith)
+judged-accepted (accepted rows) n e = (rows, refl, let z : length rows ≡ n = cc in sym z)
+
+-- or a refusal with its place
+pub judged-refused : (a : Answer (List Row)) (n place : ℕ) → judgedAs a ≡ Refused n place → a ≡ refuse n place
+judged-refused (refused r) n place e =
+    let p : r .number ≡ n = cc in
+    let q : r .place ≡ place = cc in
+    λ i. refused (record { number = p i; place = q i })
+judged-refused (accepted rows) n place e = let z : _≡_ {A = ℕ} 0 1 = cc in absurd (omega arith)
+
 -- what a caller of the check knows of the bytes where it answers with a number of rows
 pub judged-table : (at : ℕ) (bytes : List ℕ) (n : ℕ) → judgedAs (rowsFrom at [] bytes) ≡ Rows n → IsTable bytes × (n ≡ length (rowsOf bytes))
-judged-table at bytes n j = go (rowsFrom at [] bytes) refl j
-  where
-    go : (a : Answer (List Row)) → rowsFrom at [] bytes ≡ a → judgedAs a ≡ Rows n → IsTable bytes × (n ≡ length (rowsOf bytes))
-    go (refused r) e f = let z : _≡_ {A = ℕ} 0 1 = cc in absurd (omega arith)
-    go (accepted rows) e f = let w = accepted-table at bytes rows e in (w .0, rw (w .1) (let z : length rows ≡ n = cc in sym z))
+judged-table at bytes n j =
+    let w = judged-accepted (rowsFrom at [] bytes) n j in
+    let t = accepted-table at bytes (w .0) (w .1) in
+    (t .0, rw (t .1) (w .2))
 
 -- a table is accepted at every place
 pub table-accepted : (bytes : List ℕ) → IsTable bytes → (at : ℕ) → rowsFrom at [] bytes ≡ accepted (rowsOf bytes)
