@@ -1,0 +1,96 @@
+-- The laws of Derive's answer: refusals passed on, what an accepted table and list give, and the two other answers. Assumes nothing.
+use Prim.Native.Nat.{ℕ, zero, suc, _+_, _*_, _<_, _≤_}
+use native.Mathlib.Omega.{arith}
+use mathlib.Core.Path.{_≡_, refl, sym, ap, _∙_}
+use mathlib.Core.Bool.{Bool, true, false, not}
+use mathlib.Core.List.{List, [], _∷_, List·Memᴰ, List·Memᴰ·head, List·Memᴰ·tail, List·Memᴰ·not-nil}
+use mathlib.Core.Option.{Option, none, some, Option·none-ne-some}
+use borrow.Author.Tests.{ltb-true}
+use lib.Dec.{T, ltb, nltb→le, not-T, ltb→lt}
+use lib.ListN.{length}
+use Rattle.semantics.specs.Answer.{Answer, refused, accepted, refuse}
+use Rattle.semantics.specs.Table.{Row, rowsFrom}
+use Rattle.semantics.specs.Value.{valueOf, asAtoms}
+use Rattle.semantics.specs.Derive.{absentFrom, derivableRow, derived}
+use Rattle.semantics.specs.laws.Test.{provided-none, passed-none}
+use Rattle.semantics.specs.laws.List.{mem-cases}
+use Rattle.rows.specs.Rows.{rowsOf, placeAs}
+use Rattle.rows.specs.declared.Place.{Place}
+use Rattle.rows.specs.declared.Place.the-variants.{At, Nowhere}
+use Rattle.rows.specs.laws.Decodes.{table-good, table-length}
+use Rattle.table.specs.Check.{judgedAs}
+use Rattle.table.specs.declared.Judged.{Judged}
+use Rattle.table.specs.declared.Judged.the-variants as judged
+use Rattle.table.specs.laws.Table.{judged-table, judged-refused, table-accepted}
+use Rattle.cells.specs.Cells.{Shape}
+use Rattle.role_level.specs.RoleLevel.{ListedBelow}
+use Rattle.derive.specs.Answers.{derivedAs, AbsentAt}
+use Rattle.derive.specs.declared.Derived.{Derived}
+use Rattle.derive.specs.declared.Derived.the-variants.{Refused, Derivable, NotDerivable}
+
+-- no absent row: each listed row is present, and so is the target
+none-absent : (rows : List Row) (at : ℕ) (list : List ℕ) (target : ℕ) → absentFrom rows at list target ≡ none → ListedBelow (length rows) list × (target < length rows)
+unfolding absentFrom
+none-absent rows at [] target e =
+    (λ r m. absurd (List·Memᴰ·not-nil m), present (ltb target (length rows)) refl (provided-none (not (ltb target (length rows))) at e))
+  where
+    present : (b : Bool) → ltb target (length rows) ≡ b → (T (not b) → ⊥) → target < length rows
+    present true h n = ltb-true target (length rows) h
+    present false h n = absurd (n tt)
+none-absent rows at (r ∷ list) target e =
+    let w = passed-none (ltb r (length rows)) (absentFrom rows (suc at) list target) at e in
+    let rest = none-absent rows (suc at) list target (w .1) in
+    (λ x m. mem-cases m (λ q. rw q (ltb→lt r (length rows) (w .0))) (rest .0 x), rest .1)
+
+nowhere-none : (o : Option ℕ) → Nowhere ≡ placeAs o → o ≡ none
+nowhere-none none e = refl
+nowhere-none (some at) e = let z : _≡_ {A = ℕ} 0 1 = cc in absurd (omega arith)
+
+at-some : (o : Option ℕ) {at : ℕ} → At at ≡ placeAs o → o ≡ some at
+at-some none e = let z : _≡_ {A = ℕ} 0 1 = cc in absurd (omega arith)
+at-some (some at) e = cc
+
+module _ (table list : List ℕ) (target : ℕ) {j : Judged} (check : j ≡ judgedAs (rowsFrom 0 [] table)) where
+  -- a refused table
+  pub derive-refused : {number place : ℕ} → j ≡ judged.Refused number place → Refused number place ≡ derivedAs (derived table list target)
+  unfolding derived
+  derive-refused {number} {place} e = rw (judged-refused (rowsFrom 0 [] table) number place (sym check ∙ e)) refl
+
+  module _ {n : ℕ} (rows : j ≡ judged.Rows n) where
+    -- an accepted one
+    pub derive-shape : Shape table n 0
+    derive-shape =
+        let w = judged-table 0 table n (sym check ∙ rows) in
+        record {
+          table = w .0;
+          count = w .1;
+          size = omega (arith, table-length table (w .0), w .1);
+          few = omega (arith, table-good table (w .0) .few, w .1);
+          fewRuns = omega arith;
+        }
+
+    module _ {p : Place} (absent : AbsentAt n list target p) where
+      found : p ≡ placeAs (absentFrom (rowsOf table) 0 list target)
+      found = absent (rowsOf table) (derive-shape .count)
+
+      -- an absent row
+      pub derive-absent : {at : ℕ} → p ≡ At at → Refused 11 at ≡ derivedAs (derived table list target)
+      unfolding derived
+      derive-absent {at} e =
+          rw (table-accepted table (derive-shape .table) 0, at-some (absentFrom (rowsOf table) 0 list target) (sym e ∙ found)) refl
+
+      module _ (nowhere : p ≡ Nowhere) where
+        none-there : absentFrom (rowsOf table) 0 list target ≡ none
+        none-there = nowhere-none (absentFrom (rowsOf table) 0 list target) (sym nowhere ∙ found)
+
+        -- none absent
+        pub derive-listed : ListedBelow n list × (target < n)
+        derive-listed =
+            let w = none-absent (rowsOf table) 0 list target none-there in
+            (λ r m. omega (arith, w .0 r m, derive-shape .count), omega (arith, w .1, derive-shape .count))
+
+        -- the answer
+        pub derive-answer : {r : Bool} → r ≡ derivableRow (rowsOf table) list (valueOf asAtoms (rowsOf table) target) → {b : Bool} → r ≡ b
+            → derivedAs (accepted b) ≡ derivedAs (derived table list target)
+        unfolding derived
+        derive-answer q h = rw (table-accepted table (derive-shape .table) 0, none-there, sym q ∙ h) refl

@@ -1,0 +1,2 @@
+-- The laws of framing, with their proofs.
+pub mod Frame

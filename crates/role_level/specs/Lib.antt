@@ -1,0 +1,3 @@
+-- Role level, and its laws.
+pub mod RoleLevel
+pub mod laws

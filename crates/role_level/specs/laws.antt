@@ -1,0 +1,3 @@
+-- The laws of role level, with their proofs.
+pub mod Loops
+pub mod RoleLevel

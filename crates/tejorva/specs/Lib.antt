@@ -1,0 +1,2 @@
+-- How an answer is packed into 64 bits.
+pub mod Packing

@@ -1,0 +1,39 @@
+// The functions that C calls, each one line over an operation, and the packing of answers into 64 bits.
+ghost use mathlib.Core.Path.{_≡_};
+ghost use Prim.Native.Nat.{min};
+ghost use Rattle.semantics.specs.Derive.{derived};
+ghost use Rattle.tejorva.specs.Packing.{packedRefusal, packedOf, packedDerived};
+use derive::Derived;
+
+// The smaller of two numbers.
+fn least(a: u64, b: u64) -> u64
+    ensures { λ r. ⌜ r ≡ min a b ⌝ }
+{
+    if a <= b { a } else { b }
+}
+
+// A refusal: number and place.
+fn refusal(number: usize, place: usize) -> u64
+    ensures { λ r. ⌜ r ≡ packedRefusal number place ⌝ }
+{
+    least(number as u64, 255) * 4503599627370496 + least(place as u64, 4503599627370495)
+}
+
+// Derive's answer as one number.
+fn packed(answer: Derived) -> u64
+    ensures { λ r. ⌜ r ≡ packedOf answer ⌝ }
+{
+    match answer {
+        Derived::Refused { number, place } => refusal(number, place),
+        Derived::Derivable => 5 * 1152921504606846976,
+        Derived::NotDerivable => 6 * 1152921504606846976,
+    }
+}
+
+// Whether row `target` of a table is derivable from the listed rows.
+#[no_mangle]
+pub extern "C" fn tejorva_derive(table: &[u8], list: &[u8], target: u64) -> u64
+    ensures { λ r. ⌜ r ≡ packedDerived (derived (now (table .entry)) (now (list .entry)) target) ⌝ }
+{
+    packed(derive::derive(table, list, target))
+}

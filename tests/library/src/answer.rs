@@ -1,0 +1,25 @@
+//! The 64-bit answer read as include/tejorva.h reads it, and written in the words of the cases.
+
+pub const REFUSED: u64 = 0;
+pub const DERIVABLE: u64 = 5;
+pub const NOT_DERIVABLE: u64 = 6;
+
+pub fn word(answer: u64) -> u64 {
+    answer >> 60
+}
+
+/// `REFUSED number place`, if the answer is a refusal.
+pub fn refusal(answer: u64) -> Option<String> {
+    let number = answer >> 52 & 0xff;
+    let place = answer & 0xf_ffff_ffff_ffff;
+    (word(answer) == REFUSED).then(|| format!("REFUSED {number} {place}"))
+}
+
+/// Derive's answer in the words of the cases.
+pub fn derived(answer: u64) -> String {
+    refusal(answer).unwrap_or_else(|| match answer {
+        a if a == DERIVABLE << 60 => "YES".to_string(),
+        a if a == NOT_DERIVABLE << 60 => "NO".to_string(),
+        a => format!("UNKNOWN {a:x}"),
+    })
+}

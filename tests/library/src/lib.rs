@@ -1,0 +1,28 @@
+//! The proved library's functions as safe Rust, their answers in the words of the cases, and random inputs for tests.
+pub mod answer;
+pub mod random;
+
+mod ffi {
+    extern "C" {
+        pub fn tejorva_derive(
+            table: *const u8,
+            table_len: usize,
+            list: *const u8,
+            list_len: usize,
+            target: u64,
+        ) -> u64;
+    }
+}
+
+/// Whether row `target` of a table is derivable from the listed rows, as the packed number.
+pub fn derive(table: &[u8], list: &[u8], target: u64) -> u64 {
+    unsafe {
+        ffi::tejorva_derive(
+            table.as_ptr(),
+            table.len(),
+            list.as_ptr(),
+            list.len(),
+            target,
+        )
+    }
+}
