@@ -57,7 +57,7 @@ pub data Opening (bytes : List ℕ) (n runs : ℕ) (classes : List ℕ) (marks :
   byItself :
       (x w : ℕ) → key ≡ cellOf x w → Inside n runs x w → (kindAt bytes x ≡ 8 → ⊥) → (kindAt bytes x ≡ 9 → ⊥) → r ≡ getD marks key false
       → Opening bytes n runs classes marks key r
-  byNone : ((x w : ℕ) → Inside n runs x w → key ≡ cellOf x w → ⊥) → Opening bytes n runs classes marks key r
+  byNone : ((x w : ℕ) → Inside n runs x w → key ≡ cellOf x w → ⊥) → r ≡ false → Opening bytes n runs classes marks key r
 
 -- What a row of a kind gives, by its class and those of its parts: itself if both parts are marked; if it is marked, the parts of a pair, and the content of an encryption that opens.
 pub data Gives (bytes : List ℕ) (n runs : ℕ) (classes : List ℕ) (marks : List Bool) (kind whole left right class : ℕ) : Type 0 where

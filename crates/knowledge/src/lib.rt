@@ -109,8 +109,8 @@ fn build(marks: &mut [bool], t: &[u8], n: usize, runs: usize, classes: &[u16], r
     build_row(&mut marks[..], t, n, runs, classes, r - 1);
 }
 
-// Whether the inverse of the key of a class is marked, by the cell that gives the class its number:
-// the other key of that agent, or the key itself.
+// Whether the inverse of a key is marked: the other key of that agent, or the key itself.
+// The key is told by its class, whose number is a cell with its kind and parts: a variable's own row does not have them.
 fn opens(marks: &[bool], t: &[u8], n: usize, runs: usize, classes: &[u16], key: u16) -> bool
     requires { ⌜ (length (now marks) ≡ cellCount) × (Shape (now t) n runs × (length (now classes) ≡ cellCount)) ⌝ }
     ensures { λ r. ⌜ Opening (now (t .entry)) n runs (now (classes .entry)) (now (marks .entry)) key r ⌝ }
@@ -135,7 +135,8 @@ fn opens(marks: &[bool], t: &[u8], n: usize, runs: usize, classes: &[u16], key: 
     is_marked(marks, key)
 }
 
-// A class that is not marked yet and that a pair or an encryption gives, by the classes of it and its parts: itself or a part.
+// A class that is not marked yet and that a pair or an encryption gives, by the classes of it and its parts, or ABSENT.
+// It gives its parts, and itself where `build` passed it before its parts were marked.
 fn given(
     marks: &[bool],
     t: &[u8],
@@ -218,9 +219,9 @@ fn rounds(start: [bool; 480], t: &[u8], n: usize, runs: usize, classes: &[u16]) 
         build(&mut marks[..], t, n, runs, classes, n);
         let mut x = 0;
         while x < n {
-            let class = row_gain(&marks[..], t, n, runs, classes, x);
-            if class < Cells::ABSENT {
-                marks[class as usize] = true;
+            let gained = row_gain(&marks[..], t, n, runs, classes, x);
+            if gained < Cells::ABSENT {
+                marks[gained as usize] = true;
                 continue 'rounds;
             }
             x += 1;

@@ -1,11 +1,13 @@
--- The rows of a table of bytes. Assumes nothing.
-use Prim.Native.Nat.{ℕ, _+_, _*_}
+-- The rows of a table of bytes, and a place that may be missing. Assumes nothing.
+use Prim.Native.Nat.{ℕ, _+_, _*_, _≤_}
 use mathlib.Core.Path.{_≡_}
 use mathlib.Core.List.{List, []}
-use mathlib.Core.Option.{Option}
-use lib.ListN.{getD}
+use mathlib.Core.Option.{Option, none, some}
+use lib.ListN.{length, getD}
 use Rattle.semantics.specs.Answer.{Answer, refused, accepted}
 use Rattle.semantics.specs.Table.{Row, decode, rowsFrom}
+use Rattle.rows.specs.declared.Place.{Place}
+use Rattle.rows.specs.declared.Place.the-variants.{At, Nowhere}
 
 -- the rows of an answer, none of a refusal
 abbrev pub rowsOr : Answer (List Row) → List Row
@@ -23,3 +25,15 @@ IsTable bytes = rowsFrom 0 [] bytes ≡ accepted (rowsOf bytes)
 -- the three bytes of a row, decoded
 unfoldable pub decodedAt : List ℕ → ℕ → Option Row
 decodedAt bytes i = decode (getD bytes (3 * i) 0) (getD bytes (3 * i + 1) 0) (getD bytes (3 * i + 2) 0)
+
+-- the bytes of a table with n rows
+pub record Sized (bytes : List ℕ) (n : ℕ) : Type 0 where
+  pub table : IsTable bytes
+  pub count : n ≡ length (rowsOf bytes)
+  pub size : length bytes ≡ 3 * n
+  pub few : n ≤ 96
+
+-- a place, if there is one
+abbrev pub placeAs : Option ℕ → Place
+placeAs none = Nowhere
+placeAs (some at) = At at

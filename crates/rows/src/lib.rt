@@ -1,7 +1,13 @@
-// Access to the rows of a table, three bytes each: kind, left, right.
+// Access to the rows of a table, three bytes each: kind, left, right; and a place that may be missing.
 ghost use mathlib.Core.Path.{_≡_};
 ghost use Prim.Native.Nat.{_+_, _*_, _<_};
 ghost use lib.ListN.{length, getD};
+
+// A place, if there is one.
+pub enum Place {
+    At(usize),
+    Nowhere,
+}
 
 // A byte as a number.
 pub fn wide(x: u8) -> usize

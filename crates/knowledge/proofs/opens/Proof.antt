@@ -24,7 +24,7 @@ class-at-requires c κs =
 returns-3 : tie.Need-returns-3
 returns-3 c =
     let s = c .before .before .before .before .before .before .before .before .before .before .before in
-    opening-other (s .args .t .now) (s .args .n) (s .args .runs) (s .pre .1 .0) (s .args .classes .now) (s .args .marks .now) (s .args .key) (c .before .before .before .before .before .before .before .if1 .left) (c .before .before .before .before .before .before .if2 .left) (c .before .before .before .before .before .kind-of .ensures .0) pkSk (c .before .before .before .before .if3 .taken) (c .before .before .before .left-of .ensures .0) (c .before .before .class-at .ensures) (c .before .found .ensures) (c .is-marked .ensures)
+    opening-other (s .args .t .now) (s .args .n) (s .args .runs) (s .pre .1 .0) (s .args .classes .now) (s .args .marks .now) (s .args .key) (c .before .before .before .before .before .before .before .if1 .left) (c .before .before .before .before .before .before .if2 .left) (c .before .before .before .before .before .kind-of .ensures .0) pkSk (omega (arith, c .before .before .before .before .if3 .taken)) (c .before .before .before .left-of .ensures .0) (c .before .before .class-at .ensures) (c .before .found .ensures) (c .is-marked .ensures)
 
 class-at-requires-2 : tie.Need-class-at-requires-2
 class-at-requires-2 c κs =
@@ -34,7 +34,7 @@ class-at-requires-2 c κs =
 returns-4 : tie.Need-returns-4
 returns-4 c =
     let s = c .before .before .before .before .before .before .before .before .before .before .before .before in
-    opening-other (s .args .t .now) (s .args .n) (s .args .runs) (s .pre .1 .0) (s .args .classes .now) (s .args .marks .now) (s .args .key) (c .before .before .before .before .before .before .before .before .if1 .left) (c .before .before .before .before .before .before .before .if2 .left) (c .before .before .before .before .before .before .kind-of .ensures .0) skPk (c .before .before .before .before .if4 .taken) (c .before .before .before .left-of2 .ensures .0) (c .before .before .class-at2 .ensures) (c .before .found2 .ensures) (c .is-marked2 .ensures)
+    opening-other (s .args .t .now) (s .args .n) (s .args .runs) (s .pre .1 .0) (s .args .classes .now) (s .args .marks .now) (s .args .key) (c .before .before .before .before .before .before .before .before .if1 .left) (c .before .before .before .before .before .before .before .if2 .left) (c .before .before .before .before .before .before .kind-of .ensures .0) skPk (omega (arith, c .before .before .before .before .if4 .taken)) (c .before .before .before .left-of2 .ensures .0) (c .before .before .class-at2 .ensures) (c .before .found2 .ensures) (c .is-marked2 .ensures)
 
 returns-5 : tie.Need-returns-5
 returns-5 c =

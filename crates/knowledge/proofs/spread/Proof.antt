@@ -28,7 +28,7 @@ loop2-again : tie.Need-loop2-again Inv-loop2 μ-loop2 Inv-loop μ-loop
 loop2-again c =
     let s = c .before .before .before .before .before .before .before .before .before in (
       omega arith,
-      ⊎-elim (λ w. filled-set _ _ _ _ (c .before .before .before .before .loop2 .inv .1) (c .before .before .before .loop2-test .taken, c .before .before .before .before .before .loop-test .taken) (marked (s .args .marks .now) (c .before .is-marked .ensures) (w .0 .taken) (c .before .before .class-at .ensures)) (w .1 .ensures .0) (w .1 .ensures .1) (w .2))
+      ⊎-elim (λ w. filled-set _ _ _ _ (c .before .before .before .before .loop2 .inv .1) (omega (arith, c .before .before .before .loop2-test .taken), omega (arith, c .before .before .before .before .before .loop-test .taken)) (marked (s .args .marks .now) (c .before .is-marked .ensures) (w .0 .taken) (c .before .before .class-at .ensures)) (w .1 .ensures .0) (w .1 .ensures .1) (w .2))
           (λ w. filled-skip _ _ _ _ (c .before .before .before .before .loop2 .inv .1) (λ d l. unmarked (s .args .marks .now) (c .before .is-marked .ensures) (w .0 .left) (c .before .before .class-at .ensures) d) (w .1))
           (c .if1 .came),
     )
@@ -37,7 +37,7 @@ loop-again : tie.Need-loop-again Inv-loop2 μ-loop2 Inv-loop μ-loop
 loop-again c = (omega arith, filled-run _ _ _ _ (c .before .loop2 .inv .1) (c .loop2-test .left))
 
 returns : tie.Need-returns Inv-loop2 μ-loop2 Inv-loop μ-loop
-returns c = filled-all _ _ _ _ (c .before .loop .inv .1) (c .loop-test .left)
+returns c = filled-all _ _ _ _ (c .before .loop .inv .1) (omega (arith, c .loop-test .left))
 
 pub spread-spec : {M : Type 1} → statement M
 spread-spec =

@@ -125,7 +125,7 @@ module _ (bytes : List ℕ) (n runs : ℕ) (shape : Shape bytes n runs) (reading
       false≢true (q ∙ found-on (keys .3) (s .2, j .1) (s .3) o found)
   opens-built i h b (byItself x w e j p s q) =
       false≢true (q ∙ built-on (rw (own-inverse (stands-there bytes n runs shape readings classes right i h j e) p s) at b) i h)
-  opens-built i h b (byNone f) = let s = stand bytes n runs shape readings classes right i h in f (s .0) (s .1) (s .2) (s .3)
+  opens-built i h b (byNone f q) = let s = stand bytes n runs shape readings classes right i h in f (s .0) (s .1) (s .2) (s .3)
 
   -- the content of a marked encryption is marked, if the inverse of its key is built
   content-on : {t k : Term} → OnTerm bytes n runs readings classes marks (encrypted t k) → Built (OnTerm bytes n runs readings classes marks) (inverse k) → OnTerm bytes n runs readings classes marks t
@@ -154,7 +154,7 @@ module _ (bytes : List ℕ) (n runs : ℕ) (shape : Shape bytes n runs) (reading
   built-carried = record { joins = λ t u. pairs; left = built-left; right = built-right; seals = λ t k. seals; content = built-content }
 
   -- and a cell with a derivable value is marked, if the known terms are values of marked cells
-  pub derived-on : (known : List Term) → ((t : Term) → List·Memᴰ t known → OnTerm bytes n runs readings classes marks t)
+  derived-on : (known : List Term) → ((t : Term) → List·Memᴰ t known → OnTerm bytes n runs readings classes marks t)
       → {r u : ℕ} {t : Term} → Inside n runs r u → Has bytes readings r u t → Derives known t → On marks (classAt classes r u)
   derived-on known cover i h d = built-on (derives-keeps built-carried (λ t m. there (cover t m)) d) i h
 

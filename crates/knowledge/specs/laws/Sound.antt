@@ -24,7 +24,7 @@ pub data KeyOf (kind : ℕ) : (Term → Term) → Type 0 where
 
 module _ (bytes : List ℕ) (n : ℕ) (readings : Readings) where
   -- a row of a key's kind has a key of its left row's value
-  pub key-parts : {kind x w : ℕ} {mk : Term → Term} {t : Term} → KeyOf kind mk → kindAt bytes x ≡ kind → Shown bytes n readings x w t
+  key-parts : {kind x w : ℕ} {mk : Term → Term} {t : Term} → KeyOf kind mk → kindAt bytes x ≡ kind → Shown bytes n readings x w t
       → (a : Term) × (t ≡ mk a) × (leftAt bytes x < n) × Has bytes readings (leftAt bytes x) w a
   key-parts (pkKey q) e (showsAtom l) = absurd (omega arith)
   key-parts (skKey q) e (showsAtom l) = absurd (omega arith)
@@ -102,7 +102,7 @@ module _ (bytes : List ℕ) (n runs : ℕ) (shape : Shape bytes n runs) (reading
         let y = found-key (keys .3) (s .2, j .1) (s .3) found (omega (arith, on-below marks f (sym q), sound .size)) in
         rw (s .1, keys .4 (s .0)) (sound .derives (y .2) (y .3) (rw (y .4) at (sym q)))
     opening-sound i h (byItself x w e j p s q) = rw (own-inverse (stands-there i h j e) p s) (sound .derives i h (sym q))
-    opening-sound i h (byNone f) = let s = stand bytes n runs shape readings classes right i h in absurd (f (s .0) (s .1) (s .2) (s .3))
+    opening-sound i h (byNone f q) = let s = stand bytes n runs shape readings classes right i h in absurd (f (s .0) (s .1) (s .2) (s .3))
 
     -- the class of a cell whose value is derivable
     Derived : ℕ → Type 0

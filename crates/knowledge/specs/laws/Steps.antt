@@ -7,7 +7,7 @@ use mathlib.Core.Path.{_≡_, refl, sym, _∙_}
 use mathlib.Core.Logic.{inl, inr, ⊎-elim}
 use mathlib.Core.Bool.{Bool, true, false}
 use mathlib.Core.List.{List}
-use lib.ListN.{length, getD, set, length-set, List·getD-eq-default}
+use lib.ListN.{length, getD, set, List·getD-eq-default}
 use Rattle.cells.specs.Cells.{cellOf, cellCount, absent, Shape, Found}
 use Rattle.cells.specs.laws.Cells.{left-lower, second-lower, second-right}
 use Rattle.knowledge.specs.Steps.{classAt, On, kindAt, leftAt, rightAt, Inside, InverseKinds, Opening, byOther, byItself, byNone, Gives, givesWhole, givesFirst, givesSecond, givesContent, Idle, Gained, gains, idles, IdleAt, GainedAt, RowGained, rowGains, rowIdles, Reaches, stays, grows, missing}
@@ -37,12 +37,8 @@ module _ {bytes : List ℕ} {n runs : ℕ} {classes : List ℕ} where
   pub reaches-same : {a b c : List Bool} → Reaches bytes n runs classes a b → c ≡ b → Reaches bytes n runs classes a c
   reaches-same p e = rw e p
 
-  -- there are as many marks as before, and no more are missing
-  pub reaches-length : {a b : List Bool} → Reaches bytes n runs classes a b → length b ≡ length a
-  reaches-length stays = refl
-  reaches-length (grows {marks = marks} {class = class} q i g l) = length-set marks class true ∙ reaches-length q
-
-  pub reaches-missing : {a b : List Bool} → Reaches bytes n runs classes a b → missing b ≤ missing a
+  -- no more marks are missing than before
+  reaches-missing : {a b : List Bool} → Reaches bytes n runs classes a b → missing b ≤ missing a
   reaches-missing stays = omega arith
   reaches-missing (grows {marks = marks} {class = class} q i g l) = omega (arith, missing-set marks class, reaches-missing q)
 
@@ -56,11 +52,11 @@ module _ {bytes : List ℕ} {n runs : ℕ} {classes : List ℕ} where
 
 module _ (bytes : List ℕ) (n runs : ℕ) (shape : Shape bytes n runs) (classes : List ℕ) (marks : List Bool) (key : ℕ) where
   -- a class that is no cell of the table opens nothing
-  pub opening-row : n ≤ key % 96 → {r : Bool} → Opening bytes n runs classes marks key r
-  opening-row l = byNone (λ x w i e. omega (arith, i .0, shape .few))
+  pub opening-row : n ≤ key % 96 → Opening bytes n runs classes marks key false
+  opening-row l = byNone (λ x w i e. omega (arith, i .0, shape .few)) refl
 
-  pub opening-run : runs < key / 96 → {r : Bool} → Opening bytes n runs classes marks key r
-  opening-run l = byNone (λ x w i e. omega (arith, i .0, i .1, shape .few))
+  pub opening-run : runs < key / 96 → Opening bytes n runs classes marks key false
+  opening-run l = byNone (λ x w i e. omega (arith, i .0, i .1, shape .few)) refl
 
   -- the cell that gives a class its number
   own-cell : key ≡ cellOf (key % 96) (key / 96)

@@ -105,7 +105,7 @@ module _ (bytes : List ℕ) (n runs : ℕ) (shape : Shape bytes n runs) (reading
       go (showsEncrypted f a b g h) = encryptedParts f a b g h
 
   -- rows of kinds 1 to 7 are the atoms
-  pub atom-kind : (x : ℕ) → x < n → ((kindAt bytes x < 8) × There (atomAt (rowsOf bytes) x)) ⊎ ((8 ≤ kindAt bytes x) × (atomAt (rowsOf bytes) x ≡ none))
+  atom-kind : (x : ℕ) → x < n → ((kindAt bytes x < 8) × There (atomAt (rowsOf bytes) x)) ⊎ ((8 ≤ kindAt bytes x) × (atomAt (rowsOf bytes) x ≡ none))
   atom-kind x l = let row = row-there bytes n runs shape x l in rw (row .1) (go (row-decodes bytes n runs shape x l))
     where
       go : {k a b : ℕ} {row : Row} → Decodes k a b row → ((k < 8) × There (atomOf (some row))) ⊎ ((8 ≤ k) × (atomOf (some row) ≡ none))
