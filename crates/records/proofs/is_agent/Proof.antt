@@ -1,0 +1,14 @@
+-- `records::is_agent` meets its contract: a row is an agent's by its kind. Assumes nothing.
+use borrow.Author.Needs.{needs}
+use Rattle.records.specs.laws.Runs.{agent-absent, agent-kind}
+use Rattle.records.proofs.is_agent.Statement.{statement}
+use Rattle.records.proofs.is_agent.Tie as tie
+
+returns : tie.Need-returns
+returns c = let s = c .before .before in agent-absent (s .args .t .now) (s .args .n) (s .pre) (s .args .r) (c .if1 .taken)
+
+returns-2 : tie.Need-returns-2
+returns-2 c = let s = c .before .before .before in rw (c .kind-of .ensures .0) (agent-kind (s .args .t .now) (s .args .n) (s .pre) (s .args .r) (c .before .if1 .left))
+
+pub is-agent-spec : {M : Type 1} → statement M
+is-agent-spec = tie.close (tie.spec returns (λ c κs. search needs) returns-2)

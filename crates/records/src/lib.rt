@@ -1,0 +1,286 @@
+// Role records, run records and the knowledge list: refusals 6, 8 and 9.
+ghost use mathlib.Core.Path.{_≡_};
+ghost use mathlib.Core.List.{List};
+ghost use Prim.Native.Nat.{ℕ, _+_, _<_, _≤_};
+ghost use lib.ListN.{length};
+ghost use Rattle.semantics.specs.Basic.{every};
+ghost use Rattle.semantics.specs.Table.{Row};
+ghost use Rattle.semantics.specs.Value.{Reading, withoutVariables};
+ghost use Rattle.semantics.specs.Roles.{roleLength, roleRecords, rolesPresent, knowledgeFits, knowledgeIn, eventFits, eventsIn, goodRole, badRole, absentRoleFrom};
+ghost use Rattle.semantics.specs.Runs.{runLength, runRecords, atomAt, isAgent, goodRun, badRun, badKnowledgeFrom};
+ghost use Rattle.rows.specs.Rows.{placeAs, rowsOf, Sized};
+ghost use Rattle.records.specs.Records.{Bars, Valued, clearAt, hasValue, unfitFrom, partAt, recordAt, eventAt, agentsIn};
+use rows::Place;
+
+// The limits of a scenario.
+pub struct Scenario {}
+
+impl Scenario {
+    pub const MOST_ROLES: usize = 4;
+
+    pub const MOST_RUNS: usize = 4;
+
+    pub const MOST_EVENTS: usize = 8;
+}
+
+// Whether a row has a value if atoms of the kinds from low to high have none, given which of the rows below it have one.
+fn clear_row(t: &[u8], n: usize, clear: &[bool], r: usize, low: usize, high: usize) -> bool
+    requires { ⌜ Sized (now t) n × ((r < n) × (length (now clear) ≡ 96)) ⌝ }
+    ensures { λ b. ⌜ b ≡ clearAt low high (now (t .entry)) (now (clear .entry)) r ⌝ }
+{
+    let kind = rows::kind_of(t, r);
+    if kind < 8 {
+        if kind < low {
+            return true;
+        }
+        return high < kind;
+    }
+    if clear[rows::left_of(t, r)] {
+        if kind < 10 {
+            return true;
+        }
+        return clear[rows::right_of(t, r)];
+    }
+    false
+}
+
+// Which rows have a value if atoms of the kinds from low to high have none.
+pub fn clear_rows(t: &[u8], n: usize, low: usize, high: usize) -> [bool; 96]
+    requires { ⌜ Sized (now t) n ⌝ }
+    ensures { λ r. ⌜ ((reading : Reading) → Bars low high reading → Valued (rowsOf (now (t .entry))) reading r) ⌝ }
+{
+    let mut clear = [false; 96];
+    let mut r = 0;
+    while r < n {
+        let b = clear_row(t, n, &clear, r, low, high);
+        clear[r] = b;
+        r += 1;
+    }
+    clear
+}
+
+// The place of the first of some rows, in bytes that begin at a place, that is absent, has no value or is not above the one before it.
+fn unfit_row(b: &[u8], base: usize, n: usize, clear: &[bool]) -> Place
+    requires { ⌜ (n ≤ 96) × ((length (now clear) ≡ 96) × (base ≤ 65536)) ⌝ }
+    ensures { λ p. ⌜ p ≡ placeAs (unfitFrom (hasValue n (now (clear .entry))) base 0 (now (b .entry))) ⌝ }
+{
+    let mut i = 0;
+    let mut least = 0;
+    while i < b.len() {
+        let r = rows::wide(b[i]);
+        if r < least {
+            return Place::At(base + i);
+        }
+        if n <= r {
+            return Place::At(base + i);
+        }
+        if !clear[r] {
+            return Place::At(base + i);
+        }
+        least = r + 1;
+        i += 1;
+    }
+    Place::Nowhere
+}
+
+// The length of the role record at the front, by its own counts.
+pub fn role_length(s: &[u8]) -> usize
+    requires { ⌜ 1 ≤ length (now s) ⌝ }
+    ensures { λ r. ⌜ (r ≡ roleLength (now (s .entry))) × ((2 ≤ r) × (r ≤ 1277)) ⌝ }
+{
+    let knowledge = rows::wide(s[0]);
+    let at = 1 + knowledge;
+    if at < s.len() {
+        return 2 + knowledge + 4 * rows::wide(s[at]);
+    }
+    2 + knowledge
+}
+
+// How many roles are present: records that begin in the block, of the first four.
+pub fn roles_present(b: &[u8]) -> usize
+    ensures { λ r. ⌜ ((at : ℕ) → r ≡ rolesPresent (roleRecords (partAt at (now (b .entry))))) ⌝ }
+{
+    let mut i = 0;
+    let mut at = 0;
+    while i < Scenario::MOST_ROLES {
+        if b.len() <= at {
+            return i;
+        }
+        at += role_length(&b[at..]);
+        i += 1;
+    }
+    i
+}
+
+// Whether the knowledge rows of a role record are rising, present and have no variable beneath.
+fn knowledge_fits(s: &[u8], n: usize, clear: &[bool]) -> bool
+    requires { ⌜ (roleLength (now s) ≤ length (now s)) × ((n ≤ 96) × (length (now clear) ≡ 96)) ⌝ }
+    ensures { λ r. ⌜ ((rows : List Row) → n ≡ length rows → Valued rows withoutVariables (now (clear .entry)) → r ≡ knowledgeFits rows (knowledgeIn (now (s .entry)))) ⌝ }
+{
+    let end = 1 + rows::wide(s[0]);
+    let unfit = unfit_row(&s[1..end], 0, n, clear);
+    match unfit {
+        Place::At(_) => false,
+        Place::Nowhere => true,
+    }
+}
+
+// Whether the four bytes of an event at a place are of a kind, with its peer and its row present.
+fn event_fits(s: &[u8], at: usize, n: usize, roles: usize) -> bool
+    requires { ⌜ at + 3 < length (now s) ⌝ }
+    ensures { λ r. ⌜ ((rows : List Row) (place : ℕ) → n ≡ length rows → r ≡ eventFits rows roles (eventAt (now (s .entry)) at place)) ⌝ }
+{
+    if n <= rows::wide(s[at + 3]) {
+        return false;
+    }
+    let kind = s[at];
+    let peer = rows::wide(s[at + 2]);
+    match kind {
+        0 | 1 => peer < roles,
+        2 => peer == 0,
+        _ => false,
+    }
+}
+
+// Whether all events of a role record fit.
+fn events_fit(s: &[u8], n: usize, roles: usize) -> bool
+    requires { ⌜ roleLength (now s) ≤ length (now s) ⌝ }
+    ensures { λ r. ⌜ ((rows : List Row) (start : ℕ) → n ≡ length rows → r ≡ every (eventFits rows roles) (eventsIn (partAt start (now (s .entry))))) ⌝ }
+{
+    let first = 2 + rows::wide(s[0]);
+    let count = rows::wide(s[first - 1]);
+    let mut j = 0;
+    while j < count {
+        if !event_fits(s, first + 4 * j, n, roles) {
+            return false;
+        }
+        j += 1;
+    }
+    true
+}
+
+// Whether role record i, which begins at the front, is within the rules.
+fn good_role(s: &[u8], n: usize, clear: &[bool], roles: usize, i: usize) -> bool
+    requires { ⌜ (1 ≤ length (now s)) × ((n ≤ 96) × (length (now clear) ≡ 96)) ⌝ }
+    ensures { λ r. ⌜ ((rows : List Row) (start : ℕ) → n ≡ length rows → Valued rows withoutVariables (now (clear .entry)) → r ≡ goodRole rows roles i (recordAt roleLength start (now (s .entry)))) ⌝ }
+{
+    if s.len() < role_length(s) {
+        return false;
+    }
+    if Scenario::MOST_ROLES <= i {
+        return false;
+    }
+    if Scenario::MOST_EVENTS < rows::wide(s[1 + rows::wide(s[0])]) {
+        return false;
+    }
+    if !knowledge_fits(s, n, clear) {
+        return false;
+    }
+    events_fit(s, n, roles)
+}
+
+// Refusal 6 of records: the place of the first role record against the rules, in a block that begins at a place.
+pub fn bad_role(b: &[u8], base: usize, t: &[u8], n: usize) -> Place
+    requires { ⌜ Sized (now t) n × (base ≤ 65536) ⌝ }
+    ensures { λ p. ⌜ p ≡ placeAs (badRole (rowsOf (now (t .entry))) (roleRecords (partAt base (now (b .entry))))) ⌝ }
+{
+    let clear = clear_rows(t, n, 6, 6);
+    let roles = roles_present(b);
+    let mut i = 0;
+    let mut at = 0;
+    while at < b.len() {
+        let s = &b[at..];
+        if !good_role(s, n, &clear, roles, i) {
+            return Place::At(base + at);
+        }
+        at += role_length(s);
+        i += 1;
+    }
+    Place::Nowhere
+}
+
+// Refusal 6 of rows: the place of the first row that names an absent role, in a table that begins at a place.
+pub fn absent_role(t: &[u8], n: usize, roles: usize, base: usize) -> Place
+    requires { ⌜ Sized (now t) n × (base ≤ 65536) ⌝ }
+    ensures { λ p. ⌜ p ≡ placeAs (absentRoleFrom roles base (rowsOf (now (t .entry)))) ⌝ }
+{
+    let mut r = 0;
+    while r < n {
+        if rows::kind_of(t, r) == 5 {
+            if roles <= rows::left_of(t, r) {
+                return Place::At(base + 3 * r);
+            }
+        }
+        r += 1;
+    }
+    Place::Nowhere
+}
+
+// Whether a row is an agent's.
+fn is_agent(t: &[u8], n: usize, r: usize) -> bool
+    requires { ⌜ Sized (now t) n ⌝ }
+    ensures { λ b. ⌜ b ≡ isAgent (atomAt (rowsOf (now (t .entry))) r) ⌝ }
+{
+    if n <= r {
+        return false;
+    }
+    rows::kind_of(t, r) <= 2
+}
+
+// Whether the agent bytes of a run record are agents' rows.
+fn agents_fit(s: &[u8], t: &[u8], n: usize, roles: usize) -> bool
+    requires { ⌜ Sized (now t) n × ((1 + roles ≤ length (now s)) × (roles ≤ 4)) ⌝ }
+    ensures { λ b. ⌜ b ≡ every (λ r. isAgent (atomAt (rowsOf (now (t .entry))) r)) (agentsIn roles (now (s .entry))) ⌝ }
+{
+    let mut i = 0;
+    while i < roles {
+        if !is_agent(t, n, rows::wide(s[1 + i])) {
+            return false;
+        }
+        i += 1;
+    }
+    true
+}
+
+// Whether run record i, which begins at the front, is within the rules.
+fn good_run(s: &[u8], t: &[u8], n: usize, roles: usize, i: usize) -> bool
+    requires { ⌜ Sized (now t) n × ((1 ≤ length (now s)) × (roles ≤ 4)) ⌝ }
+    ensures { λ r. ⌜ ((start : ℕ) → r ≡ goodRun (rowsOf (now (t .entry))) roles i (recordAt (runLength roles) start (now (s .entry)))) ⌝ }
+{
+    if s.len() < 1 + roles {
+        return false;
+    }
+    if Scenario::MOST_RUNS <= i {
+        return false;
+    }
+    if roles <= rows::wide(s[0]) {
+        return false;
+    }
+    agents_fit(s, t, n, roles)
+}
+
+// Refusal 8: the place of the first run record against the rules, in a block that begins at a place.
+pub fn bad_run(b: &[u8], base: usize, t: &[u8], n: usize, roles: usize) -> Place
+    requires { ⌜ Sized (now t) n × ((base ≤ 65536) × (roles ≤ 4)) ⌝ }
+    ensures { λ p. ⌜ p ≡ placeAs (badRun (rowsOf (now (t .entry))) roles (runRecords roles (partAt base (now (b .entry))))) ⌝ }
+{
+    let mut i = 0;
+    let mut start = 0;
+    while start < b.len() {
+        if !good_run(&b[start..], t, n, roles, i) {
+            return Place::At(base + start);
+        }
+        start += 1 + roles;
+        i += 1;
+    }
+    Place::Nowhere
+}
+
+// Refusal 9: the place of the first knowledge byte against its rule, in a block that begins at a place.
+pub fn bad_knowledge(b: &[u8], base: usize, t: &[u8], n: usize) -> Place
+    requires { ⌜ Sized (now t) n × (base ≤ 65536) ⌝ }
+    ensures { λ p. ⌜ p ≡ placeAs (badKnowledgeFrom (rowsOf (now (t .entry))) base 0 (now (b .entry))) ⌝ }
+{
+    let clear = clear_rows(t, n, 5, 7);
+    unfit_row(b, base, n, &clear)
+}
