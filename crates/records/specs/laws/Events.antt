@@ -82,7 +82,7 @@ module _ (start : ℕ) (s : List ℕ) (first count : ℕ) where
   eventsLeft j = eventsFrom (start + (first + 4 * j)) (take (4 * (count - j)) (drop (first + 4 * j) s))
 
   -- from the first on they are those of the record
-  left-events-all : first ≡ 2 + knowledgeCount s → count ≡ eventCount s → eventsIn (partAt start s) ≡ eventsLeft 0
+  pub left-events-all : first ≡ 2 + knowledgeCount s → count ≡ eventCount s → eventsIn (partAt start s) ≡ eventsLeft 0
   unfolding eventsIn
   left-events-all e f =
       let z : first + 0 ≡ 2 + knowledgeCount s = omega arith in
@@ -90,7 +90,7 @@ module _ (start : ℕ) (s : List ℕ) (first count : ℕ) where
       rw (z, c)
 
   -- there is the event with the number, and those behind it
-  left-events-cons : (j : ℕ) → j < count → first + 4 * count ≤ length s → eventsLeft j ≡ eventAt s (first + 4 * j) (start + (first + 4 * j)) ∷ eventsLeft (j + 1)
+  pub left-events-cons : (j : ℕ) → j < count → first + 4 * count ≤ length s → eventsLeft j ≡ eventAt s (first + 4 * j) (start + (first + 4 * j)) ∷ eventsLeft (j + 1)
   left-events-cons j l h =
       let d : count - j ≡ suc (count - (j + 1)) = omega arith in
       let q : first + 4 * (j + 1) ≡ first + 4 * j + 4 = omega arith in
@@ -98,7 +98,7 @@ module _ (start : ℕ) (s : List ℕ) (first count : ℕ) where
       rw (d, q, p) (events-cons (start + (first + 4 * j)) s (first + 4 * j) (count - (j + 1)) (omega arith))
 
   -- behind the last there is none
-  left-events-none : (j : ℕ) → count ≤ j → eventsLeft j ≡ []
+  pub left-events-none : (j : ℕ) → count ≤ j → eventsLeft j ≡ []
   unfolding eventsFrom
   left-events-none j h = let d : 4 * (count - j) ≡ 0 = omega arith in rw d
 

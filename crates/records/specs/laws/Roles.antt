@@ -42,11 +42,11 @@ module _ (s : List ℕ) where
   own-events : eventCount (take (roleLength s) s) ≡ eventCount s
   own-events = rw own-knowledge (getD-take (roleLength s) s (1 + knowledgeCount s) 0 (omega arith))
 
-  own-rows : knowledgeIn (take (roleLength s) s) ≡ knowledgeIn s
+  pub own-rows : knowledgeIn (take (roleLength s) s) ≡ knowledgeIn s
   unfolding knowledgeIn
   own-rows = rw own-knowledge (take-within (knowledgeCount s) 1 (roleLength s) s (omega arith))
 
-  own-eventsIn : (start : ℕ) → eventsIn (recordAt roleLength start s) ≡ eventsIn (partAt start s)
+  pub own-eventsIn : (start : ℕ) → eventsIn (recordAt roleLength start s) ≡ eventsIn (partAt start s)
   unfolding eventsIn
   own-eventsIn start = rw (own-events, own-knowledge, take-within (4 * eventCount s) (2 + knowledgeCount s) (roleLength s) s (omega arith))
 
@@ -56,7 +56,7 @@ module _ (s : List ℕ) where
 
 module _ (rows : List Row) (roles i start : ℕ) (s : List ℕ) where
   -- what a good role record is, in the bytes from its first on
-  role-good : goodRole rows roles i (recordAt roleLength start s)
+  pub role-good : goodRole rows roles i (recordAt roleLength start s)
       ≡ (leb (roleLength s) (length s) && ltb i mostRoles && leb (eventCount s) mostEvents && knowledgeFits rows (knowledgeIn s) && every (eventFits rows roles) (eventsIn (partAt start s)))
   unfolding goodRole
   role-good = rw (own-complete s start, own-events s, own-rows s, own-eventsIn s start)

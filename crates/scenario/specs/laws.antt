@@ -1,0 +1,3 @@
+-- The laws of Open, with their proofs.
+pub mod Open
+pub mod Blocks

@@ -1,0 +1,168 @@
+// Open: a scenario file is accepted, with where its parts stand, or refused with number and place.
+ghost use mathlib.Core.Path.{_≡_};
+ghost use mathlib.Core.Option.{none};
+ghost use Prim.Native.Nat.{ℕ, _+_, _≤_};
+ghost use lib.ListN.{length};
+ghost use Rattle.semantics.specs.Roles.{badRole};
+ghost use Rattle.semantics.specs.Runs.{runRecords};
+ghost use Rattle.semantics.specs.Scenario.{termPart, roleParts, roleCount, scenarioOf, opened};
+ghost use Rattle.rows.specs.Rows.{rowsOf, placeAs};
+ghost use Rattle.cells.specs.Cells.{Shape};
+ghost use Rattle.frame.specs.Framing.{IsFramed};
+ghost use Rattle.records.specs.Records.{partAt};
+ghost use Rattle.scenario.specs.Opened.{layoutOf, openedAs, rolesRefusal, judgedRuns, judgedRows};
+use rows::Place;
+
+// A block of an accepted file: where its bytes begin, and how many rows, roles, runs or knowledge rows it has.
+pub struct Block {
+    pub start: usize,
+    pub count: usize,
+}
+
+// Where the parts of an accepted file stand.
+pub struct Layout {
+    pub budget: usize,
+    pub terms: Block,
+    pub roles: Block,
+    pub runs: Block,
+    pub knowledge: Block,
+}
+
+// What Open answers.
+pub enum Opened {
+    Refused { number: usize, place: usize },
+    Accepted(Layout),
+}
+
+// How many run records begin in a block.
+fn run_count(b: &[u8], roles: usize) -> usize
+    requires { ⌜ roles ≤ 4 ⌝ }
+    ensures { λ r. ⌜ ((at : ℕ) → r ≡ length (runRecords roles (partAt at (now (b .entry))))) ⌝ }
+{
+    let mut i = 0;
+    let mut at = 0;
+    while at < b.len() {
+        at += 1 + roles;
+        i += 1;
+    }
+    i
+}
+
+// Refusal 6, or none, of a framed file whose table has n rows: a record, or after all records a row that names an absent role.
+fn judged_roles(file: &[u8], n: usize) -> Place
+    requires { ⌜ IsFramed (now file) × Shape (termPart (now file) .bytes) n 0 ⌝ }
+    ensures { λ p. ⌜ p ≡ placeAs (rolesRefusal (now (file .entry)) (rowsOf (termPart (now (file .entry)) .bytes))) ⌝ }
+{
+    let terms = frame::block_of(file, 0);
+    let roles = frame::block_of(file, 1);
+    let base = frame::start_of(file, 1);
+    let place = records::bad_role(roles, base, terms, n);
+    match place {
+        Place::At(at) => Place::At(at),
+        Place::Nowhere => {
+            let count = records::roles_present(roles);
+            let first = frame::start_of(file, 0);
+            records::absent_role(terms, n, count, first)
+        }
+    }
+}
+
+// Where the parts of a framed file stand.
+fn parts_of(file: &[u8], n: usize, roles: usize) -> Layout
+    requires { ⌜ IsFramed (now file) × (Shape (termPart (now file) .bytes) n 0 × ((roles ≡ roleCount (now file)) × (badRole (rowsOf (termPart (now file) .bytes)) (roleParts (now file)) ≡ none))) ⌝ }
+    ensures { λ r. ⌜ r ≡ layoutOf (now (file .entry)) (scenarioOf (now (file .entry)) (rowsOf (termPart (now (file .entry)) .bytes))) ⌝ }
+{
+    let runs = frame::block_of(file, 2);
+    let knowledge = frame::block_of(file, 3);
+    Layout {
+        budget: frame::budget(file),
+        terms: Block {
+            start: frame::start_of(file, 0),
+            count: n,
+        },
+        roles: Block {
+            start: frame::start_of(file, 1),
+            count: roles,
+        },
+        runs: Block {
+            start: frame::start_of(file, 2),
+            count: run_count(runs, roles),
+        },
+        knowledge: Block {
+            start: frame::start_of(file, 3),
+            count: knowledge.len(),
+        },
+    }
+}
+
+// Refusals 8 and 9, or accepted, of a file whose table, roles and events are good.
+fn judged_runs(file: &[u8], n: usize) -> Opened
+    requires { ⌜ IsFramed (now file) × (Shape (termPart (now file) .bytes) n 0 × (badRole (rowsOf (termPart (now file) .bytes)) (roleParts (now file)) ≡ none)) ⌝ }
+    ensures { λ r. ⌜ r ≡ openedAs (now (file .entry)) (judgedRuns (now (file .entry)) (rowsOf (termPart (now (file .entry)) .bytes))) ⌝ }
+{
+    let terms = frame::block_of(file, 0);
+    let roles = records::roles_present(frame::block_of(file, 1));
+    let runs = frame::block_of(file, 2);
+    let knowledge = frame::block_of(file, 3);
+    let place = records::bad_run(runs, frame::start_of(file, 2), terms, n, roles);
+    match place {
+        Place::At(at) => Opened::Refused {
+            number: 8,
+            place: at,
+        },
+        Place::Nowhere => {
+            let place = records::bad_knowledge(knowledge, frame::start_of(file, 3), terms, n);
+            match place {
+                Place::At(at) => Opened::Refused {
+                    number: 9,
+                    place: at,
+                },
+                Place::Nowhere => Opened::Accepted(parts_of(file, n, roles)),
+            }
+        }
+    }
+}
+
+// Refusals 6 to 9, or accepted, of a framed file whose table has n rows.
+fn judged(file: &[u8], n: usize) -> Opened
+    requires { ⌜ IsFramed (now file) × Shape (termPart (now file) .bytes) n 0 ⌝ }
+    ensures { λ r. ⌜ r ≡ openedAs (now (file .entry)) (judgedRows (now (file .entry)) (rowsOf (termPart (now (file .entry)) .bytes))) ⌝ }
+{
+    let place = judged_roles(file, n);
+    match place {
+        Place::At(at) => Opened::Refused {
+            number: 6,
+            place: at,
+        },
+        Place::Nowhere => {
+            let terms = frame::block_of(file, 0);
+            let roles = frame::block_of(file, 1);
+            let place = wellformed::ill_formed(roles, frame::start_of(file, 1), terms, n);
+            match place {
+                Place::At(at) => Opened::Refused {
+                    number: 7,
+                    place: at,
+                },
+                Place::Nowhere => judged_runs(file, n),
+            }
+        }
+    }
+}
+
+// "Open, in this order."
+pub fn open(file: &[u8]) -> Opened
+    ensures { λ r. ⌜ r ≡ openedAs (now (file .entry)) (opened (now (file .entry))) ⌝ }
+{
+    let framing = frame::check(file);
+    match framing {
+        frame::Framing::Refused { number, place } => Opened::Refused { number, place },
+        frame::Framing::Framed => {
+            let terms = frame::block_of(file, 0);
+            let table = table::check(terms, frame::start_of(file, 0));
+            match table {
+                table::Judged::Refused { number, place } => Opened::Refused { number, place },
+                table::Judged::Rows(n) => judged(file, n),
+            }
+        }
+    }
+}

@@ -1,0 +1,5 @@
+-- The laws of well-formed events, with their proofs.
+pub mod Rows
+pub mod Marks
+pub mod WellFormed
+pub mod IllFormed
