@@ -32,6 +32,9 @@ enum tejorva_word {
  * in the list (its length if the target is absent). */
 uint64_t tejorva_derive(const uint8_t *table, size_t table_len, const uint8_t *list, size_t list_len, uint64_t target);
 
+/* Whether a scenario file is accepted: TEJORVA_ACCEPTED, or TEJORVA_REFUSED with 1 to 9 and a place in the file. */
+uint64_t tejorva_open(const uint8_t *file, size_t file_len);
+
 /* The word of an answer. */
 static inline enum tejorva_word tejorva_word(uint64_t answer) { return (enum tejorva_word)(answer >> 60); }
 

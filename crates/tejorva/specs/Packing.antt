@@ -2,14 +2,22 @@
 use Prim.Native.Nat.{ℕ, _+_, _*_, min}
 use mathlib.Core.Path.{_≡_, refl}
 use mathlib.Core.Bool.{Bool, true, false}
+use mathlib.Core.List.{List}
 use Rattle.semantics.specs.Answer.{Answer, refused, accepted}
+use Rattle.semantics.specs.Scenario.{Scenario}
 use Rattle.derive.specs.Answers.{derivedAs}
 use Rattle.derive.specs.declared.Derived.{Derived}
 use Rattle.derive.specs.declared.Derived.the-variants.{Refused, Derivable, NotDerivable}
+use Rattle.scenario.specs.Opened.{openedAs}
+use Rattle.scenario.specs.declared.Opened.{Opened}
+use Rattle.scenario.specs.declared.Opened.the-variants as opening
 
 -- the words
 abbrev pub refusedWord : ℕ
 refusedWord = 0
+
+abbrev pub acceptedWord : ℕ
+acceptedWord = 4
 
 abbrev pub derivableWord : ℕ
 derivableWord = 5
@@ -42,3 +50,18 @@ pub packed-derived : (a : Answer Bool) → packedOf (derivedAs a) ≡ packedDeri
 packed-derived (refused r) = refl
 packed-derived (accepted true) = refl
 packed-derived (accepted false) = refl
+
+-- Open's answer
+abbrev pub packedOpened : Answer Scenario → ℕ
+packedOpened (refused r) = packedRefusal (r .number) (r .place)
+packedOpened (accepted sc) = wordAlone acceptedWord
+
+-- the same of the code's enum
+abbrev pub packedOpening : Opened → ℕ
+packedOpening (opening.Refused number place) = packedRefusal number place
+packedOpening (opening.Accepted layout) = wordAlone acceptedWord
+
+-- the two agree
+pub packed-opened : (file : List ℕ) (a : Answer Scenario) → packedOpening (openedAs file a) ≡ packedOpened a
+packed-opened file (refused r) = refl
+packed-opened file (accepted sc) = refl

@@ -2,8 +2,10 @@
 ghost use mathlib.Core.Path.{_≡_};
 ghost use Prim.Native.Nat.{min};
 ghost use Rattle.semantics.specs.Derive.{derived};
-ghost use Rattle.tejorva.specs.Packing.{packedRefusal, packedOf, packedDerived};
+ghost use Rattle.semantics.specs.Scenario.{opened};
+ghost use Rattle.tejorva.specs.Packing.{packedRefusal, packedOf, packedDerived, packedOpening, packedOpened};
 use derive::Derived;
+use scenario::Opened;
 
 // The smaller of two numbers.
 fn least(a: u64, b: u64) -> u64
@@ -30,10 +32,28 @@ fn packed(answer: Derived) -> u64
     }
 }
 
+// Open's answer as one number.
+fn packed_opening(answer: Opened) -> u64
+    ensures { λ r. ⌜ r ≡ packedOpening answer ⌝ }
+{
+    match answer {
+        Opened::Refused { number, place } => refusal(number, place),
+        Opened::Accepted(_) => 4 * 1152921504606846976,
+    }
+}
+
 // Whether row `target` of a table is derivable from the listed rows.
 #[no_mangle]
 pub extern "C" fn tejorva_derive(table: &[u8], list: &[u8], target: u64) -> u64
     ensures { λ r. ⌜ r ≡ packedDerived (derived (now (table .entry)) (now (list .entry)) target) ⌝ }
 {
     packed(derive::derive(table, list, target))
+}
+
+// Whether a scenario file is accepted.
+#[no_mangle]
+pub extern "C" fn tejorva_open(file: &[u8]) -> u64
+    ensures { λ r. ⌜ r ≡ packedOpened (opened (now (file .entry))) ⌝ }
+{
+    packed_opening(scenario::open(file))
 }

@@ -1,6 +1,7 @@
 //! The 64-bit answer read as include/tejorva.h reads it, and written in the words of the cases.
 
 pub const REFUSED: u64 = 0;
+pub const ACCEPTED: u64 = 4;
 pub const DERIVABLE: u64 = 5;
 pub const NOT_DERIVABLE: u64 = 6;
 
@@ -20,6 +21,14 @@ pub fn derived(answer: u64) -> String {
     refusal(answer).unwrap_or_else(|| match answer {
         a if a == DERIVABLE << 60 => "YES".to_string(),
         a if a == NOT_DERIVABLE << 60 => "NO".to_string(),
+        a => format!("UNKNOWN {a:x}"),
+    })
+}
+
+/// Open's answer in the words of the cases.
+pub fn opened(answer: u64) -> String {
+    refusal(answer).unwrap_or_else(|| match answer {
+        a if a == ACCEPTED << 60 => "OK".to_string(),
         a => format!("UNKNOWN {a:x}"),
     })
 }

@@ -11,6 +11,7 @@ mod ffi {
             list_len: usize,
             target: u64,
         ) -> u64;
+        pub fn tejorva_open(file: *const u8, file_len: usize) -> u64;
     }
 }
 
@@ -25,4 +26,9 @@ pub fn derive(table: &[u8], list: &[u8], target: u64) -> u64 {
             target,
         )
     }
+}
+
+/// Whether a scenario file is accepted, as the packed number.
+pub fn open(file: &[u8]) -> u64 {
+    unsafe { ffi::tejorva_open(file.as_ptr(), file.len()) }
 }

@@ -39,7 +39,7 @@ start-of-requires c κs = search needs
 
 -- src/lib.rt:140:17
 ill-formed-requires : tie.Need-ill-formed-requires
-ill-formed-requires c κs = 
+ill-formed-requires c κs =
     let s = c .before .before .before .before .before .before .before in
     let file = s .args .file .now in
     (terms-shape file (c .before .before .block-of .ensures) (s .pre .1), (omega arith, roles-good file (c .before .before .block-of .ensures) (c .before .block-of2 .ensures) (c .start-of .ensures .0) (no-bad-role file (rowsIn file) (c .before .before .before .before .before .judged-roles .ensures) (c .before .before .before .enum-told .given .1))))
@@ -54,20 +54,20 @@ enum-told-2 c = search needs
 
 -- src/lib.rt:146:35
 judged-runs-requires : tie.Need-judged-runs-requires
-judged-runs-requires c κs = 
+judged-runs-requires c κs =
     let s = c .before .before .before .before .before .before .before .before .before .before in
     let file = s .args .file .now in
     (s .pre .0, (s .pre .1, no-bad-role file (rowsIn file) (c .before .before .before .before .before .before .before .before .judged-roles .ensures) (c .before .before .before .before .before .before .enum-told .given .1)))
 
 -- src/lib.rt:127:1
 returns : tie.Need-returns
-returns c = 
+returns c =
     let file = c .before .before .before .before .before .args .file .now in
     roles-refused file (rowsIn file) (c .before .before .before .judged-roles .ensures) (c .before .place .given .1)
 
 -- src/lib.rt:127:1
 returns-2 : tie.Need-returns-2
-returns-2 c = 
+returns-2 c =
     let file = c .before .before .before .before .before .before .before .before .before .before .before .args .file .now in
     events-refused file (rowsIn file) (c .before .before .before .before .before .before .before .before .before .judged-roles .ensures) (c .before .before .before .before .before .before .before .enum-told .given .1)
     (events-read file (c .before .before .before .before .before .before .block-of .ensures) (c .before .before .before .before .before .block-of2 .ensures) (c .before .before .before .before .start-of .ensures .0) (c .before .before .before .ill-formed .ensures))
@@ -75,7 +75,7 @@ returns-2 c =
 
 -- src/lib.rt:127:1
 returns-3 : tie.Need-returns-3
-returns-3 c = 
+returns-3 c =
     let file = c .before .before .before .before .before .before .before .before .before .before .before .args .file .now in
     c .judged-runs .ensures
     ∙ events-passed file (rowsIn file) (c .before .before .before .before .before .before .before .before .before .judged-roles .ensures) (c .before .before .before .before .before .before .before .enum-told .given .1)
