@@ -1,4 +1,5 @@
 //! The same analysis in Rust: the check of a table, classes of cells, marks settled to a fixed point.
+// Functions are marked inline so that each module that calls them has them at hand, made for its number of runs.
 
 const ABSENT: u16 = 480;
 
@@ -13,12 +14,7 @@ pub fn derive(table: &[u8], list: &[u8], target: u64) -> u64 {
     if target >= n as u64 {
         return refusal(11, list.len());
     }
-    let mut names = [ABSENT; 480];
-    for r in 0..n {
-        names[r] = r as u16;
-    }
-    let mut classes = [ABSENT; 480];
-    refill(&mut classes, table, n, 0, &names, 0);
+    let classes = role_level(table, n);
     let mut start = [false; 480];
     for &r in list {
         start[r as usize] = true;
@@ -27,11 +23,24 @@ pub fn derive(table: &[u8], list: &[u8], target: u64) -> u64 {
     (if marks[target as usize] { 5 } else { 6 }) << 60
 }
 
-fn refusal(number: u64, place: usize) -> u64 {
+pub fn refusal(number: u64, place: usize) -> u64 {
     (number << 52) + place as u64
 }
 
+/// The classes of a table where every row stands for itself, in run 0.
+#[inline]
+pub fn role_level(table: &[u8], n: usize) -> [u16; 480] {
+    let mut names = [ABSENT; 480];
+    for r in 0..n {
+        names[r] = r as u16;
+    }
+    let mut classes = [ABSENT; 480];
+    refill(&mut classes, table, n, 0, &names, 0);
+    classes
+}
+
 /// How many rows a table has, or the first refusal.
+#[inline]
 pub fn check(t: &[u8], at: usize) -> Result<usize, (u64, usize)> {
     let mut variables = 0;
     let mut i = 0;
@@ -56,6 +65,7 @@ pub fn check(t: &[u8], at: usize) -> Result<usize, (u64, usize)> {
     }
 }
 
+#[inline]
 fn fits(t: &[u8], i: usize) -> bool {
     let (left, right) = (t[3 * i + 1] as usize, t[3 * i + 2] as usize);
     let agent = |a: usize| a < i && (matches!(t[3 * a], 1 | 2 | 5) || t[3 * a] == 6 && t[3 * a + 2] == 0);
@@ -71,10 +81,12 @@ fn fits(t: &[u8], i: usize) -> bool {
     }
 }
 
+#[inline]
 fn cell(r: usize, u: usize) -> usize {
     u * 96 + r
 }
 
+#[inline]
 fn second(t: &[u8], r: usize) -> usize {
     if t[3 * r] < 10 {
         t[3 * r + 1] as usize
@@ -84,6 +96,7 @@ fn second(t: &[u8], r: usize) -> usize {
 }
 
 /// The class of the cells of a kind whose parts have the given classes.
+#[inline]
 fn found(t: &[u8], n: usize, runs: usize, classes: &[u16; 480], kind: u8, a: u16, b: u16) -> u16 {
     for x in 0..n {
         if t[3 * x] == kind {
@@ -100,6 +113,7 @@ fn found(t: &[u8], n: usize, runs: usize, classes: &[u16; 480], kind: u8, a: u16
 }
 
 /// Gives every row its class in run u, if it has none yet.
+#[inline]
 pub fn refill(classes: &mut [u16; 480], t: &[u8], n: usize, runs: usize, names: &[u16; 480], u: usize) {
     for x in 0..n {
         let c = cell(x, u);
@@ -124,11 +138,14 @@ pub fn refill(classes: &mut [u16; 480], t: &[u8], n: usize, runs: usize, names: 
     }
 }
 
+#[inline]
 fn marked(marks: &[bool; 480], class: u16) -> bool {
     class < ABSENT && marks[class as usize]
 }
 
-fn opens(marks: &[bool; 480], t: &[u8], n: usize, runs: usize, classes: &[u16; 480], k: usize, u: usize) -> bool {
+/// Whether the inverse of the key in row k, as run u has it, is marked.
+#[inline]
+pub fn opens(marks: &[bool; 480], t: &[u8], n: usize, runs: usize, classes: &[u16; 480], k: usize, u: usize) -> bool {
     let kind = t[3 * k];
     if kind == 8 || kind == 9 {
         let a = classes[cell(t[3 * k + 1] as usize, u)];
@@ -138,6 +155,7 @@ fn opens(marks: &[bool; 480], t: &[u8], n: usize, runs: usize, classes: &[u16; 4
 }
 
 /// Marks worked on until nothing can be built or taken apart any more.
+#[inline]
 pub fn settle(start: &[bool; 480], t: &[u8], n: usize, runs: usize, classes: &[u16; 480]) -> [bool; 480] {
     let mut marks = [false; 480];
     for u in 0..=runs {
@@ -172,6 +190,7 @@ pub fn settle(start: &[bool; 480], t: &[u8], n: usize, runs: usize, classes: &[u
     out
 }
 
+#[inline]
 fn build(marks: &mut [bool; 480], t: &[u8], runs: usize, classes: &[u16; 480], x: usize) {
     if t[3 * x] < 11 {
         return;
@@ -185,6 +204,7 @@ fn build(marks: &mut [bool; 480], t: &[u8], runs: usize, classes: &[u16; 480], x
     }
 }
 
+#[inline]
 fn gain(marks: &[bool; 480], t: &[u8], n: usize, runs: usize, classes: &[u16; 480], x: usize, u: usize) -> u16 {
     let kind = t[3 * x];
     if kind < 11 || !marked(marks, classes[cell(x, u)]) {

@@ -1,9 +1,11 @@
 //! Times the proved library against Rust with the same analysis: best of several rounds of each, taken in turn, and the ratio.
 mod derive;
 mod knowledge;
+mod open;
 
 fn main() {
     derive::run();
+    open::run();
 }
 
 /// The least time of one call in nanoseconds, over rounds that take turns with the other side.
