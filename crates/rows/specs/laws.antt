@@ -1,2 +1,3 @@
 -- The laws of rows, with their proofs.
 pub mod Decodes
+pub mod Places

@@ -17,12 +17,13 @@ use Rattle.semantics.specs.laws.List.{mem-cases}
 use Rattle.rows.specs.Rows.{rowsOf, placeAs}
 use Rattle.rows.specs.declared.Place.{Place}
 use Rattle.rows.specs.declared.Place.the-variants.{At, Nowhere}
-use Rattle.rows.specs.laws.Decodes.{table-good, table-length}
+use Rattle.rows.specs.laws.Places.{at-some, nowhere-none}
 use Rattle.table.specs.Check.{judgedAs}
 use Rattle.table.specs.declared.Judged.{Judged}
 use Rattle.table.specs.declared.Judged.the-variants as judged
-use Rattle.table.specs.laws.Table.{judged-table, judged-refused, table-accepted}
+use Rattle.table.specs.laws.Table.{judged-sized, judged-refused, table-accepted}
 use Rattle.cells.specs.Cells.{Shape}
+use Rattle.cells.specs.laws.Shape.{sized-shape}
 use Rattle.role_level.specs.RoleLevel.{ListedBelow}
 use Rattle.derive.specs.Answers.{derivedAs, AbsentAt}
 use Rattle.derive.specs.declared.Derived.{Derived}
@@ -42,14 +43,6 @@ none-absent rows at (r ∷ list) target e =
     let rest = none-absent rows (suc at) list target (w .1) in
     (λ x m. mem-cases m (λ q. rw q (ltb→lt r (length rows) (w .0))) (rest .0 x), rest .1)
 
-nowhere-none : (o : Option ℕ) → Nowhere ≡ placeAs o → o ≡ none
-nowhere-none none e = refl
-nowhere-none (some at) e = let z : _≡_ {A = ℕ} 0 1 = cc in absurd (omega arith)
-
-at-some : (o : Option ℕ) {at : ℕ} → At at ≡ placeAs o → o ≡ some at
-at-some none e = let z : _≡_ {A = ℕ} 0 1 = cc in absurd (omega arith)
-at-some (some at) e = cc
-
 module _ (table list : List ℕ) (target : ℕ) {j : Judged} (check : j ≡ judgedAs (rowsFrom 0 [] table)) where
   -- a refused table
   pub derive-refused : {number place : ℕ} → j ≡ judged.Refused number place → Refused number place ≡ derivedAs (derived table list target)
@@ -59,15 +52,7 @@ module _ (table list : List ℕ) (target : ℕ) {j : Judged} (check : j ≡ judg
   module _ {n : ℕ} (rows : j ≡ judged.Rows n) where
     -- an accepted one
     pub derive-shape : Shape table n 0
-    derive-shape =
-        let w = judged-table 0 table n (sym check ∙ rows) in
-        record {
-          table = w .0;
-          count = w .1;
-          size = omega (arith, table-length table (w .0), w .1);
-          few = omega (arith, table-good table (w .0) .few, w .1);
-          fewRuns = omega arith;
-        }
+    derive-shape = sized-shape (judged-sized 0 table n (sym check ∙ rows))
 
     module _ {p : Place} (absent : AbsentAt n list target p) where
       found : p ≡ placeAs (absentFrom (rowsOf table) 0 list target)

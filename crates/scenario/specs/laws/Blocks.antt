@@ -16,6 +16,7 @@ use Rattle.rows.specs.declared.Place.{Place}
 use Rattle.table.specs.Check.{judgedAs}
 use Rattle.table.specs.declared.Judged.{Judged}
 use Rattle.cells.specs.Cells.{Shape}
+use Rattle.cells.specs.laws.Shape.{shape-sized}
 use Rattle.records.specs.Records.{partAt}
 
 module _ (file : List ℕ) where
@@ -24,8 +25,7 @@ module _ (file : List ℕ) where
 
   module _ {t : List ℕ} (terms : t ≡ termPart file .bytes) where
     pub terms-sized : {n : ℕ} → Shape (termPart file .bytes) n 0 → Sized t n
-    terms-sized {n} s =
-        subst (λ (bytes : List ℕ). Sized bytes n) (sym terms) record { table = s .table; count = s .count; size = s .size; few = s .few }
+    terms-sized {n} s = subst (λ (bytes : List ℕ). Sized bytes n) (sym terms) (shape-sized s)
 
     pub terms-shape : {n : ℕ} → Shape (termPart file .bytes) n 0 → Shape t n 0
     terms-shape {n} s = subst (λ (bytes : List ℕ). Shape bytes n 0) (sym terms) s

@@ -15,17 +15,18 @@ use Rattle.semantics.specs.Runs.{runLength, runIn, runRecords, runsFrom, badRun
 use Rattle.semantics.specs.Scenario.{Scenario, termPart, rolePart, runPart, knowledgePart, roleParts, roleCount, runParts, scenarioOf, opened}
 use Rattle.semantics.specs.laws.Open.{badRole-present}
 use Rattle.rows.specs.Rows.{rowsOf, placeAs}
-use Rattle.rows.specs.laws.Decodes.{table-good, table-length}
+use Rattle.rows.specs.laws.Places.{at-some, nowhere-none}
 use Rattle.rows.specs.declared.Place.{Place}
 use Rattle.rows.specs.declared.Place.the-variants.{At, Nowhere}
 use Rattle.cells.specs.Cells.{Shape}
+use Rattle.cells.specs.laws.Shape.{sized-shape}
 use Rattle.frame.specs.Framing.{framingOf, framingAs}
 use Rattle.frame.specs.declared.Framing.{Framing}
 use Rattle.frame.specs.declared.Framing.the-variants as framing
 use Rattle.table.specs.Check.{judgedAs}
 use Rattle.table.specs.declared.Judged.{Judged}
 use Rattle.table.specs.declared.Judged.the-variants as judged
-use Rattle.table.specs.laws.Table.{judged-refused, judged-table, table-accepted}
+use Rattle.table.specs.laws.Table.{judged-refused, judged-sized, table-accepted}
 use Rattle.records.specs.Records.{partAt}
 use Rattle.records.specs.laws.Records.{recordsLeft, left-cons, left-none, left-all}
 use Rattle.records.specs.laws.Runs.{run-bytes}
@@ -33,15 +34,6 @@ use Rattle.scenario.specs.Opened.{layoutOf, openedAs, rolesRefusal, judg
 use Rattle.scenario.specs.declared.Layout.{Layout}
 use Rattle.scenario.specs.declared.Opened.{Opened}
 use Rattle.scenario.specs.declared.Opened.the-variants.{Refused, Accepted}
-
--- a place that a condition gives
-pub at-some : (o : Option ℕ) {at : ℕ} → At at ≡ placeAs o → o ≡ some at
-at-some none e = let z : _≡_ {A = ℕ} 0 1 = cc in absurd (omega arith)
-at-some (some at) e = cc
-
-pub nowhere-none : (o : Option ℕ) → Nowhere ≡ placeAs o → o ≡ none
-nowhere-none none e = refl
-nowhere-none (some at) e = let z : _≡_ {A = ℕ} 0 1 = cc in absurd (omega arith)
 
 -- two conditions with one number, one after the other
 six-cases : (a b : Option ℕ) (rest : Answer Scenario) → _>>_ (checked 6 a) (_>>_ (checked 6 b) rest) ≡ _>>_ (checked 6 (firstOf (a ∷ b ∷ []))) rest
@@ -95,15 +87,7 @@ module _ (file : List ℕ) where
 
         module _ {n : ℕ} (rows : j ≡ judged.Rows n) where
           pub terms-shape : Shape (termPart file .bytes) n 0
-          terms-shape =
-              let w = judged-table (termPart file .start) (termPart file .bytes) n (sym table ∙ rows) in
-              record {
-                table = w .0;
-                count = w .1;
-                size = omega (arith, table-length (termPart file .bytes) (w .0), w .1);
-                few = omega (arith, table-good (termPart file .bytes) (w .0) .few, w .1);
-                fewRuns = omega arith;
-              }
+          terms-shape = sized-shape (judged-sized (termPart file .start) (termPart file .bytes) n (sym table ∙ rows))
 
           pub opened-rows : {o : Opened} → o ≡ openedAs file (judgedRows file (rowsOf (termPart file .bytes))) → o ≡ openedAs file (opened file)
           opened-rows h = rw (opened-framed, table-accepted (termPart file .bytes) (terms-shape .table) (termPart file .start)) h

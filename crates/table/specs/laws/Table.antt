@@ -13,10 +13,10 @@ use Rattle.semantics.specs.Guarantee.{GoodTable}
 use Rattle.semantics.specs.Table.{Row, decode, admissible, repeated, rowRefusal, extended, rowsFrom}
 use Rattle.semantics.specs.laws.Table.{Reads, ends, reads, rowsFrom-reads, rows-good, rows-decoded}
 use Rattle.semantics.specs.laws.List.{getElem-there}
-use Rattle.rows.specs.Rows.{IsTable, rowsOf, rowsOr, decodedAt}
+use Rattle.rows.specs.Rows.{IsTable, Sized, rowsOf, rowsOr, decodedAt}
 use Rattle.table.specs.Check.{judgedAs}
 use Rattle.table.specs.declared.Judged.the-variants.{Refused, Rows}
-use Rattle.rows.specs.laws.Decodes.{Decodes, table-row}
+use Rattle.rows.specs.laws.Decodes.{Decodes, table-row, table-good, table-length}
 
 -- a test that passes, and one that does not
 pub passes : (b : Bool) → T b → b ≡ true
@@ -90,6 +90,17 @@ judged-table at bytes n j =
     let w = judged-accepted (rowsFrom at [] bytes) n j in
     let t = accepted-table at bytes (w .0) (w .1) in
     (t .0, rw (t .1) (w .2))
+
+-- the bytes of an accepted table
+pub judged-sized : (at : ℕ) (bytes : List ℕ) (n : ℕ) → judgedAs (rowsFrom at [] bytes) ≡ Rows n → Sized bytes n
+judged-sized at bytes n j =
+    let w = judged-table at bytes n j in
+    record {
+      table = w .0;
+      count = w .1;
+      size = omega (arith, table-length bytes (w .0), w .1);
+      few = omega (arith, table-good bytes (w .0) .few, w .1);
+    }
 
 -- a table is accepted at every place
 pub table-accepted : (bytes : List ℕ) → IsTable bytes → (at : ℕ) → rowsFrom at [] bytes ≡ accepted (rowsOf bytes)
