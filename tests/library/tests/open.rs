@@ -94,7 +94,7 @@ fn damaged_files_answer_as_the_reference() {
             if random.chance(3) {
                 damage(&mut random, &mut file);
             } else if !file.is_empty() {
-                // a byte after the frame, so that the later conditions are reached as well
+                // a small byte is often a kind or a row, so that the later conditions are reached as well
                 let at = random.below(file.len());
                 file[at] = random.below(24) as u8;
             }
