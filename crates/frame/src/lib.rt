@@ -3,8 +3,10 @@ ghost use mathlib.Core.Path.{_≡_};
 ghost use mathlib.Core.Bool.{true};
 ghost use Prim.Native.Nat.{_+_, _<_, _≤_};
 ghost use lib.ListN.{length, take, drop};
-ghost use Rattle.semantics.specs.Frame.{blockLength, budgetOf, framed, blockFrom, block};
+ghost use Rattle.semantics.specs.Frame.{blockLength, unversioned, tooLong, budgetOf, framed, misframed, blockFrom, block};
+ghost use Rattle.rows.specs.Rows.{placeAs};
 ghost use Rattle.frame.specs.Framing.{framingOf, framingAs, IsFramed};
+use rows::Place;
 
 // The limit of a file.
 pub struct File {}
@@ -63,41 +65,65 @@ fn is_framed(s: &[u8], n: usize) -> bool
     is_framed(rest(s), n - 1)
 }
 
-// Refusals 1 to 3.
+// Refusal 1: the file is empty, or its version is not 1.
+fn unversioned(file: &[u8]) -> Place
+    ensures { λ p. ⌜ p ≡ placeAs (unversioned (now (file .entry))) ⌝ }
+{
+    if file.len() == 0 {
+        return Place::At(0);
+    }
+    if file[0] != 1 {
+        return Place::At(0);
+    }
+    Place::Nowhere
+}
+
+// Refusal 2: the file is longer than the limit.
+fn too_long(file: &[u8]) -> Place
+    ensures { λ p. ⌜ p ≡ placeAs (tooLong (now (file .entry))) ⌝ }
+{
+    if File::MOST_BYTES < file.len() {
+        return Place::At(File::MOST_BYTES);
+    }
+    Place::Nowhere
+}
+
+// Refusal 3: the budget or a block runs past the end, or bytes remain after the last block.
+fn misframed(file: &[u8]) -> Place
+    ensures { λ p. ⌜ p ≡ placeAs (misframed (now (file .entry))) ⌝ }
+{
+    if file.len() < 5 {
+        return Place::At(file.len());
+    }
+    if is_framed(&file[5..], File::BLOCKS) {
+        return Place::Nowhere;
+    }
+    Place::At(file.len())
+}
+
+// Refusals 1 to 3, in this order.
 pub fn check(file: &[u8]) -> Framing
     ensures { λ r. ⌜ r ≡ framingAs (framingOf (now (file .entry))) ⌝ }
 {
-    if file.len() == 0 {
-        return Framing::Refused {
-            number: 1,
-            place: 0,
-        };
+    match unversioned(file) {
+        Place::At(place) => {
+            return Framing::Refused { number: 1, place };
+        }
+        Place::Nowhere => {}
     }
-    if file[0] != 1 {
-        return Framing::Refused {
-            number: 1,
-            place: 0,
-        };
+    match too_long(file) {
+        Place::At(place) => {
+            return Framing::Refused { number: 2, place };
+        }
+        Place::Nowhere => {}
     }
-    if File::MOST_BYTES < file.len() {
-        return Framing::Refused {
-            number: 2,
-            place: File::MOST_BYTES,
-        };
+    match misframed(file) {
+        Place::At(place) => {
+            return Framing::Refused { number: 3, place };
+        }
+        Place::Nowhere => {}
     }
-    if file.len() < 5 {
-        return Framing::Refused {
-            number: 3,
-            place: file.len(),
-        };
-    }
-    if is_framed(&file[5..], File::BLOCKS) {
-        return Framing::Framed;
-    }
-    Framing::Refused {
-        number: 3,
-        place: file.len(),
-    }
+    Framing::Framed
 }
 
 // The budget: how many traces of the list may be judged.

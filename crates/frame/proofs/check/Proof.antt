@@ -1,40 +1,49 @@
--- `frame::check` meets its contract: each way out is a refusal or a framed file. Assumes nothing.
-use native.Mathlib.Omega.{arith}
+-- `frame::check` meets its contract: one condition after the other, and the first that holds refuses. Assumes nothing.
 use borrow.Author.Needs.{needs}
-use Rattle.frame.specs.laws.Frame.{refused-empty, refused-version, refused-long, refused-budget, refused-blocks, is-framed, part-decides}
+use Rattle.frame.specs.laws.Frame.{version-refused, size-refused, blocks-refused, none-refused}
 use Rattle.frame.proofs.check.Statement.{statement}
 use Rattle.frame.proofs.check.Tie as tie
 
+-- v, l and m: after the calls of `unversioned`, `too_long` and `misframed`
 returns : tie.Need-returns
-returns c = let s = c .before .before in refused-empty (s .args .file .now) (c .if1 .taken)
+returns c =
+    let v = c .before .before .before in
+    version-refused (v .before .before .args .file .now) (v .unversioned .ensures) (c .before .place .given .1)
 
 returns-2 : tie.Need-returns-2
-returns-2 c = let s = c .before .before .before .before in refused-version (s .args .file .now) (omega arith) (c .if2 .taken)
+returns-2 c =
+    let l = c .before .before .before in
+    let v = l .before .before .before in
+    size-refused (v .before .before .args .file .now) (v .unversioned .ensures) (l .before .enum-told .given .1) (l .too-long .ensures) (c .before .place2 .given .1)
 
 returns-3 : tie.Need-returns-3
-returns-3 c = let s = c .before .before .before .before .before in refused-long (s .args .file .now) (omega arith) (c .before .if2 .left) (c .if3 .taken)
+returns-3 c =
+    let m = c .before .before .before in
+    let l = m .before .before .before in
+    let v = l .before .before .before in
+    blocks-refused (v .before .before .args .file .now) (v .unversioned .ensures) (l .before .enum-told .given .1) (l .too-long .ensures) (m .before .enum-told2 .given .1) (m .misframed .ensures) (c .before .place3 .given .1)
 
 returns-4 : tie.Need-returns-4
-returns-4 c = let s = c .before .before .before .before .before .before in refused-budget (s .args .file .now) (omega arith) (c .before .before .if2 .left) (c .before .if3 .left) (c .if4 .taken)
-
-returns-5 : tie.Need-returns-5
-returns-5 c = let s = c .before .before .before .before .before .before .before .before .before in is-framed (s .args .file .now) (omega arith) (c .before .before .before .before .before .if2 .left) (c .before .before .before .before .if3 .left) (c .before .before .before .if4 .left) (part-decides (s .args .file .now) (c .before .is-framed .ensures)) (c .if5 .taken)
-
-returns-6 : tie.Need-returns-6
-returns-6 c = let s = c .before .before .before .before .before .before .before .before .before in refused-blocks (s .args .file .now) (omega arith) (c .before .before .before .before .before .if2 .left) (c .before .before .before .before .if3 .left) (c .before .before .before .if4 .left) (part-decides (s .args .file .now) (c .before .is-framed .ensures)) (c .if5 .left)
+returns-4 c =
+    let m = c .before .before in
+    let l = m .before .before .before in
+    let v = l .before .before .before in
+    none-refused (v .before .before .args .file .now) (v .unversioned .ensures) (l .before .enum-told .given .1) (l .too-long .ensures) (m .before .enum-told2 .given .1) (m .misframed .ensures) (c .enum-told3 .given .1)
 
 pub check-spec : {M : Type 1} → statement M
 check-spec =
     tie.close
     (tie.spec
+    (λ c κs. search needs)
+    (λ c. search needs)
     returns
     (λ c. search needs)
+    (λ c κs. search needs)
+    (λ c. search needs)
     returns-2
-    returns-3
-    returns-4
-    (λ c. search needs)
-    (λ c. search needs)
     (λ c. search needs)
     (λ c κs. search needs)
-    returns-5
-    returns-6)
+    (λ c. search needs)
+    returns-3
+    (λ c. search needs)
+    returns-4)

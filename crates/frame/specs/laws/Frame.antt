@@ -13,6 +13,10 @@ use lib.Seq.{take-all}
 use Rattle.semantics.specs.Answer.{checked, _>>_}
 use Rattle.semantics.specs.laws.Test.{both-left, both-right, provided-none}
 use Rattle.semantics.specs.Frame.{blockLength, budgetOf, framed, unversioned, tooLong, misframed, blockFrom, block}
+use Rattle.rows.specs.Rows.{placeAs}
+use Rattle.rows.specs.laws.Places.{at-some, nowhere-none}
+use Rattle.rows.specs.declared.Place.{Place}
+use Rattle.rows.specs.declared.Place.the-variants.{At, Nowhere}
 use Rattle.frame.specs.Framing.{framingOf, framingAs, IsFramed}
 use Rattle.frame.specs.declared.Framing.the-variants.{Refused, Framed}
 
@@ -110,46 +114,69 @@ pub start-in-file : (k : ℕ) (file : List ℕ) {r : ℕ} → r ≡ blockFrom k 
 unfolding block
 start-in-file k file e = rw e (sym (blockFrom-start k 5 (drop 5 file)))
 
--- refusals 1 to 3
-pub refused-empty : (file : List ℕ) → length file ≡ 0 → Refused 1 0 ≡ framingAs (framingOf file)
+-- refusal 1: no first byte, another than 1, or 1
+pub version-absent : (file : List ℕ) → length file ≡ 0 → At 0 ≡ placeAs (unversioned file)
 unfolding unversioned
-refused-empty [] e = refl
-refused-empty (v ∷ file) e = absurd (omega arith)
+version-absent [] e = refl
+version-absent (v ∷ file) e = absurd (omega arith)
 
-pub refused-version : (file : List ℕ) → 0 < length file → (getD file 0 0 ≡ 1 → ⊥) → Refused 1 0 ≡ framingAs (framingOf file)
+pub version-other : (file : List ℕ) → 0 < length file → (getD file 0 0 ≡ 1 → ⊥) → At 0 ≡ placeAs (unversioned file)
 unfolding unversioned
-refused-version [] l e = absurd (omega arith)
-refused-version (v ∷ file) l e = rw (ne-eqb v 1 e) refl
+version-other [] l e = absurd (omega arith)
+version-other (v ∷ file) l e = rw (ne-eqb v 1 e) refl
 
-module _ (file : List ℕ) (some-byte : 0 < length file) (version : getD file 0 0 ≡ 1) where
-  versioned : unversioned file ≡ none
-  unfolding unversioned
-  versioned = go file some-byte version
-    where
-      go : (file : List ℕ) → 0 < length file → getD file 0 0 ≡ 1 → unversioned file ≡ none
-      go [] l e = absurd (omega arith)
-      go (v ∷ file) l e = rw (eq-eqb v 1 e) refl
+pub version-one : (file : List ℕ) → 0 < length file → getD file 0 0 ≡ 1 → Nowhere ≡ placeAs (unversioned file)
+unfolding unversioned
+version-one [] l e = absurd (omega arith)
+version-one (v ∷ file) l e = rw (eq-eqb v 1 e) refl
 
-  pub refused-long : 4096 < length file → Refused 2 4096 ≡ framingAs (framingOf file)
+module _ (file : List ℕ) where
+  -- refusal 2: too many bytes, or not
+  pub size-long : 4096 < length file → At 4096 ≡ placeAs (tooLong file)
   unfolding tooLong
-  refused-long l = rw (versioned, lt-ltb 4096 (length file) l) refl
+  size-long l = rw (lt-ltb 4096 (length file) l) refl
 
-  module _ (few : length file ≤ 4096) where
-    short : tooLong file ≡ none
-    unfolding tooLong
-    short = rw (le-ltb 4096 (length file) few) refl
+  pub size-few : length file ≤ 4096 → Nowhere ≡ placeAs (tooLong file)
+  unfolding tooLong
+  size-few l = rw (le-ltb 4096 (length file) l) refl
 
-    pub refused-budget : length file < 5 → Refused 3 (length file) ≡ framingAs (framingOf file)
+  -- refusal 3: no room for the budget, other bytes than four blocks, or four blocks
+  pub budget-cut : length file < 5 → At (length file) ≡ placeAs (misframed file)
+  unfolding misframed
+  budget-cut l = rw (lt-leb 5 (length file) l) refl
+
+  module _ (size : 5 ≤ length file) {b : Bool} (blocks : b ≡ framed 4 (drop 5 file)) where
+    pub blocks-bad : b ≡ false → At (length file) ≡ placeAs (misframed file)
     unfolding misframed
-    refused-budget l = rw (versioned, short, lt-leb 5 (length file) l) refl
+    blocks-bad e = rw (le-leb 5 (length file) size, sym blocks ∙ e) refl
 
-    pub refused-blocks : 5 ≤ length file → {b : Bool} → b ≡ framed 4 (drop 5 file) → b ≡ false → Refused 3 (length file) ≡ framingAs (framingOf file)
+    pub blocks-good : b ≡ true → Nowhere ≡ placeAs (misframed file)
     unfolding misframed
-    refused-blocks l e h = rw (versioned, short, le-leb 5 (length file) l, sym e ∙ h) refl
+    blocks-good e = rw (le-leb 5 (length file) size, sym blocks ∙ e) refl
 
-    pub is-framed : 5 ≤ length file → {b : Bool} → b ≡ framed 4 (drop 5 file) → b ≡ true → Framed ≡ framingAs (framingOf file)
-    unfolding misframed
-    is-framed l e h = rw (versioned, short, le-leb 5 (length file) l, sym e ∙ h) refl
+  -- one condition after the other: the first that holds refuses
+  module _ {v : Place} (version : v ≡ placeAs (unversioned file)) where
+    pub version-refused : {at : ℕ} → v ≡ At at → Refused 1 at ≡ framingAs (framingOf file)
+    version-refused e = rw (at-some (unversioned file) (sym e ∙ version)) refl
+
+    module _ (versioned : v ≡ Nowhere) {l : Place} (size : l ≡ placeAs (tooLong file)) where
+      -- condition 1 does not hold
+      passed-1 : unversioned file ≡ none
+      passed-1 = nowhere-none (unversioned file) (sym versioned ∙ version)
+
+      pub size-refused : {at : ℕ} → l ≡ At at → Refused 2 at ≡ framingAs (framingOf file)
+      size-refused e = rw (passed-1, at-some (tooLong file) (sym e ∙ size)) refl
+
+      module _ (few : l ≡ Nowhere) {m : Place} (blocks : m ≡ placeAs (misframed file)) where
+        -- nor condition 2
+        passed-2 : tooLong file ≡ none
+        passed-2 = nowhere-none (tooLong file) (sym few ∙ size)
+
+        pub blocks-refused : {at : ℕ} → m ≡ At at → Refused 3 at ≡ framingAs (framingOf file)
+        blocks-refused e = rw (passed-1, passed-2, at-some (misframed file) (sym e ∙ blocks)) refl
+
+        pub none-refused : m ≡ Nowhere → Framed ≡ framingAs (framingOf file)
+        none-refused e = rw (passed-1, passed-2, nowhere-none (misframed file) (sym e ∙ blocks)) refl
 
 -- none of three conditions holds
 refused-framed : {P : Type 0} {n at : ℕ} → Refused n at ≡ Framed → P
