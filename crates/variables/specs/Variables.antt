@@ -1,0 +1,71 @@
+-- The variables that a read sets, from a row on, and the values that a variable may take, from a row and a run on. Assumes nothing.
+use Prim.Native.Nat.{ℕ, suc, _-_, _<_, _≤_}
+use mathlib.Core.Path.{_≡_}
+use mathlib.Core.Logic.{_↔_}
+use mathlib.Core.Bool.{Bool, true, false, _&&_, not}
+use mathlib.Core.List.{List, [], _∷_, _++_, map}
+use mathlib.Core.Option.{Option, none, some}
+use lib.Dec.{T, leb}
+use lib.ListN.{length, getD}
+use Rattle.semantics.specs.Basic.{present, keep, presentOnes, joined, numbersFrom}
+use Rattle.semantics.specs.Term.{VariableType, Atom, variable}
+use Rattle.semantics.specs.Table.{Row, variableAtom}
+use Rattle.semantics.specs.Value.{beneath}
+use Rattle.semantics.specs.Runs.{atomAt}
+use Rattle.semantics.specs.State.{Value, assigned}
+use Rattle.semantics.specs.Moves.{valuesAt, candidates}
+use Rattle.semantics.specs.Replay.{isValueOf}
+use Rattle.cells.specs.Cells.{cellOf, absent, Canonical}
+use Rattle.variables.specs.declared.NextValue.{NextValue}
+use Rattle.variables.specs.declared.NextValue.the-variants.{Value as isValue, Nothing}
+
+-- which rows lie beneath a row
+pub record Beneath (rows : List Row) (x : ℕ) (below : List Bool) : Type 0 where
+  pub size : length below ≡ 96
+  pub each : (y : ℕ) → y < length rows → getD below y false ≡ beneath rows y x
+
+-- the unset variables beneath a pattern whose rows are not below a number
+unfoldable pub unsetFrom : List Row → List (Atom × Value) → ℕ → ℕ → List Atom
+unsetFrom rows sets pattern from =
+    keep (λ a. variableAtom a && not (present (assigned a sets)))
+    (presentOnes (map (atomAt rows) (keep (λ x. beneath rows x pattern) (numbersFrom from (length rows - from)))))
+
+-- the names of a run say which of its variables are unset
+abbrev pub TellsUnset : List Row → List ℕ → ℕ → List (Atom × Value) → Type 0
+TellsUnset rows names u sets =
+    (y : ℕ) (a : Atom) → atomAt rows y ≡ some a → T (variableAtom a) → (getD names (cellOf y u) absent ≡ absent) ↔ (assigned a sets ≡ none)
+
+-- the first unset variable beneath a pattern whose row is not below a number, or none
+pub data NextUnset (rows : List Row) (names : List ℕ) (u pattern from x : ℕ) : Type 0 where
+  isNext :
+      (a : Atom) → x < length rows → from ≤ x → atomAt rows x ≡ some a → T (variableAtom a) → getD names (cellOf x u) absent ≡ absent
+      → ((sets : List (Atom × Value)) → TellsUnset rows names u sets → unsetFrom rows sets pattern from ≡ a ∷ unsetFrom rows sets pattern (suc x))
+      → NextUnset rows names u pattern from x
+  noNext :
+      x ≡ length rows → ((sets : List (Atom × Value)) → TellsUnset rows names u sets → unsetFrom rows sets pattern from ≡ [])
+      → NextUnset rows names u pattern from x
+
+-- the values of a type whose row is a given one and whose run is not below a number, or whose row is higher
+unfoldable pub valuesFrom : List Row → ℕ → VariableType → ℕ → ℕ → List Value
+valuesFrom rows runs type r w =
+    keep (λ v. leb w (v .run)) (valuesAt runs type r (atomAt rows r))
+    ++ joined (λ x. valuesAt runs type x (atomAt rows x)) (numbersFrom (suc r) (length rows - suc r))
+
+-- a row and a run that name an atom of the table
+pub record Names (rows : List Row) (runs row run : ℕ) (b : Atom) : Type 0 where
+  pub below : row < length rows
+  pub within : run ≤ runs
+  pub isAtom : atomAt rows row ≡ some b
+  pub canonical : Canonical b run
+
+-- the next value of a type, from a row and a run on
+pub data NextOf (rows : List Row) (runs : ℕ) (type : VariableType) (r w : ℕ) (next : NextValue) : Type 0 where
+  hasNext :
+      (y v : ℕ) (b : Atom) → next ≡ isValue y v → Names rows runs y v b
+      → valuesFrom rows runs type r w ≡ record { row = y; run = v } ∷ valuesFrom rows runs type y (suc v) → NextOf rows runs type r w next
+  hasNone : next ≡ Nothing → valuesFrom rows runs type r w ≡ [] → NextOf rows runs type r w next
+
+-- whether a row and a run are a value that a variable may take
+pub data MayTake (rows : List Row) (runs : ℕ) (a : Atom) (row run : ℕ) (answer : Bool) : Type 0 where
+  takes : (b : Atom) → answer ≡ true → isValueOf (record { row = row; run = run }) (candidates rows runs a) ≡ true → Names rows runs row run b → MayTake rows runs a row run answer
+  takesNot : answer ≡ false → isValueOf (record { row = row; run = run }) (candidates rows runs a) ≡ false → MayTake rows runs a row run answer

@@ -1,0 +1,1 @@
+-- The laws of variables and their values, with their proofs.
