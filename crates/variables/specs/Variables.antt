@@ -3,10 +3,10 @@ use Prim.Native.Nat.{ℕ, suc, _-_, _<_, _≤_}
 use mathlib.Core.Path.{_≡_}
 use mathlib.Core.Logic.{_↔_}
 use mathlib.Core.Bool.{Bool, true, false, _&&_, not}
-use mathlib.Core.List.{List, [], _∷_, _++_, map}
+use mathlib.Core.List.{List, [], _∷_, _++_, map, List·Memᴰ}
 use mathlib.Core.Option.{Option, none, some}
 use lib.Dec.{T, leb}
-use lib.ListN.{length, getD}
+use lib.ListN.{length, getD, getElem?}
 use Rattle.semantics.specs.Basic.{present, keep, presentOnes, joined, numbersFrom}
 use Rattle.semantics.specs.Term.{VariableType, Atom, variable}
 use Rattle.semantics.specs.Table.{Row, variableAtom}
@@ -15,6 +15,7 @@ use Rattle.semantics.specs.Runs.{atomAt}
 use Rattle.semantics.specs.State.{Value, assigned}
 use Rattle.semantics.specs.Moves.{valuesAt, candidates}
 use Rattle.semantics.specs.Replay.{isValueOf}
+use Rattle.semantics.specs.Guarantee.{refersTo}
 use Rattle.cells.specs.Cells.{cellOf, absent, Canonical}
 use Rattle.variables.specs.declared.NextValue.{NextValue}
 use Rattle.variables.specs.declared.NextValue.the-variants.{Value as isValue, Nothing}
@@ -23,6 +24,18 @@ use Rattle.variables.specs.declared.NextValue.the-variants.{Value as isV
 pub record Beneath (rows : List Row) (x : ℕ) (below : List Bool) : Type 0 where
   pub size : length below ≡ 96
   pub each : (y : ℕ) → y < length rows → getD below y false ≡ beneath rows y x
+
+-- a row is marked
+abbrev pub Marked : List Bool → ℕ → Type 0
+Marked below y = getD below y false ≡ true
+
+-- marks of rows beneath a row, that row among them, closed under parts from a row on
+pub record Settled (rows : List Row) (x from : ℕ) (below : List Bool) : Type 0 where
+  pub size : length below ≡ 96
+  pub within : x < length rows
+  pub top : Marked below x
+  pub sound : (y : ℕ) → y < length rows → Marked below y → T (beneath rows y x)
+  pub closed : (z : ℕ) (row : Row) → getElem? rows z ≡ some row → from ≤ z → Marked below z → (r : ℕ) → List·Memᴰ r (refersTo row) → Marked below r
 
 -- the unset variables beneath a pattern whose rows are not below a number
 unfoldable pub unsetFrom : List Row → List (Atom × Value) → ℕ → ℕ → List Atom

@@ -1,1 +1,2 @@
 -- The laws of variables and their values, with their proofs.
+pub mod Beneath

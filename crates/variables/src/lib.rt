@@ -3,12 +3,42 @@ ghost use mathlib.Core.Path.{_≡_};
 ghost use mathlib.Core.Option.{some};
 ghost use Prim.Native.Nat.{ℕ, _+_, _*_, _<_, _≤_};
 ghost use lib.ListN.{length, getD};
-ghost use Rattle.rows.specs.Rows.{rowsOf};
+ghost use Rattle.rows.specs.Rows.{rowsOf, Sized};
 ghost use Rattle.cells.specs.Cells.{Shape, cellCount};
-ghost use Rattle.variables.specs.Variables.{Beneath, NextUnset};
+ghost use Rattle.variables.specs.Variables.{Beneath, Settled, NextUnset};
 
 // The next value of a variable: its row and run, or nothing.
 pub enum NextValue {
     Value { row: usize, run: usize },
     Nothing,
+}
+
+// Marks the parts of row r, if it is marked itself.
+fn mark_parts(below: &mut [bool; 96], t: &[u8], n: usize, r: usize)
+    requires { ⌜ Sized (now t) n × (r < n) ⌝ }
+    ensures { λ _. ⌜ ((x : ℕ) → Settled (rowsOf (now (t .entry))) x (r + 1) (now (below .entry)) → Settled (rowsOf (now (t .entry))) x r (now (below .exit))) ⌝ }
+{
+    if !below[r] {
+        return;
+    }
+    if rows::kind_of(t, r) < 8 {
+        return;
+    }
+    below[rows::left_of(t, r)] = true;
+    below[cells::second_of(t, r)] = true;
+}
+
+// Which rows lie beneath row x: the row itself, and what lies beneath the rows that it refers to.
+pub fn beneath(t: &[u8], n: usize, x: usize) -> [bool; 96]
+    requires { ⌜ Sized (now t) n × (x < n) ⌝ }
+    ensures { λ r. ⌜ Beneath (rowsOf (now (t .entry))) x r ⌝ }
+{
+    let mut below = [false; 96];
+    below[x] = true;
+    let mut r = x + 1;
+    while 0 < r {
+        r -= 1;
+        mark_parts(&mut below, t, n, r);
+    }
+    below
 }
