@@ -1,2 +1,3 @@
 -- The laws of variables and their values, with their proofs.
 pub mod Beneath
+pub mod Unset

@@ -6,6 +6,7 @@ ghost use lib.ListN.{length, getD};
 ghost use Rattle.rows.specs.Rows.{rowsOf, Sized};
 ghost use Rattle.cells.specs.Cells.{Shape, cellCount};
 ghost use Rattle.variables.specs.Variables.{Beneath, Settled, NextUnset};
+use cells::Cells;
 
 // The next value of a variable: its row and run, or nothing.
 pub enum NextValue {
@@ -41,4 +42,23 @@ pub fn beneath(t: &[u8], n: usize, x: usize) -> [bool; 96]
         mark_parts(&mut below, t, n, r);
     }
     below
+}
+
+// The first row, not below a given one, that is an unset variable of run u beneath the pattern, or n.
+pub fn next_unset(t: &[u8], n: usize, names: &[u16], below: &[bool], u: usize, from: usize) -> usize
+    requires { ⌜ Sized (now t) n × ((length (now names) ≡ cellCount) × ((length (now below) ≡ 96) × ((u ≤ 4) × (from ≤ n)))) ⌝ }
+    ensures { λ y. ⌜ ((pattern : ℕ) → Beneath (rowsOf (now (t .entry))) pattern (now (below .entry)) → NextUnset (rowsOf (now (t .entry))) (now (names .entry)) u pattern from y) ⌝ }
+{
+    let mut y = from;
+    while y < n {
+        if below[y] {
+            if rows::kind_of(t, y) == 6 {
+                if names[cells::cell(y, u)] == Cells::ABSENT {
+                    return y;
+                }
+            }
+        }
+        y += 1;
+    }
+    n
 }

@@ -28,7 +28,7 @@ use Rattle.variables.specs.Variables.{Beneath, Marked, Settled}
 true-passes : {b : Bool} → b ≡ true → T b
 true-passes e = rw e tt
 
-passes-true : (b : Bool) → T b → b ≡ true
+pub passes-true : (b : Bool) → T b → b ≡ true
 passes-true true t = refl
 passes-true false t = absurd t
 
