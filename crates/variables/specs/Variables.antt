@@ -1,14 +1,14 @@
 -- The variables that a read sets, from a row on, and the values that a variable may take, from a row and a run on. Assumes nothing.
 use Prim.Native.Nat.{ℕ, suc, _-_, _<_, _≤_}
 use mathlib.Core.Path.{_≡_}
-use mathlib.Core.Logic.{_↔_}
-use mathlib.Core.Bool.{Bool, true, false, _&&_, not}
+use mathlib.Core.Logic.{_↔_, _⊎_}
+use mathlib.Core.Bool.{Bool, true, false, cond, _&&_, not}
 use mathlib.Core.List.{List, [], _∷_, _++_, map, List·Memᴰ}
 use mathlib.Core.Option.{Option, none, some}
-use lib.Dec.{T, leb}
+use lib.Dec.{T, leb, eqb}
 use lib.ListN.{length, getD, getElem?}
 use Rattle.semantics.specs.Basic.{present, keep, presentOnes, joined, numbersFrom}
-use Rattle.semantics.specs.Term.{VariableType, Atom, variable}
+use Rattle.semantics.specs.Term.{VariableType, agentType, freshType, Atom, variable}
 use Rattle.semantics.specs.Table.{Row, variableAtom}
 use Rattle.semantics.specs.Value.{beneath}
 use Rattle.semantics.specs.Runs.{atomAt}
@@ -57,6 +57,25 @@ pub data NextUnset (rows : List Row) (names : List ℕ) (u pattern from x : ℕ)
   noNext :
       x ≡ length rows → ((sets : List (Atom × Value)) → TellsUnset rows names u sets → unsetFrom rows sets pattern from ≡ [])
       → NextUnset rows names u pattern from x
+
+-- whether a type is that of fresh variables
+abbrev pub isFresh : VariableType → Bool
+isFresh agentType = false
+isFresh freshType = true
+
+-- the first run with which a row of a kind is a value, and how many runs there are: agents for agent variables, intruder and local constants for fresh ones
+abbrev pub firstRun : ℕ → ℕ
+firstRun kind = cond (eqb kind 7) 1 0
+
+unfoldable pub runCount : ℕ → Bool → ℕ → ℕ
+runCount runs true kind = cond (eqb kind 4) 1 (cond (eqb kind 7) runs 0)
+runCount runs false kind = cond (leb kind 2) 1 0
+
+-- the higher of two numbers
+pub record Higher (a b r : ℕ) : Type 0 where
+  pub left : a ≤ r
+  pub right : b ≤ r
+  pub one : (r ≡ a) ⊎ (r ≡ b)
 
 -- the values of a type whose row is a given one and whose run is not below a number, or whose row is higher
 unfoldable pub valuesFrom : List Row → ℕ → VariableType → ℕ → ℕ → List Value

@@ -1,3 +1,5 @@
 -- The laws of variables and their values, with their proofs.
 pub mod Beneath
 pub mod Unset
+pub mod Values
+pub mod Spans

@@ -3,9 +3,11 @@ ghost use mathlib.Core.Path.{_≡_};
 ghost use mathlib.Core.Option.{some};
 ghost use Prim.Native.Nat.{ℕ, _+_, _*_, _<_, _≤_};
 ghost use lib.ListN.{length, getD};
+ghost use Rattle.semantics.specs.Term.{Atom};
+ghost use Rattle.semantics.specs.Runs.{atomAt};
 ghost use Rattle.rows.specs.Rows.{rowsOf, Sized};
 ghost use Rattle.cells.specs.Cells.{Shape, cellCount};
-ghost use Rattle.variables.specs.Variables.{Beneath, Settled, NextUnset};
+ghost use Rattle.variables.specs.Variables.{Beneath, Settled, NextUnset, firstRun, runCount, MayTake};
 use cells::Cells;
 
 // The next value of a variable: its row and run, or nothing.
@@ -61,4 +63,50 @@ pub fn next_unset(t: &[u8], n: usize, names: &[u16], below: &[bool], u: usize, f
         y += 1;
     }
     n
+}
+
+// The first run with which a row of a kind is a value: 1 for a local constant, 0 for every other.
+fn first_run(kind: usize) -> usize
+    ensures { λ r. ⌜ (r ≡ firstRun kind) × (r ≤ 1) ⌝ }
+{
+    if kind == 7 {
+        return 1;
+    }
+    0
+}
+
+// With how many runs a row of a kind is a value of a fresh variable, or of an agent variable.
+fn run_count(kind: usize, fresh: bool, runs: usize) -> usize
+    ensures { λ r. ⌜ (r ≡ runCount runs fresh kind) × (r ≤ runs + 1) ⌝ }
+{
+    if fresh {
+        if kind == 4 {
+            return 1;
+        }
+        if kind == 7 {
+            return runs;
+        }
+        return 0;
+    }
+    if kind <= 2 {
+        return 1;
+    }
+    0
+}
+
+// Whether row r with run w is a value that the variable of row x may take.
+pub fn may_take(t: &[u8], n: usize, runs: usize, x: usize, r: usize, w: usize) -> bool
+    requires { ⌜ Shape (now t) n runs × ((x < n) × (getD (now t) (3 * x) 0 ≡ 6)) ⌝ }
+    ensures { λ b. ⌜ ((a : Atom) → atomAt (rowsOf (now (t .entry))) x ≡ some a → MayTake (rowsOf (now (t .entry))) runs a r w b) ⌝ }
+{
+    if n <= r {
+        return false;
+    }
+    let kind = rows::kind_of(t, r);
+    let first = first_run(kind);
+    if w < first {
+        return false;
+    }
+    let fresh = rows::right_of(t, x) == 1;
+    w - first < run_count(kind, fresh, runs)
 }

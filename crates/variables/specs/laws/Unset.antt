@@ -79,7 +79,7 @@ module _ (rows : List Row) (sets : List (Atom × Value)) (pattern : ℕ) where
     unset-here e g q = rw next (kept-here (atomAt rows) (λ x. beneath rows x pattern) unset y (numbersFrom (suc y) (length rows - suc y)) e g q)
 
 -- a row is a variable by its kind
-variable-kind : {k l r : ℕ} {row : Row} → Decodes k l r row → k ≡ 6 → (a : Atom) × (atomOf (some row) ≡ some a) × T (variableAtom a)
+pub variable-kind : {k l r : ℕ} {row : Row} → Decodes k l r row → k ≡ 6 → (a : Atom) × (atomOf (some row) ≡ some a) × T (variableAtom a)
 variable-kind isTrusted e = absurd (omega arith)
 variable-kind isUntrusted e = absurd (omega arith)
 variable-kind isGlobal e = absurd (omega arith)
