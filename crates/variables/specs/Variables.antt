@@ -4,11 +4,11 @@ use mathlib.Core.Path.{_≡_}
 use mathlib.Core.Logic.{_↔_, _⊎_}
 use mathlib.Core.Bool.{Bool, true, false, cond, _&&_, not}
 use mathlib.Core.List.{List, [], _∷_, _++_, map, List·Memᴰ}
-use mathlib.Core.Option.{Option, none, some}
+use mathlib.Core.Option.{none, some}
 use lib.Dec.{T, leb, eqb}
 use lib.ListN.{length, getD, getElem?}
 use Rattle.semantics.specs.Basic.{present, keep, presentOnes, joined, numbersFrom}
-use Rattle.semantics.specs.Term.{VariableType, agentType, freshType, Atom, variable}
+use Rattle.semantics.specs.Term.{VariableType, agentType, freshType, Atom}
 use Rattle.semantics.specs.Table.{Row, variableAtom}
 use Rattle.semantics.specs.Value.{beneath}
 use Rattle.semantics.specs.Runs.{atomAt}

@@ -2,12 +2,13 @@
 ghost use mathlib.Core.Path.{_≡_};
 ghost use mathlib.Core.Option.{some};
 ghost use Prim.Native.Nat.{ℕ, _+_, _*_, _<_, _≤_};
+ghost use lib.Dec.{eqb};
 ghost use lib.ListN.{length, getD};
-ghost use Rattle.semantics.specs.Term.{Atom};
+ghost use Rattle.semantics.specs.Term.{VariableType, Atom, variable};
 ghost use Rattle.semantics.specs.Runs.{atomAt};
 ghost use Rattle.rows.specs.Rows.{rowsOf, Sized};
 ghost use Rattle.cells.specs.Cells.{Shape, cellCount};
-ghost use Rattle.variables.specs.Variables.{Beneath, Settled, NextUnset, firstRun, runCount, MayTake};
+ghost use Rattle.variables.specs.Variables.{Beneath, Settled, NextUnset, firstRun, runCount, MayTake, Higher, NextOf};
 use cells::Cells;
 
 // The next value of a variable: its row and run, or nothing.
@@ -94,6 +95,14 @@ fn run_count(kind: usize, fresh: bool, runs: usize) -> usize
     0
 }
 
+// Whether the variable of row x is a fresh one.
+fn is_fresh(t: &[u8], x: usize) -> bool
+    requires { ⌜ 3 * x + 2 < length (now t) ⌝ }
+    ensures { λ b. ⌜ b ≡ eqb (getD (now (t .entry)) (3 * x + 2) 0) 1 ⌝ }
+{
+    rows::right_of(t, x) == 1
+}
+
 // Whether row r with run w is a value that the variable of row x may take.
 pub fn may_take(t: &[u8], n: usize, runs: usize, x: usize, r: usize, w: usize) -> bool
     requires { ⌜ Shape (now t) n runs × ((x < n) × (getD (now t) (3 * x) 0 ≡ 6)) ⌝ }
@@ -107,6 +116,36 @@ pub fn may_take(t: &[u8], n: usize, runs: usize, x: usize, r: usize, w: usize) -
     if w < first {
         return false;
     }
-    let fresh = rows::right_of(t, x) == 1;
-    w - first < run_count(kind, fresh, runs)
+    w - first < run_count(kind, is_fresh(t, x), runs)
+}
+
+// The higher of two numbers.
+fn higher(a: usize, b: usize) -> usize
+    ensures { λ r. ⌜ Higher a b r ⌝ }
+{
+    if a < b {
+        return b;
+    }
+    a
+}
+
+// The first value that the variable of row x may take whose row is r and run at least w, or whose row is higher.
+pub fn next_value(t: &[u8], n: usize, runs: usize, x: usize, r: usize, w: usize) -> NextValue
+    requires { ⌜ Shape (now t) n runs × ((x < n) × (r ≤ n)) ⌝ }
+    ensures { λ v. ⌜ ((num : ℕ) (type : VariableType) → atomAt (rowsOf (now (t .entry))) x ≡ some (variable num type) → NextOf (rowsOf (now (t .entry))) runs type r w v) ⌝ }
+{
+    let fresh = is_fresh(t, x);
+    let mut y = r;
+    let mut v = w;
+    while y < n {
+        let kind = rows::kind_of(t, y);
+        let first = first_run(kind);
+        let run = higher(v, first);
+        if run < first + run_count(kind, fresh, runs) {
+            return NextValue::Value { row: y, run: run };
+        }
+        y += 1;
+        v = 0;
+    }
+    NextValue::Nothing
 }

@@ -1,7 +1,6 @@
 -- `variables::first_run` meets its contract, kind by kind. Assumes nothing.
 use borrow.Author.Tests.{eq-eqb, ne-eqb}
 use native.Mathlib.Omega.{arith}
-use borrow.Author.Needs.{needs}
 use Rattle.variables.proofs.first_run.Statement.{statement}
 use Rattle.variables.proofs.first_run.Tie as tie
 

@@ -2,7 +2,6 @@
 use borrow.Author.Tests.{eq-eqb, ne-eqb, le-leb, lt-leb}
 use Rattle.variables.specs.Variables.{runCount}
 use native.Mathlib.Omega.{arith}
-use borrow.Author.Needs.{needs}
 use Rattle.variables.proofs.run_count.Statement.{statement}
 use Rattle.variables.proofs.run_count.Tie as tie
 

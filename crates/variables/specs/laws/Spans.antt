@@ -1,5 +1,5 @@
 -- The runs with which a row is a value, by its kind, and whether a row with a run is one. Assumes nothing.
-use Prim.Native.Nat.{ℕ, suc, _+_, _-_, _*_, _<_, _≤_}
+use Prim.Native.Nat.{ℕ, _+_, _-_, _*_, _<_, _≤_}
 use native.Mathlib.Numerals.{add-one}
 use native.Mathlib.Omega.{arith}
 use mathlib.Core.Path.{_≡_, refl, sym, ap, _∙_}
@@ -27,7 +27,6 @@ use Rattle.rows.specs.laws.Decodes.{Decodes, isTrusted, isUntrusted, isGlobal, 
 use Rattle.cells.specs.Cells.{Shape, Canonical}
 use Rattle.cells.specs.laws.Cells.{row-there, row-decodes}
 use Rattle.variables.specs.Variables.{isFresh, firstRun, runCount, Higher, valuesFrom, Names, NextOf, hasNext, hasNone, MayTake, takes, takesNot}
-use Rattle.variables.specs.declared.NextValue.{NextValue}
 use Rattle.variables.specs.declared.NextValue.the-variants.{Value as isValue, Nothing}
 use Rattle.variables.specs.laws.Beneath.{passes-true}
 use Rattle.variables.specs.laws.Unset.{variable-kind}
@@ -171,6 +170,10 @@ fails-false : (b : Bool) → (T b → ⊥) → b ≡ false
 fails-false true h = absurd (h tt)
 fails-false false h = refl
 
+-- no value of the variable of a row lies between two rows and runs
+abbrev pub Ahead : List Row → ℕ → ℕ → ℕ → ℕ → ℕ → ℕ → Type 0
+Ahead rows runs x r w y v = (num : ℕ) (type : VariableType) → atomAt rows x ≡ some (variable num type) → valuesFrom rows runs type r w ≡ valuesFrom rows runs type y v
+
 module _ (bytes : List ℕ) (n runs : ℕ) (shape : Shape bytes n runs) (x : ℕ) (low : x < n) where
   -- the first run of a row, and how many runs it has, as a value of the variable
   abbrev firstAt : ℕ → ℕ
@@ -228,14 +231,10 @@ module _ (bytes : List ℕ) (n runs : ℕ) (shape : Shape bytes n runs) (x : ℕ
   pub first-read : (y : ℕ) {kind first : ℕ} → kind ≡ getD bytes (3 * y) 0 → first ≡ firstRun kind → first ≡ firstAt y
   first-read y e f = f ∙ ap firstRun e
 
-  pub count-read : (y : ℕ) {kind right count : ℕ} → kind ≡ getD bytes (3 * y) 0 → right ≡ getD bytes (3 * x + 2) 0 → count ≡ runCount runs (eqb right 1) kind → count ≡ countAt y
+  pub count-read : (y : ℕ) {kind count : ℕ} {fresh : Bool} → kind ≡ getD bytes (3 * y) 0 → fresh ≡ eqb (getD bytes (3 * x + 2) 0) 1 → count ≡ runCount runs fresh kind → count ≡ countAt y
   count-read y e q f = f ∙ rw (e, q)
 
-  -- no value of the variable comes before a row and a run, from another on
-  abbrev pub Ahead : ℕ → ℕ → ℕ → ℕ → Type 0
-  Ahead r w y v = (num : ℕ) (type : VariableType) → atomAt (rowsOf bytes) x ≡ some (variable num type) → valuesFrom (rowsOf bytes) runs type r w ≡ valuesFrom (rowsOf bytes) runs type y v
-
-  module _ (r w y v : ℕ) (ahead : Ahead r w y v) where
+  module _ (r w y v : ℕ) (ahead : Ahead (rowsOf bytes) runs x r w y v) where
     -- behind the last row there is no value
     pub next-none : n ≤ y → (num : ℕ) (type : VariableType) → atomAt (rowsOf bytes) x ≡ some (variable num type) → NextOf (rowsOf bytes) runs type r w Nothing
     next-none l num type e = hasNone refl (ahead num type e ∙ values-end (rowsOf bytes) runs type y v (omega (arith, shape .count)))
@@ -250,7 +249,7 @@ module _ (bytes : List ℕ) (n runs : ℕ) (shape : Shape bytes n runs) (x : ℕ
           (ahead num type e ∙ values-next (rowsOf bytes) runs type y v m (rw s (from-next y count (h .left) (h .right) l (h .one))))
 
       -- the row has no value left
-      pub ahead-more : first + count ≤ m → Ahead r w (y + 1) 0
+      pub ahead-more : first + count ≤ m → Ahead (rowsOf bytes) runs x r w (y + 1) 0
       ahead-more l num type e =
           let s : valuesAt runs type y (atomAt (rowsOf bytes) y) ≡ spanned y first count = rw (f, c) (values-at e y within) in
           rw (add-one y) (ahead num type e ∙ values-skip (rowsOf bytes) runs type y v (rw s (from-none y count l (h .one))))

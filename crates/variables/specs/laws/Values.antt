@@ -4,17 +4,16 @@ use native.Mathlib.Nat.{not-suc-le-zero}
 use native.Mathlib.Decide.{decLt}
 use native.Mathlib.Omega.{arith}
 use mathlib.Core.Path.{_≡_, refl, sym, ap, _∙_}
-use mathlib.Core.Logic.{_⊎_, inl, inr, ⊎-elim}
-use mathlib.Core.Bool.{Bool, true, false}
+use mathlib.Core.Logic.{_⊎_, inl, ⊎-elim}
 use mathlib.Core.List.{List, [], _∷_, _++_, map}
-use mathlib.Core.Option.{Option, none, some}
+use mathlib.Core.Option.{none}
 use lib.Dec.{leb}
-use lib.ListN.{length, getElem?}
+use lib.ListN.{length}
 use borrow.Author.Tests.{le-leb, lt-leb}
 use Rattle.semantics.specs.Basic.{keep, joined, numbersFrom}
 use Rattle.semantics.specs.Term.{VariableType, variable}
 use Rattle.semantics.specs.Table.{Row}
-use Rattle.semantics.specs.Runs.{atomOf, atomAt}
+use Rattle.semantics.specs.Runs.{atomAt}
 use Rattle.semantics.specs.State.{Value}
 use Rattle.semantics.specs.Moves.{valuesAt, valuesOfType, candidates}
 use Rattle.variables.specs.Variables.{valuesFrom}
