@@ -29,6 +29,10 @@ pub record Covers (rows : List Row) (runs : ℕ) (readings : Readings) (known : 
 abbrev pub Exact : List Row → ℕ → Readings → List Term → List Bool → Type 0
 Exact rows runs readings known marks = (r u : ℕ) → Within rows runs r u → Marked marks r u ↔ Derivable rows readings known r u
 
+-- every known term is the value of a cell
+abbrev pub Celled : List Row → ℕ → Readings → List Term → Type 0
+Celled rows runs readings known = (t : Term) → List·Memᴰ t known → (r : ℕ) × (u : ℕ) × Within rows runs r u × (cellValue readings rows r u ≡ some t)
+
 -- what the analysis promises, whatever the readings and whatever is known
 abbrev pub Settled : List Row → ℕ → List ℕ → List Bool → List Bool → Type 0
 Settled rows runs classes start marks =
