@@ -2,4 +2,6 @@
 pub mod Rows
 pub mod Marks
 pub mod WellFormed
+pub mod Sure
+pub mod Kept
 pub mod IllFormed

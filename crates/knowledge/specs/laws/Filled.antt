@@ -19,7 +19,7 @@ on-below (b ∷ marks) zero e = omega arith
 on-below (b ∷ marks) (suc k) e = let l = on-below marks k e in omega arith
 
 -- no mark of a list of false ones stands
-none-on : (n k : ℕ) → On (replicate n false) k → ⊥
+pub none-on : (n k : ℕ) → On (replicate n false) k → ⊥
 none-on zero k e = false≢true e
 none-on (suc n) zero e = false≢true e
 none-on (suc n) (suc k) e = none-on n k e

@@ -7,7 +7,7 @@ use Rattle.wellformed.proofs.event_learned.Tie as tie
 
 returns : tie.Need-returns
 returns c = let s = c .before .before .before .before in
-    read-learns (rowsOf (s .args .t .now)) (s .args .event) (s .args .x) (s .args .marks) (c .before .if1 .taken) (c .learned .result) (c .learned .ensures)
+    read-learns (rowsOf (s .args .t .now)) (s .args .event) (s .args .x) (s .args .marks) (c .before .if1 .taken) (c .learned .result) (c .learned .ensures .0)
 
 returns-2 : tie.Need-returns-2
 returns-2 c = let s = c .before .before .before in

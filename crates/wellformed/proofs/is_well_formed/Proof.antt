@@ -5,6 +5,8 @@ use borrow.Author.Tests.{not-true, not-false}
 use borrow.Author.Needs.{needs}
 use Rattle.rows.specs.Rows.{rowsOf}
 use Rattle.wellformed.specs.laws.WellFormed.{own-unknown, peer-unknown, peer-found, was-read, was-other}
+use Rattle.wellformed.specs.laws.Sure.{sure-none, answer-reads}
+use Rattle.wellformed.specs.laws.Kept.{notes-none}
 use Rattle.wellformed.proofs.is_well_formed.Statement.{statement}
 use Rattle.wellformed.proofs.is_well_formed.Tie as tie
 
@@ -18,12 +20,17 @@ returns-2 c =
     let s = c .before .before .before .before .before .before .before .before .before in
     peer-unknown (s .args .t .now) (s .args .n) (s .pre .0) (s .args .t1) (s .args .own) (s .args .kind) (s .args .peer) (s .args .x) (c .before .before .before .before .before .name-known .ensures) (not-false _ (c .before .before .before .before .if1 .left)) (c .before .before .before .if2 .taken) (c .before .name-known2 .ensures) (not-true _ (c .if3 .taken))
 
+is-readable-requires : tie.Need-is-readable-requires
+is-readable-requires c κs =
+    let s = c .before .before .before .before .before .before .before .before in
+    (s .pre .0, (s .pre .1 .0, (sure-none (rowsOf (s .args .t .now)) (s .args .t1) 480, (notes-none (rowsOf (s .args .t .now)), s .pre .1 .1))))
+
 returns-3 : tie.Need-returns-3
 returns-3 c =
-    let s = c .before .before .before .before .before .before .before .before in
-    was-read (s .args .t .now) (s .args .n) (s .pre .0) (s .args .t1) (s .args .own) (s .args .kind) (s .args .peer) (s .args .x) (c .before .before .before .before .name-known .ensures) (not-false _ (c .before .before .before .if1 .left))
-    (⊎-elim (λ w. peer-found (rowsOf (s .args .t .now)) (s .args .t1) (s .args .kind) (s .args .peer) (w .2 .ensures) (not-false _ (w .3 .left))) (λ w. inl (w .left)) (c .before .before .if2 .came))
-    (c .before .if4 .taken) (c .is-readable .ensures)
+    let s = c .before .before .before .before .before .before .before .before .before .before in
+    was-read (s .args .t .now) (s .args .n) (s .pre .0) (s .args .t1) (s .args .own) (s .args .kind) (s .args .peer) (s .args .x) (c .before .before .before .before .before .before .name-known .ensures) (not-false _ (c .before .before .before .before .before .if1 .left))
+    (⊎-elim (λ w. peer-found (rowsOf (s .args .t .now)) (s .args .t1) (s .args .kind) (s .args .peer) (w .2 .ensures) (not-false _ (w .3 .left))) (λ w. inl (w .left)) (c .before .before .before .before .if2 .came))
+    (c .before .before .before .if4 .taken) (answer-reads (s .args .t .now) (s .args .n) (s .pre .0) (s .args .t1) (s .args .x) (c .before .is-readable .result) (c .before .is-readable .ensures .0))
 
 returns-4 : tie.Need-returns-4
 returns-4 c =
@@ -42,7 +49,8 @@ is-well-formed-spec =
     (λ c. search needs)
     (λ c κs. search needs)
     returns-2
-    (λ c κs. search needs)
+    (λ c. search needs)
+    is-readable-requires
     returns-3
     (λ c. search needs)
     returns-4)

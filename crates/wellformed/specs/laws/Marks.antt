@@ -85,6 +85,17 @@ module _ (bytes : List ℕ) (n : ℕ) (shape : Shape bytes n 0) where
           let s = role-row (row-term bytes n shape (w .0) (w .1)) in
           (w .0, w .1, s .0, s .1)
 
+  -- the other key of the same agent is the inverse of a key
+  pub other-inverse : (k x : ℕ) {kind other : ℕ} {t s : Term} → InverseKinds kind other → kindAt bytes k ≡ kind → kindAt bytes x ≡ other → leftAt bytes x ≡ leftAt bytes k
+      → HasTerm bytes k t → HasTerm bytes x s → s ≡ inverse t
+  other-inverse k x kinds e f q h g =
+      let keys = inverse-keys kinds in
+      let key = key-term (keys .2) (rw e at (row-term bytes n shape k h)) in
+      let w = key-term (keys .3) (rw f at (row-term bytes n shape x g)) in
+      let p : getElem? (rowsOf bytes) (leftAt bytes k) ≡ some (atomic (w .0)) = rw q at (w .2) in
+      let same : w .0 ≡ key .0 = cc (p, key .2) in
+      rw (key .1, keys .4 (atom (key .0))) (rw same at (w .1))
+
   -- the inverse of a key is derivable exactly if the other key of its agent is marked
   pub other-known : {marks : List Bool} (k : ℕ) {kind other left : ℕ} {r : Bool} → InverseKinds kind other → kindAt bytes k ≡ kind → left ≡ leftAt bytes k
       → RowMarked bytes n marks other left r → InverseKnown (rowsOf bytes) marks k r
@@ -98,11 +109,7 @@ module _ (bytes : List ℕ) (n : ℕ) (shape : Shape bytes n 0) where
       key = key-term (keys .2) (rw e at (row-term bytes n shape k h))
 
       only : (x : ℕ) (s : Term) → kindAt bytes x ≡ other → leftAt bytes x ≡ leftAt bytes k → HasTerm bytes x s → s ≡ keys .1 (atom (key .0))
-      only x s f q g =
-          let w = key-term (keys .3) (rw f at (row-term bytes n shape x g)) in
-          let p : getElem? (rowsOf bytes) (leftAt bytes k) ≡ some (atomic (w .0)) = rw q at (w .2) in
-          let same : w .0 ≡ key .0 = cc (p, key .2) in
-          rw same at (w .1)
+      only x s f q g = rw (key .1, keys .4 (atom (key .0))) at (other-inverse k x kinds e f q h g)
 
       row : Derives known (keys .1 (atom (key .0))) → (x : ℕ) × HasTerm bytes x (keys .1 (atom (key .0))) × (kindAt bytes x ≡ other) × (leftAt bytes x ≡ leftAt bytes k)
       row d =

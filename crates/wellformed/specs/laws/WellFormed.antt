@@ -13,19 +13,17 @@ use Rattle.semantics.specs.Table.{Row}
 use Rattle.semantics.specs.Roles.{EventKind, send, read, claim, eventKinds}
 use Rattle.semantics.specs.WellFormed.{readableAtom, readable, wellFormed}
 use Rattle.semantics.specs.Allowed.{Readable, readsAtom, readsPk, readsSk, readsShared, readsPair, readsWhole}
-use Rattle.semantics.specs.laws.Test.{same-test}
 use Rattle.semantics.specs.laws.Inference.{derives-monotone}
-use Rattle.semantics.specs.laws.WellFormed.{readable-exact}
 use Rattle.rows.specs.Rows.{rowsOf}
 use Rattle.cells.specs.Cells.{Shape}
-use Rattle.knowledge.specs.Steps.{On, kindAt, leftAt, rightAt}
+use Rattle.knowledge.specs.Steps.{kindAt, leftAt, rightAt}
 use Rattle.role_level.specs.RoleLevel.{RoleExact}
 use Rattle.wellformed.specs.WellFormed.{Covered, NameKnown, InverseKnown, Learns, ReadableRow, WellFormedEvent}
 use Rattle.wellformed.specs.laws.Rows.{HasTerm, RowTerm, aTrusted, aUntrusted, aGlobal, anIntruder, aRole, aVariable, aLocal, aPk, aSk, aShared, aPair, anEncryption, row-term}
-use Rattle.wellformed.specs.laws.Marks.{marked-derives, mark-answers}
+use Rattle.wellformed.specs.laws.Marks.{mark-answers}
 
 -- what derives is readable
-derives-readable : (known : List Term) (t : Term) → Derives known t → Readable known t
+pub derives-readable : (known : List Term) (t : Term) → Derives known t → Readable known t
 derives-readable known (atom a) d = readsAtom d
 derives-readable known (pk t) d = readsPk d
 derives-readable known (sk t) d = readsSk d
@@ -34,12 +32,7 @@ derives-readable known (pair t u) d =
     readsPair (derives-readable (u ∷ known) t (derives-monotone (λ x m. later m) (first d))) (derives-readable (t ∷ known) u (derives-monotone (λ x m. later m) (second d)))
 derives-readable known (encrypted t k) d = readsWhole d
 
--- the term of a row of kind 6 is readable
-variable-readable : {bytes : List ℕ} {x : ℕ} {t : Term} (known : List Term) → RowTerm bytes x 6 t → true ≡ readable known t
-unfolding readable readableAtom
-variable-readable known aVariable = refl
-
--- that of another row that is no pair and no encryption only if it is derivable
+-- the term of a row that is no variable, no pair and no encryption is readable only if it is derivable
 plain-readable : {bytes : List ℕ} {x k : ℕ} {t : Term} (known : List Term) → RowTerm bytes x k t → (k ≡ 6 → ⊥) → (k ≡ 11 → ⊥) → (k ≡ 12 → ⊥) → derivable known t ≡ readable known t
 unfolding readable readableAtom
 plain-readable known aTrusted v p e = refl
@@ -56,11 +49,11 @@ plain-readable known (aPair l r g h) v p e = absurd (p refl)
 plain-readable known (anEncryption l r g h) v p e = absurd (e refl)
 
 -- the parts of a row of kind 11, and of kind 12
-pair-term : {bytes : List ℕ} {x : ℕ} {t : Term} → RowTerm bytes x 11 t
+pub pair-term : {bytes : List ℕ} {x : ℕ} {t : Term} → RowTerm bytes x 11 t
     → (a : Term) × (b : Term) × (t ≡ pair a b) × HasTerm bytes (leftAt bytes x) a × HasTerm bytes (rightAt bytes x) b
 pair-term (aPair {a = a} {b = b} l r g h) = (a, b, refl, g, h)
 
-encrypted-term : {bytes : List ℕ} {x : ℕ} {t : Term} → RowTerm bytes x 12 t
+pub encrypted-term : {bytes : List ℕ} {x : ℕ} {t : Term} → RowTerm bytes x 12 t
     → (a : Term) × (b : Term) × (t ≡ encrypted a b) × HasTerm bytes (leftAt bytes x) a × HasTerm bytes (rightAt bytes x) b
 encrypted-term (anEncryption {a = a} {b = b} l r g h) = (a, b, refl, g, h)
 
@@ -83,16 +76,7 @@ unfolding readable
 encrypted-read known a b d e = rw (d, e)
 
 module _ (bytes : List ℕ) (n : ℕ) (shape : Shape bytes n 0) (marks : List Bool) (x : ℕ) where
-  -- a row that is marked is readable
-  pub readable-marked : On marks x → ReadableRow (rowsOf bytes) marks x true
-  readable-marked o known t covered exact h =
-      same-test true (readable known t) (λ u. readable-exact known t .1 (derives-readable known t (marked-derives bytes n shape marks exact x h .0 o)), λ u. tt)
-
-  -- a variable is readable
-  pub readable-variable : kindAt bytes x ≡ 6 → ReadableRow (rowsOf bytes) marks x true
-  readable-variable k known t covered exact h = variable-readable known (rw k at (row-term bytes n shape x h))
-
-  -- a row of another kind that is not marked is not readable, if it is no pair and no encryption
+  -- a row that is not marked is not readable, if it is no variable, no pair and no encryption
   pub unreadable : getD marks x false ≡ false → (kindAt bytes x ≡ 6 → ⊥) → (kindAt bytes x ≡ 11 → ⊥) → (kindAt bytes x ≡ 12 → ⊥) → ReadableRow (rowsOf bytes) marks x false
   unreadable o v p e known t covered exact h = sym o ∙ mark-answers bytes n shape marks exact x h ∙ plain-readable known (row-term bytes n shape x h) v p e
 
