@@ -2,6 +2,7 @@
 use crate::compare;
 use crate::knowledge;
 use library::random::{damage, Random};
+use library::slow;
 
 const ACCEPTED: u64 = 4 << 60;
 
@@ -188,7 +189,7 @@ impl RoleLevel<'_> {
         for (i, event) in role.events.chunks_exact(4).enumerate() {
             let (kind, peer, x) = (event[0], usize::from(event[2]), usize::from(event[3]));
             let named = self.named(&marks, own) && (kind == 2 || self.named(&marks, peer));
-            if !named || !(if kind == 1 { self.readable(&marks, x) } else { marks[x] }) {
+            if !named || !(if kind == 1 { self.readable(&marks, &[false; 480], &mut Notes::new(), false, x) } else { marks[x] }) {
                 return Some(i);
             }
             if kind == 1 {
@@ -217,19 +218,137 @@ impl RoleLevel<'_> {
         (0..self.table.n).any(|r| marks[r] && self.table.kind(r) == 5 && self.table.left(r) == i)
     }
 
-    /// Whether row x is readable. What is derivable is readable, so a shared row that is marked is not walked again.
-    fn readable(&self, marks: &Marks, x: usize) -> bool {
+    /// The rows marked in both.
+    fn shared(&self, one: &Marks, other: &Marks) -> Marks {
+        let mut both = [false; 480];
+        for r in 0..self.table.n {
+            both[r] = one[r] && other[r];
+        }
+        both
+    }
+
+    /// Whether the inverse of the key in row k is derivable.
+    fn opens(&self, marks: &Marks, k: usize) -> bool {
+        knowledge::opens(marks, self.table.bytes, self.table.n, 0, &self.classes, k, 0)
+    }
+
+    /// The row beneath the encryptions of row x; row 0, an atom, where row x is marked or is no encryption.
+    fn content(&self, marks: &Marks, x: usize) -> usize {
         let t = self.table;
-        marks[x]
-            || match t.kind(x) {
-                6 => true,
-                11 => {
-                    let (l, s) = (t.left(x), t.right(x));
-                    self.readable(&self.plus(marks, s), l) && self.readable(&self.plus(marks, l), s)
-                }
-                12 => knowledge::opens(marks, t.bytes, t.n, 0, &self.classes, t.right(x), 0) && self.readable(marks, t.left(x)),
-                _ => false,
+        if marks[x] || t.kind(x) != 12 {
+            return 0;
+        }
+        let mut y = t.left(x);
+        while t.kind(y) == 12 {
+            y = t.left(y);
+        }
+        y
+    }
+
+    /// Whether the way down from row x that was not readable before may be by now.
+    fn may_read(&self, marks: &Marks, sure: &Marks, notes: &Notes, x: usize) -> bool {
+        let t = self.table;
+        let mut more = *marks;
+        let mut way = [false; 96];
+        let mut y = x;
+        loop {
+            if more[y] || sure[y] {
+                return true;
             }
+            way[y] = true;
+            match (t.kind(y), notes.hints[y]) {
+                (11, 1) => {
+                    more[t.right(y)] = true;
+                    y = t.left(y);
+                }
+                (11, 2) => {
+                    more[t.left(y)] = true;
+                    y = t.right(y);
+                }
+                (6 | 11, _) => return true,
+                (12, 0..=2) => y = t.left(y),
+                _ => break,
+            }
+        }
+        let ended = self.settle(&more);
+        (0..t.n).any(|r| way[r] && ended[r]) || t.kind(y) == 12 && self.opens(&ended, t.right(y))
+    }
+
+    /// Whether row x is readable. A row is sure if it is readable with these marks or more; what is beneath the parts of a pair is tried with
+    /// what both ways have in common, so that it is not read twice. A quick answer, which only tries, may be no though the row is readable.
+    fn readable(&self, marks: &Marks, sure: &Marks, notes: &mut Notes, quick: bool, x: usize) -> bool {
+        let t = self.table;
+        if marks[x] || sure[x] {
+            return true;
+        }
+        match t.kind(x) {
+            6 => true,
+            11 => {
+                if notes.has(marks, t.n, x) {
+                    return true;
+                }
+                if quick && !self.may_read(marks, sure, notes, x) {
+                    return false;
+                }
+                let (l, s) = (t.left(x), t.right(x));
+                let with_second = self.plus(marks, s);
+                let with_first = self.plus(marks, l);
+                let both = self.shared(&with_second, &with_first);
+                let mut sure = *sure;
+                for y in [self.content(&with_second, l), self.content(&with_first, s)] {
+                    if self.readable(&both, &sure, notes, true, y) {
+                        sure[y] = true;
+                    }
+                }
+                if !self.readable(&with_second, &sure, notes, quick, l) {
+                    notes.hints[x] = 1;
+                    return false;
+                }
+                if !self.readable(&with_first, &sure, notes, quick, s) {
+                    notes.hints[x] = 2;
+                    return false;
+                }
+                notes.keep(marks, t.n, x);
+                true
+            }
+            12 if self.opens(marks, t.right(x)) => {
+                notes.hints[x] = 0;
+                self.readable(marks, sure, notes, quick, t.left(x))
+            }
+            12 => {
+                notes.hints[x] = 3;
+                false
+            }
+            _ => false,
+        }
+    }
+}
+
+const SLOTS: usize = 128;
+
+/// What is noted while a row is read: where a way that is not readable goes, and marks with which rows are readable.
+struct Notes {
+    // The part of a pair, 1 or 2, or 3 at an encryption that does not open.
+    hints: [u8; 96],
+    // The row of each slot, 0 for none.
+    owners: [u8; SLOTS],
+    sets: [[bool; 96]; SLOTS],
+    oldest: usize,
+}
+
+impl Notes {
+    fn new() -> Self {
+        Notes { hints: [0; 96], owners: [0; SLOTS], sets: [[false; 96]; SLOTS], oldest: 0 }
+    }
+
+    fn has(&self, marks: &Marks, n: usize, x: usize) -> bool {
+        (0..SLOTS).any(|slot| usize::from(self.owners[slot]) == x && (0..n).all(|r| marks[r] || !self.sets[slot][r]))
+    }
+
+    fn keep(&mut self, marks: &Marks, n: usize, x: usize) {
+        self.sets[self.oldest][..n].copy_from_slice(&marks[..n]);
+        self.owners[self.oldest] = x as u8;
+        self.oldest = (self.oldest + 1) % SLOTS;
     }
 }
 
@@ -269,29 +388,24 @@ pub fn run() {
     group("small damaged", 2, &damaged(&mut random, &small, SMALL));
     group("full valid", 1, &valid(&mut random, &full, FULL));
     group("full damaged", 1, &damaged(&mut random, &full, FULL));
-    for levels in [8, 12, 16] {
-        group(&format!("a pattern of {levels} levels that doubles"), 1, &[doubling(levels)]);
+    for levels in [8, 12, 16, 18] {
+        group(&format!("a pattern of {levels} levels that doubles"), 10, &[slow::doubling(levels)]);
+    }
+    for (name, file) in slow_files() {
+        group(name, 4, &[file]);
     }
 }
 
-/// A read whose readings double at each level: either part of a pair opens the other, and both lead to the level beneath.
-fn doubling(levels: u8) -> Vec<u8> {
-    let mut rows = vec![[5, 0, 0], [3, 0, 0]];
-    let mut known = vec![0, 1];
-    let mut beneath = 1;
-    for level in 1..=levels {
-        let key = rows.len() as u8;
-        rows.extend([[3, level, 0], [12, beneath, key], [12, beneath, key + 1], [11, key + 2, key + 1], [12, key, key + 2]]);
-        known.push(key + 4);
-        beneath = key + 3;
-    }
-    let role = [&[known.len() as u8], &known[..], &[1, 1, 0, 0, beneath]].concat();
-    let mut file = vec![1, 0, 0, 0, 9];
-    for block in [&rows.concat()[..], &role, &[], &[]] {
-        file.extend((block.len() as u16).to_be_bytes());
-        file.extend(block);
-    }
-    file
+/// Files of four roles, each with the slowest read known of its sort, and the slowest that a search found.
+fn slow_files() -> Vec<(&'static str, Vec<u8>)> {
+    vec![
+        ("16 levels, two that count", slow::levelled(16, &slow::all_choices(&[15, 0], false), 4)),
+        ("15 levels, three that count", slow::levelled(15, &slow::all_choices(&[14, 7, 0], false), 4)),
+        ("15 levels, three, one way not readable", slow::levelled(15, &slow::all_choices(&[14, 7, 0], true), 4)),
+        ("12 levels, four that count", slow::levelled(12, &slow::all_choices(&[11, 7, 4, 0], false), 4)),
+        ("12 levels, each tied to the next", slow::levelled(12, &slow::chained(&slow::crossed(12)), 4)),
+        ("found by a search over tables, one role", slow::found()),
+    ]
 }
 
 fn group(name: &str, calls: usize, files: &[Vec<u8>]) {

@@ -1,6 +1,7 @@
 //! Open of the proved library against the cases and against the reference program.
 use library::answer::opened;
 use library::random::{damage, table, Random};
+use library::slow;
 
 const CASES: &str = include_str!("../../cases/base.txt");
 
@@ -166,4 +167,44 @@ fn deep_patterns_are_quick() {
         std::hint::black_box(library::open(&file));
     }
     assert!(begin.elapsed().as_millis() < 100, "ten opens took {:?}", begin.elapsed());
+}
+
+/// Reads with two ways down at each level, on all, some or none of which the constant beneath is known.
+#[test]
+fn levelled_patterns_answer_as_the_reference() {
+    let mut random = Random::new(6);
+    let mut accepted = 0;
+    for _ in 0..400 {
+        let levels = 3 + random.below(5);
+        let choice = |random: &mut Random| (random.below(levels), random.below(2));
+        let mut lists = match random.below(3) {
+            0 => slow::all_choices(&[random.below(levels), random.below(levels)], false),
+            1 => slow::chained(&slow::crossed(levels)),
+            _ => vec![],
+        };
+        for _ in 0..random.below(4) {
+            lists.push((0..random.below(4)).map(|_| choice(&mut random)).collect());
+        }
+        if !lists.is_empty() && random.chance(3) {
+            lists.remove(random.below(lists.len()));
+        }
+        let answer = agrees(&slow::levelled(levels, &lists, 1 + random.below(4) as u8));
+        accepted += usize::from(answer == "OK");
+    }
+    assert!((100..=300).contains(&accepted), "{accepted} of 400 accepted");
+    agrees(&slow::found());
+}
+
+/// Patterns made to be slow: each takes milliseconds in one role, where reading every way would take up to seconds.
+#[test]
+fn slow_patterns_are_quick() {
+    let two = |left_out| slow::levelled(16, &slow::all_choices(&[15, 0], left_out), 1);
+    let files = [slow::doubling(18), two(false), two(true), slow::levelled(12, &slow::chained(&slow::crossed(12)), 1), slow::found()];
+    for file in files {
+        let begin = std::time::Instant::now();
+        for _ in 0..10 {
+            std::hint::black_box(library::open(&file));
+        }
+        assert!(begin.elapsed().as_millis() < 2000, "ten opens took {:?}", begin.elapsed());
+    }
 }
