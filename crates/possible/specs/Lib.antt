@@ -1,0 +1,3 @@
+-- What the test of a partial choice promises, and the laws of that.
+pub mod Possible
+pub mod laws

@@ -1,0 +1,1 @@
+-- The laws of rows that can still be derivable, with their proofs.
