@@ -11,7 +11,7 @@ use cells::Cells;
 use cells::cell;
 
 // The class of row r in run u.
-fn class_at(classes: &[u16], r: usize, u: usize) -> u16
+pub fn class_at(classes: &[u16], r: usize, u: usize) -> u16
     requires { ⌜ (length (now classes) ≡ cellCount) × ((r < 96) × (u ≤ 4)) ⌝ }
     ensures { λ c. ⌜ c ≡ classAt (now (classes .entry)) r u ⌝ }
 {

@@ -1,0 +1,108 @@
+-- The test of a row keeps its promise, if the tests of its parts do. Assumes nothing.
+use Prim.Native.Nat.{ℕ, _+_, _*_, _<_, _≤_}
+use native.Mathlib.Decide.{ℕ-discrete}
+use native.Mathlib.Omega.{arith}
+use mathlib.Core.Path.{_≡_, refl, sym, ap, _∙_}
+use mathlib.Core.Bool.{Bool, true, false, true≢false, false≢true, _&&_}
+use mathlib.Core.List.{List}
+use mathlib.Core.Option.{some, Option·some-injective}
+use lib.ListN.{length, getD, set, length-set, replicate, length-replicate, getD-replicate}
+use lib.Seq.{getD-set-same, getD-set-other}
+use Rattle.semantics.specs.Term.{Term, atom, pk, sk, shared, pair, encrypted}
+use Rattle.semantics.specs.Inference.{Derives, first, second}
+use Rattle.rows.specs.Rows.{rowsOf}
+use Rattle.cells.specs.Cells.{cellOf, cellCount, absent, Shape, Readings, cellValue, secondOf}
+use Rattle.cells.specs.laws.Cells.{left-lower, second-lower}
+use Rattle.classes.specs.Classes.{Classes, Grows}
+use Rattle.classes.specs.laws.Kinds.{kindOf, firstPart, secondPart, value-made}
+use Rattle.classes.specs.laws.Values.{cell-kept}
+use Rattle.knowledge.specs.Marks.{Marked, Exact, Celled}
+use Rattle.knowledge.specs.Steps.{classAt, kindAt, leftAt, Inside}
+use Rattle.knowledge.specs.laws.Values.{Has, has-value, inside}
+use Rattle.possible.specs.Possible.{Possible}
+use Rattle.possible.specs.Fits.{Setting, CanTake, Tested}
+use Rattle.possible.specs.laws.Known.{Way, byMark, byParts, way}
+
+-- no kind is higher than that of an encryption
+kind-most : (t : Term) → kindOf t ≤ 12
+kind-most (atom a) = omega arith
+kind-most (pk t) = omega arith
+kind-most (sk t) = omega arith
+kind-most (shared t k) = omega arith
+kind-most (pair t k) = omega arith
+kind-most (encrypted t k) = omega arith
+
+-- the parts of a pair derive if it does
+pair-parts : {known : List Term} (t : Term) → kindOf t ≡ 11 → Derives known t → Derives known (firstPart t) × Derives known (secondPart t)
+pair-parts (atom a) e d = absurd (omega arith)
+pair-parts (pk t) e d = absurd (omega arith)
+pair-parts (sk t) e d = absurd (omega arith)
+pair-parts (shared t k) e d = absurd (omega arith)
+pair-parts (pair t k) e d = (first d, second d)
+pair-parts (encrypted t k) e d = absurd (omega arith)
+
+-- two tests that both pass
+both-pass : {a b : Bool} → a ≡ true → b ≡ true → (a && b) ≡ true
+both-pass e f = rw (e, f)
+
+-- the tests of two rows, as they were read
+pub both-read : (bytes : List ℕ) (r : ℕ) (can : List Bool) {l k : ℕ} {b : Bool} → l ≡ leftAt bytes r → k ≡ secondOf bytes r → b ≡ (getD can l false && getD can k false) → b ≡ false
+    → (getD can (leftAt bytes r) false && getD can (secondOf bytes r) false) ≡ false
+both-read bytes r can el ek eb e = sym (rw (el, ek) at eb) ∙ e
+
+-- one test more that keeps the promise
+pub tested-set : {bytes : List ℕ} {runs : ℕ} {classes : List ℕ} {marks : List Bool} {u : ℕ} {can : List Bool} {r : ℕ} {b : Bool} → r < 96 → Tested bytes runs classes marks u can
+    → Possible (rowsOf bytes) runs classes marks u r b → Tested bytes runs classes marks u (set can r b)
+tested-set {bytes} {runs} {classes} {marks} {u} {can} {r} {b} l tested p = record { size = length-set can r b ∙ tested .size; each = λ y k. go y k (ℕ-discrete y r) }
+  where
+    go : (y : ℕ) → y < 96 → Dec (y ≡ r) → Possible (rowsOf bytes) runs classes marks u y (getD (set can r b) y false)
+    go y k (yes e) = rw (e, getD-set-same can r b false (omega (arith, tested .size))) p
+    go y k (no d) = rw (getD-set-other can r y b false d) (tested .each y k)
+
+-- tests that all pass keep it
+pub tested-start : (bytes : List ℕ) (runs : ℕ) (classes : List ℕ) (marks : List Bool) (u : ℕ) → Tested bytes runs classes marks u (replicate 96 true)
+tested-start bytes runs classes marks u =
+    record { size = length-replicate {A = Bool} 96 true; each = λ y l old new known right exact celled grows t h d. getD-replicate {A = Bool} 96 y true false l }
+
+module _ (bytes : List ℕ) (n runs : ℕ) (shape : Shape bytes n runs) (classes : List ℕ) (marks : List Bool) (u r : ℕ) (run : u ≤ runs) (low : r < n) where
+  -- a value stays, and so does its mark
+  pub possible-set : {class c : ℕ} → class ≡ classAt classes r u → class < absent → c ≡ cellOf r u → Possible (rowsOf bytes) runs classes marks u r (getD marks c false)
+  possible-set e l ec old new known right exact celled grows t h d =
+      let v = has-value bytes n runs shape old classes right (low, run) (rw e at l) in
+      let same = Option·some-injective (v .0) t (sym (cell-kept shape grows r u (v .0) (v .1)) ∙ h) in
+      rw ec (exact r u (inside bytes n runs shape old classes right (low, run)) .1 (t, rw (← same) (v .1), d))
+
+  module _ (can : List Bool) (tested : Tested bytes runs classes marks u can) (high : 8 ≤ kindAt bytes r) where
+    -- the tests of both parts pass if both derive
+    parts-pass : (old new : Readings) (known : List Term) → Classes (rowsOf bytes) runs (cellValue old (rowsOf bytes)) classes → Exact (rowsOf bytes) runs old known marks → Celled (rowsOf bytes) runs old known
+        → Grows u old new → (t : Term) → Has bytes new r u t → Derives known (firstPart t) → Derives known (secondPart t)
+        → (getD can (leftAt bytes r) false && getD can (secondOf bytes r) false) ≡ true
+    parts-pass old new known right exact celled grows t h a b =
+        let m = value-made shape low (new u) high h in
+        let few = shape .few in
+        both-pass (tested .each (leftAt bytes r) (omega (arith, left-lower bytes n runs shape r low high)) old new known right exact celled grows (firstPart t) (m .first) a)
+        (tested .each (secondOf bytes r) (omega (arith, second-lower bytes n runs shape r low high)) old new known right exact celled grows (secondPart t) (m .second) b)
+
+    -- a pair, by its parts
+    pub possible-pair : {l k : ℕ} {b : Bool} → kindAt bytes r ≡ 11 → l ≡ leftAt bytes r → k ≡ secondOf bytes r → b ≡ (getD can l false && getD can k false)
+        → Possible (rowsOf bytes) runs classes marks u r b
+    possible-pair {l} {k} {b} e el ek eb old new known right exact celled grows t h d =
+        let m = value-made shape low (new u) high h in
+        let p = pair-parts t (m .kind ∙ e) d in
+        rw (el, ek) at eb ∙ parts-pass old new known right exact celled grows t h (p .0) (p .1)
+
+    -- any other row, by its parts if it is an encryption, and by the marked cells of its kind
+    pub possible-other : {b : Bool} → (kindAt bytes r ≡ 11 → ⊥) → (kindAt bytes r ≡ 12 → (getD can (leftAt bytes r) false && getD can (secondOf bytes r) false) ≡ false)
+        → ((y w : ℕ) → Inside n runs y w → kindAt bytes y ≡ kindAt bytes r → CanTake bytes n runs classes marks u r y w → b ≡ true)
+        → Possible (rowsOf bytes) runs classes marks u r b
+    possible-other {b} other fails takes old new known right exact celled grows t h d = go (way s known exact celled r low high h d)
+      where
+        s : Setting bytes n runs classes u
+        s = record { shape = shape; old = old; new = new; right = right; grows = grows }
+
+        go : Way s known marks r t → b ≡ true
+        go (byMark y w i k c) = takes y w i k c
+        go (byParts k x y) =
+            let m = value-made shape low (new u) high h in
+            let e : kindAt bytes r ≡ 12 = omega (arith, m .kind, kind-most t) in
+            absurd (false≢true (sym (fails e) ∙ parts-pass old new known right exact celled grows t h x y))
