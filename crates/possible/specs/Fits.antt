@@ -16,6 +16,7 @@ use Rattle.possible.specs.Possible.{Possible}
 -- Old readings for which the classes are right, and new ones that grow from them in a run.
 pub record Setting (bytes : List ℕ) (n runs : ℕ) (classes : List ℕ) (u : ℕ) : Type 0 where
   pub shape : Shape bytes n runs
+  pub run : u ≤ runs
   pub old : Readings
   pub new : Readings
   pub right : Classes (rowsOf bytes) runs (cellValue old (rowsOf bytes)) classes
@@ -36,29 +37,28 @@ module _ {bytes : List ℕ} {n runs : ℕ} {classes : List ℕ} {u : ℕ} (s : S
     pub each : (q : ℕ) → q < 96 → getD need q 0 < absent → Gets q (getD need q 0)
 
 -- What it is to note that a row needs a class: if the row gets its value, no need is refused.
-abbrev pub Asked : List ℕ → List ℕ → ℕ → ℕ → Bool → Type 0
-Asked before after q class answer =
-    (bytes : List ℕ) (n runs : ℕ) (classes : List ℕ) (u : ℕ) (s : Setting bytes n runs classes u) → Needed s before → Gets s q class
-    → (answer ≡ true) × Needed s after
+abbrev pub Asked : List ℕ → ℕ → List ℕ → List ℕ → ℕ → ℕ → Bool → Type 0
+Asked classes u before after q class answer =
+    (bytes : List ℕ) (n runs : ℕ) (s : Setting bytes n runs classes u) → Needed s before → Gets s q class → (answer ≡ true) × Needed s after
 
-module _ (bytes : List ℕ) (n runs : ℕ) (classes : List ℕ) where
+module _ (bytes : List ℕ) (n runs : ℕ) (classes : List ℕ) (u : ℕ) where
   -- the parts of row q need the classes of the parts of row y in run w
   abbrev pub Shared : List ℕ → List ℕ → ℕ → ℕ → ℕ → Bool → Type 0
   Shared before after q y w answer =
-      (u : ℕ) (s : Setting bytes n runs classes u) → Needed s before → Gets s (leftAt bytes q) (classAt classes (leftAt bytes y) w)
+      (s : Setting bytes n runs classes u) → Needed s before → Gets s (leftAt bytes q) (classAt classes (leftAt bytes y) w)
       → Gets s (secondOf bytes q) (classAt classes (secondOf bytes y) w) → (answer ≡ true) × Needed s after
 
   -- what a row needs, passed on to its parts
-  abbrev pub Followed : List ℕ → List ℕ → ℕ → Bool → Type 0
-  Followed before after u answer = (s : Setting bytes n runs classes u) → Needed s before → (answer ≡ true) × Needed s after
+  abbrev pub Followed : List ℕ → List ℕ → Bool → Type 0
+  Followed before after answer = (s : Setting bytes n runs classes u) → Needed s before → (answer ≡ true) × Needed s after
 
   -- a row can get the value of a class
-  abbrev pub CanGet : ℕ → ℕ → ℕ → Type 0
-  CanGet u r class = (s : Setting bytes n runs classes u) × Gets s r class
+  abbrev pub CanGet : ℕ → ℕ → Type 0
+  CanGet r class = (s : Setting bytes n runs classes u) × Gets s r class
 
   -- a row can get the value of a marked cell that stands for its own value
-  abbrev pub CanTake : List Bool → ℕ → ℕ → ℕ → ℕ → Type 0
-  CanTake marks u r y w = Marked marks y w × (classAt classes y w ≡ cellOf y w) × CanGet u r (cellOf y w)
+  abbrev pub CanTake : List Bool → ℕ → ℕ → ℕ → Type 0
+  CanTake marks r y w = Marked marks y w × (classAt classes y w ≡ cellOf y w) × CanGet r (cellOf y w)
 
 -- tests of rows below 96 that each keep the promise
 pub record Tested (bytes : List ℕ) (runs : ℕ) (classes : List ℕ) (marks : List Bool) (u : ℕ) (can : List Bool) : Type 0 where

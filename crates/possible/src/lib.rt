@@ -11,11 +11,15 @@ ghost use Rattle.possible.specs.Fits.{Asked, Shared, Followed, CanGet, C
 use cells::Cells;
 use cells::cell;
 
-// Notes that row q needs a class, unless it needs another already.
-fn ask(need: &mut [u16; 96], q: usize, class: u16) -> bool
-    requires { ⌜ q < 96 ⌝ }
-    ensures { λ r. ⌜ Asked (now (need .entry)) (now (need .exit)) q class r ⌝ }
+// Notes that row q of run u needs a class, unless it has or needs another already.
+fn ask(need: &mut [u16; 96], classes: &[u16], u: usize, q: usize, class: u16) -> bool
+    requires { ⌜ (length (now classes) ≡ cellCount) × ((q < 96) × (u ≤ 4)) ⌝ }
+    ensures { λ r. ⌜ Asked (now (classes .entry)) u (now (need .entry)) (now (need .exit)) q class r ⌝ }
 {
+    let own = knowledge::class_at(classes, q, u);
+    if own < Cells::ABSENT {
+        return own == class;
+    }
     if need[q] < Cells::ABSENT {
         return need[q] == class;
     }
@@ -23,24 +27,25 @@ fn ask(need: &mut [u16; 96], q: usize, class: u16) -> bool
     true
 }
 
-// Notes that the parts of row q need the classes of the parts of row y in run w.
+// Notes that the parts of row q in run u need the classes of the parts of row y in run w.
 fn share(
     need: &mut [u16; 96],
     t: &[u8],
     n: usize,
     runs: usize,
     classes: &[u16],
+    u: usize,
     q: usize,
     y: usize,
     w: usize,
 ) -> bool
-    requires { ⌜ Shape (now t) n runs × ((length (now classes) ≡ cellCount) × ((q < n) × ((8 ≤ kindAt (now t) q) × ((y < n) × ((8 ≤ kindAt (now t) y) × (w ≤ runs)))))) ⌝ }
-    ensures { λ r. ⌜ Shared (now (t .entry)) n runs (now (classes .entry)) (now (need .entry)) (now (need .exit)) q y w r ⌝ }
+    requires { ⌜ Shape (now t) n runs × ((length (now classes) ≡ cellCount) × ((u ≤ runs) × ((q < n) × ((8 ≤ kindAt (now t) q) × ((y < n) × ((8 ≤ kindAt (now t) y) × (w ≤ runs))))))) ⌝ }
+    ensures { λ r. ⌜ Shared (now (t .entry)) n runs (now (classes .entry)) u (now (need .entry)) (now (need .exit)) q y w r ⌝ }
 {
     let first = knowledge::class_at(classes, rows::left_of(t, y), w);
     let second = knowledge::class_at(classes, cells::second_of(t, y), w);
-    if ask(need, rows::left_of(t, q), first) {
-        return ask(need, cells::second_of(t, q), second);
+    if ask(need, classes, u, rows::left_of(t, q), first) {
+        return ask(need, classes, u, cells::second_of(t, q), second);
     }
     false
 }
@@ -56,15 +61,11 @@ fn follow(
     q: usize,
 ) -> bool
     requires { ⌜ Shape (now t) n runs × ((length (now classes) ≡ cellCount) × ((u ≤ runs) × (q < n))) ⌝ }
-    ensures { λ r. ⌜ Followed (now (t .entry)) n runs (now (classes .entry)) (now (need .entry)) (now (need .exit)) u r ⌝ }
+    ensures { λ r. ⌜ Followed (now (t .entry)) n runs (now (classes .entry)) u (now (need .entry)) (now (need .exit)) r ⌝ }
 {
     let class = need[q];
     if Cells::ABSENT <= class {
         return true;
-    }
-    let own = knowledge::class_at(classes, q, u);
-    if own < Cells::ABSENT {
-        return own == class;
     }
     let kind = rows::kind_of(t, q);
     if kind < 8 {
@@ -81,7 +82,7 @@ fn follow(
     if rows::kind_of(t, y) != kind {
         return false;
     }
-    share(need, t, n, runs, classes, q, y, w)
+    share(need, t, n, runs, classes, u, q, y, w)
 }
 
 // Whether row r of run u can still get the value of a class: one pass from the row down.
@@ -115,7 +116,7 @@ fn fits_cell(
     w: usize,
 ) -> bool
     requires { ⌜ Shape (now t) n runs × ((length (now classes) ≡ cellCount) × ((length (now marks) ≡ cellCount) × ((u ≤ runs) × ((r < n) × ((y < n) × (w ≤ runs)))))) ⌝ }
-    ensures { λ b. ⌜ (CanTake (now (t .entry)) n runs (now (classes .entry)) (now (marks .entry)) u r y w → b ≡ true) ⌝ }
+    ensures { λ b. ⌜ (CanTake (now (t .entry)) n runs (now (classes .entry)) u (now (marks .entry)) r y w → b ≡ true) ⌝ }
 {
     let c = cell(y, w);
     if marks[c] {
@@ -139,7 +140,7 @@ fn fits_row(
     y: usize,
 ) -> bool
     requires { ⌜ Shape (now t) n runs × ((length (now classes) ≡ cellCount) × ((length (now marks) ≡ cellCount) × ((u ≤ runs) × ((r < n) × (y < n))))) ⌝ }
-    ensures { λ b. ⌜ ((w : ℕ) → w ≤ runs → CanTake (now (t .entry)) n runs (now (classes .entry)) (now (marks .entry)) u r y w → b ≡ true) ⌝ }
+    ensures { λ b. ⌜ ((w : ℕ) → w ≤ runs → CanTake (now (t .entry)) n runs (now (classes .entry)) u (now (marks .entry)) r y w → b ≡ true) ⌝ }
 {
     let mut w = 0;
     while w <= runs {
@@ -162,7 +163,7 @@ fn fits_mark(
     r: usize,
 ) -> bool
     requires { ⌜ Shape (now t) n runs × ((length (now classes) ≡ cellCount) × ((length (now marks) ≡ cellCount) × ((u ≤ runs) × (r < n)))) ⌝ }
-    ensures { λ b. ⌜ ((y w : ℕ) → Inside n runs y w → kindAt (now (t .entry)) y ≡ kindAt (now (t .entry)) r → CanTake (now (t .entry)) n runs (now (classes .entry)) (now (marks .entry)) u r y w → b ≡ true) ⌝ }
+    ensures { λ b. ⌜ ((y w : ℕ) → Inside n runs y w → kindAt (now (t .entry)) y ≡ kindAt (now (t .entry)) r → CanTake (now (t .entry)) n runs (now (classes .entry)) u (now (marks .entry)) r y w → b ≡ true) ⌝ }
 {
     let kind = rows::kind_of(t, r);
     let mut y = 0;

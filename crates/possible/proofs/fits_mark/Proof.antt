@@ -14,7 +14,7 @@ use Rattle.possible.proofs.fits_row.Reads as fits-row-reads
 use Rattle.rows.proofs.kind_of.Reads as kind-of-reads
 
 abbrev Inv-loop : tie.InvT-loop
-Inv-loop t n runs classes marks u r kind y₀ y = (y ≤ n) × ((z : ℕ) → z < y → TakesIn t n runs classes marks u r z → ⊥)
+Inv-loop t n runs classes marks u r kind y₀ y = (y ≤ n) × ((z : ℕ) → z < y → TakesIn t n runs classes u marks r z → ⊥)
 
 abbrev μ-loop : tie.MeasureT-loop
 μ-loop t n runs classes marks u r kind y₀ y = n - y
@@ -49,7 +49,7 @@ loop-less c = omega arith
 
 -- src/lib.rt:169:5
 loop-again : tie.Need-loop-again Inv-loop μ-loop
-loop-again c = let s = c .before .before .before .before .before .before .before .before in (omega (arith, c .before .before .loop-test .taken), none-more (TakesIn (s .args .t .now) (s .args .n) (s .args .runs) (s .args .classes .now) (s .args .marks .now) (s .args .u) (s .args .r)) (c .before .before .before .loop .y) (c .before .before .before .loop .inv .1) (⊎-elim (λ w k. false≢true (sym (w .2 .left) ∙ w .1 .ensures (k .0) (k .1) (k .3))) (λ w k. w .left (c .before .kind-of2 .ensures .0 ∙ k .2 ∙ sym (c .before .before .before .before .kind-of .ensures .0))) (c .if1 .came)))
+loop-again c = let s = c .before .before .before .before .before .before .before .before in (omega (arith, c .before .before .loop-test .taken), none-more (TakesIn (s .args .t .now) (s .args .n) (s .args .runs) (s .args .classes .now) (s .args .u) (s .args .marks .now) (s .args .r)) (c .before .before .before .loop .y) (c .before .before .before .loop .inv .1) (⊎-elim (λ w k. false≢true (sym (w .2 .left) ∙ w .1 .ensures (k .0) (k .1) (k .3))) (λ w k. w .left (c .before .kind-of2 .ensures .0 ∙ k .2 ∙ sym (c .before .before .before .before .kind-of .ensures .0))) (c .if1 .came)))
 
 -- src/lib.rt:155:1
 returns-2 : tie.Need-returns-2 Inv-loop μ-loop

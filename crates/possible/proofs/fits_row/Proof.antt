@@ -12,7 +12,7 @@ use Rattle.possible.proofs.fits_row.Lts as lts
 use Rattle.possible.proofs.fits_cell.Reads as fits-cell-reads
 
 abbrev Inv-loop : tie.InvT-loop
-Inv-loop t n runs classes marks u r y w₀ w = (w ≤ runs + 1) × ((v : ℕ) → v < w → CanTake t n runs classes marks u r y v → ⊥)
+Inv-loop t n runs classes marks u r y w₀ w = (w ≤ runs + 1) × ((v : ℕ) → v < w → CanTake t n runs classes u marks r y v → ⊥)
 
 abbrev μ-loop : tie.MeasureT-loop
 μ-loop t n runs classes marks u r y w₀ w = runs + 1 - w
@@ -39,7 +39,7 @@ loop-less c = omega arith
 
 -- src/lib.rt:145:5
 loop-again : tie.Need-loop-again Inv-loop μ-loop
-loop-again c = let s = c .before .before .before .before .before .before .before in (omega arith, none-more (CanTake (s .args .t .now) (s .args .n) (s .args .runs) (s .args .classes .now) (s .args .marks .now) (s .args .u) (s .args .r) (s .args .y)) (c .before .before .before .loop .w) (c .before .before .before .loop .inv .1) (λ k. false≢true (sym (c .if1 .left) ∙ c .before .fits-cell .ensures k)))
+loop-again c = let s = c .before .before .before .before .before .before .before in (omega arith, none-more (CanTake (s .args .t .now) (s .args .n) (s .args .runs) (s .args .classes .now) (s .args .u) (s .args .marks .now) (s .args .r) (s .args .y)) (c .before .before .before .loop .w) (c .before .before .before .loop .inv .1) (λ k. false≢true (sym (c .if1 .left) ∙ c .before .fits-cell .ensures k)))
 
 -- src/lib.rt:131:1
 returns-2 : tie.Need-returns-2 Inv-loop μ-loop

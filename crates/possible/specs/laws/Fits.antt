@@ -11,6 +11,7 @@ use lib.Dec.{eqb}
 use lib.ListN.{length, getD, set, length-set, replicate, length-replicate, getD-replicate}
 use lib.Seq.{getD-set-same, getD-set-other}
 use Rattle.semantics.specs.Term.{Term, atom}
+use Rattle.semantics.specs.laws.Value.{value-within}
 use Rattle.rows.specs.Rows.{rowsOf}
 use Rattle.cells.specs.Cells.{cellOf, cellCount, absent, Shape, cellValue, secondOf}
 use Rattle.cells.specs.laws.Cells.{class-read, left-lower, second-lower}
@@ -34,8 +35,10 @@ module _ {bytes : List ℕ} {n runs : ℕ} {classes : List ℕ} {u : ℕ} (s : S
   gets-one q a b = class-one (rw (one-term (a .1) (b .1)) at (a .2)) (b .2)
 
   -- a row with a class keeps it
-  pub gets-own : {q c : ℕ} → Inside n runs q u → classAt classes q u < absent → Gets s q c → classAt classes q u ≡ c
-  gets-own {q} i l g =
+  gets-own : (q : ℕ) {c : ℕ} → classAt classes q u < absent → Gets s q c → classAt classes q u ≡ c
+  gets-own q l g =
+      let within = value-within (s .new u) (rowsOf bytes) q (g .0, g .1) in
+      let i : Inside n runs q u = (omega (arith, s .shape .count), s .run) in
       let v = has-value bytes n runs (s .shape) (s .old) classes (s .right) i l in
       gets-one q (v .0, cell-kept (s .shape) (s .grows) q u (v .0) (v .1), (q, u, i, v .1, refl)) g
 
@@ -54,45 +57,39 @@ module _ {bytes : List ℕ} {n runs : ℕ} {classes : List ℕ} {u : ℕ} (s : S
       none : (q : ℕ) → q < 96 → getD (replicate 96 480) q 0 < absent → Gets s q (getD (replicate 96 480) q 0)
       none q k h = absurd (omega (arith, getD-replicate {A = ℕ} 96 q 480 0 k))
 
--- a row that needs a class already
-pub asked-had : (need : List ℕ) (q class : ℕ) → q < 96 → getD need q 0 < absent → Asked need need q class (eqb (getD need q 0) class)
-asked-had need q class l h bytes n runs classes u s nd g = (eq-eqb (getD need q 0) class (gets-one s q (nd .each q l h) g), nd)
+module _ (classes : List ℕ) (u : ℕ) (need : List ℕ) (q class : ℕ) where
+  -- a row that has a class already
+  pub asked-own : {own : ℕ} → own ≡ classAt classes q u → own < absent → Asked classes u need need q class (eqb own class)
+  asked-own {own} e l bytes n runs s nd g = (eq-eqb own class (e ∙ gets-own s q (rw e at l) g), nd)
 
--- a row that needs one now
-pub asked-now : (need : List ℕ) (q class : ℕ) → q < 96 → Asked need (set need q class) q class true
-asked-now need q class l bytes n runs classes u s nd g = (refl, needed-set s l nd g)
+  -- a row that needs one already
+  pub asked-had : q < 96 → getD need q 0 < absent → Asked classes u need need q class (eqb (getD need q 0) class)
+  asked-had l h bytes n runs s nd g = (eq-eqb (getD need q 0) class (gets-one s q (nd .each q l h) g), nd)
 
-module _ (bytes : List ℕ) (n runs : ℕ) (classes : List ℕ) (q y w : ℕ) {l p first : ℕ} (el : l ≡ leftAt bytes y) (ef : first ≡ classAt classes l w) (ep : p ≡ leftAt bytes q) where
+  -- a row that needs one now
+  pub asked-now : q < 96 → Asked classes u need (set need q class) q class true
+  asked-now l bytes n runs s nd g = (refl, needed-set s l nd g)
+
+module _ (bytes : List ℕ) (n runs : ℕ) (classes : List ℕ) (u q y w : ℕ) {l p first : ℕ} (el : l ≡ leftAt bytes y) (ef : first ≡ classAt classes l w) (ep : p ≡ leftAt bytes q) where
   -- the need of the first part
-  first-asked : {before middle : List ℕ} {o : Bool} → Asked before middle p first o → (u : ℕ) (s : Setting bytes n runs classes u) → Needed s before
+  first-asked : {before middle : List ℕ} {o : Bool} → Asked classes u before middle p first o → (s : Setting bytes n runs classes u) → Needed s before
       → Gets s (leftAt bytes q) (classAt classes (leftAt bytes y) w) → (o ≡ true) × Needed s middle
-  first-asked asked u s nd g = asked bytes n runs classes u s nd (rw (ep, ef, el) g)
+  first-asked asked s nd g = asked bytes n runs s nd (rw (ep, ef, el) g)
 
   -- both parts are asked
-  pub shared-both : {before middle after : List ℕ} {o answer : Bool} {k z second : ℕ} → Asked before middle p first o → k ≡ secondOf bytes y → second ≡ classAt classes k w → z ≡ secondOf bytes q
-      → Asked middle after z second answer → Shared bytes n runs classes before after q y w answer
-  shared-both one ek es ez two u s nd g h = two bytes n runs classes u s (first-asked one u s nd g .1) (rw (ez, es, ek) h)
+  pub shared-both : {before middle after : List ℕ} {o answer : Bool} {k z second : ℕ} → Asked classes u before middle p first o → k ≡ secondOf bytes y → second ≡ classAt classes k w
+      → z ≡ secondOf bytes q → Asked classes u middle after z second answer → Shared bytes n runs classes u before after q y w answer
+  shared-both one ek es ez two s nd g h = two bytes n runs s (first-asked one s nd g .1) (rw (ez, es, ek) h)
 
   -- the first part is refused
-  pub shared-refused : {before middle : List ℕ} {o : Bool} → Asked before middle p first o → o ≡ false → (after : List ℕ) (answer : Bool) → Shared bytes n runs classes before after q y w answer
-  shared-refused one e after answer u s nd g h = absurd (false≢true (sym e ∙ first-asked one u s nd g .0))
+  pub shared-refused : {before middle : List ℕ} {o : Bool} → Asked classes u before middle p first o → o ≡ false → (after : List ℕ) (answer : Bool)
+      → Shared bytes n runs classes u before after q y w answer
+  shared-refused one e after answer s nd g h = absurd (false≢true (sym e ∙ first-asked one s nd g .0))
 
 module _ (bytes : List ℕ) (n runs : ℕ) (classes : List ℕ) (u q : ℕ) (need : List ℕ) where
-  -- a row that needs nothing
-  pub followed-none : absent ≤ getD need q 0 → Followed bytes n runs classes need need u true
-  followed-none l s nd = (refl, nd)
-
-  -- a variable that is unset needs nothing of other rows
-  pub followed-atom : Followed bytes n runs classes need need u true
-  followed-atom s nd = (refl, nd)
-
   module _ (few : n ≤ 96) (low : q < n) (class : ℕ) (ec : class ≡ getD need q 0) (there : class < absent) where
     gets-need : (s : Setting bytes n runs classes u) → Needed s need → Gets s q class
     gets-need s nd = rw ec (nd .each q (omega arith) (rw ec at there))
-
-    -- a row with a class
-    pub followed-own : {own : ℕ} → u ≤ runs → own ≡ classAt classes q u → own < absent → Followed bytes n runs classes need need u (eqb own class)
-    followed-own {own} k e l s nd = (eq-eqb own class (e ∙ gets-own s (low, k) (rw e at l) (gets-need s nd)), nd)
 
     -- the cell that stands for what is needed
     needed-cell : (s : Setting bytes n runs classes u) → Needed s need
@@ -107,10 +104,10 @@ module _ (bytes : List ℕ) (n runs : ℕ) (classes : List ℕ) (u q : ℕ) (nee
     needed-there s nd = let z = needed-cell s nd in (omega (arith, z .4 .0, z .5), omega (arith, z .4 .0, z .4 .1, z .5))
 
     -- a class that is no cell of the table is refused
-    pub followed-row : (after : List ℕ) (answer : Bool) → n ≤ class % 96 → Followed bytes n runs classes need after u answer
+    pub followed-row : (after : List ℕ) (answer : Bool) → n ≤ class % 96 → Followed bytes n runs classes u need after answer
     followed-row after answer h s nd = absurd (omega (arith, needed-there s nd .0))
 
-    pub followed-run : (after : List ℕ) (answer : Bool) → runs < class / 96 → Followed bytes n runs classes need after u answer
+    pub followed-run : (after : List ℕ) (answer : Bool) → runs < class / 96 → Followed bytes n runs classes u need after answer
     followed-run after answer h s nd = absurd (omega (arith, needed-there s nd .1))
 
     module _ (high : 8 ≤ kindAt bytes q) where
@@ -139,12 +136,12 @@ module _ (bytes : List ℕ) (n runs : ℕ) (classes : List ℕ) (u q : ℕ) (nee
               )
 
       -- a class of another kind is refused
-      pub followed-kind : (after : List ℕ) (answer : Bool) → (kindAt bytes (class % 96) ≡ kindAt bytes q → ⊥) → Followed bytes n runs classes need after u answer
+      pub followed-kind : (after : List ℕ) (answer : Bool) → (kindAt bytes (class % 96) ≡ kindAt bytes q → ⊥) → Followed bytes n runs classes u need after answer
       followed-kind after answer d s nd = absurd (d (needed-parts s nd .0))
 
       -- the parts need the classes of the parts
-      pub followed-parts : {after : List ℕ} {answer : Bool} → Shared bytes n runs classes need after q (class % 96) (class / 96) answer → Followed bytes n runs classes need after u answer
-      followed-parts shared s nd = let p = needed-parts s nd in shared u s nd (p .1) (p .2)
+      pub followed-parts : {after : List ℕ} {answer : Bool} → Shared bytes n runs classes u need after q (class % 96) (class / 96) answer → Followed bytes n runs classes u need after answer
+      followed-parts shared s nd = let p = needed-parts s nd in shared s nd (p .1) (p .2)
 
 module _ (bytes : List ℕ) (n runs : ℕ) (classes : List ℕ) (u r class : ℕ) where
   -- what rows need, if one of them gets the value of a class
@@ -152,27 +149,27 @@ module _ (bytes : List ℕ) (n runs : ℕ) (classes : List ℕ) (u r class : ℕ
   Needs need = (s : Setting bytes n runs classes u) → Gets s r class → Needed s need
 
   -- one row more
-  pub needs-more : {need after : List ℕ} {o : Bool} → Needs need → Followed bytes n runs classes need after u o → Needs after
+  pub needs-more : {need after : List ℕ} {o : Bool} → Needs need → Followed bytes n runs classes u need after o → Needs after
   needs-more needs followed s g = followed s (needs s g) .1
 
   -- a row that is refused what it needs
-  pub needs-refused : {need after : List ℕ} {o : Bool} → Needs need → Followed bytes n runs classes need after u o → o ≡ false → (answer : Bool)
+  pub needs-refused : {need after : List ℕ} {o : Bool} → Needs need → Followed bytes n runs classes u need after o → o ≡ false → (answer : Bool)
       → CanGet bytes n runs classes u r class → answer ≡ true
   needs-refused needs followed e answer g = absurd (false≢true (sym e ∙ followed (g .0) (needs (g .0) (g .1)) .0))
 
 module _ (bytes : List ℕ) (n runs : ℕ) (classes : List ℕ) (marks : List Bool) (u r y w : ℕ) {c : ℕ} (ec : c ≡ cellOf y w) where
   -- a marked cell that stands for its own value
-  pub take-fits : {class : ℕ} {answer : Bool} → class ≡ c → (CanGet bytes n runs classes u r class → answer ≡ true) → CanTake bytes n runs classes marks u r y w → answer ≡ true
+  pub take-fits : {class : ℕ} {answer : Bool} → class ≡ c → (CanGet bytes n runs classes u r class → answer ≡ true) → CanTake bytes n runs classes u marks r y w → answer ≡ true
   take-fits e f k = f (rw (e ∙ ec) (k .2))
 
   -- one that does not
-  pub take-other : length classes ≡ cellCount → c < cellCount → (getD classes c 0 ≡ c → ⊥) → CanTake bytes n runs classes marks u r y w → false ≡ true
+  pub take-other : length classes ≡ cellCount → c < cellCount → (getD classes c 0 ≡ c → ⊥) → CanTake bytes n runs classes u marks r y w → false ≡ true
   take-other sized l d k = absurd (d (class-read classes sized ec l ∙ k .1 ∙ sym ec))
 
   -- one that is not marked
-  pub take-unmarked : getD marks c false ≡ false → CanTake bytes n runs classes marks u r y w → false ≡ true
+  pub take-unmarked : getD marks c false ≡ false → CanTake bytes n runs classes u marks r y w → false ≡ true
   take-unmarked e k = sym e ∙ rw ec (k .0)
 
 -- a row can get the value of a marked cell in another row of its kind
-abbrev pub TakesIn : List ℕ → ℕ → ℕ → List ℕ → List Bool → ℕ → ℕ → ℕ → Type 0
-TakesIn bytes n runs classes marks u r y = (w : ℕ) × (w ≤ runs) × (kindAt bytes y ≡ kindAt bytes r) × CanTake bytes n runs classes marks u r y w
+abbrev pub TakesIn : List ℕ → ℕ → ℕ → List ℕ → ℕ → List Bool → ℕ → ℕ → Type 0
+TakesIn bytes n runs classes u marks r y = (w : ℕ) × (w ≤ runs) × (kindAt bytes y ≡ kindAt bytes r) × CanTake bytes n runs classes u marks r y w

@@ -80,7 +80,7 @@ module _ {bytes : List ℕ} {n runs : ℕ} {classes : List ℕ} {u : ℕ} (s : S
 
     -- How the value of a row that is no atom derives: as the value of a marked cell, or from its parts.
     pub data Way (marks : List Bool) (r : ℕ) (t : Term) : Type 0 where
-      byMark : (y w : ℕ) → Inside n runs y w → kindAt bytes y ≡ kindAt bytes r → CanTake bytes n runs classes marks u r y w → Way marks r t
+      byMark : (y w : ℕ) → Inside n runs y w → kindAt bytes y ≡ kindAt bytes r → CanTake bytes n runs classes u marks r y w → Way marks r t
       byParts : 11 ≤ kindOf t → Derives known (firstPart t) → Derives known (secondPart t) → Way marks r t
 
     pub way : {marks : List Bool} → Exact (rowsOf bytes) runs (s .old) known marks → Celled (rowsOf bytes) runs (s .old) known → (r : ℕ) → r < n → 8 ≤ kindAt bytes r

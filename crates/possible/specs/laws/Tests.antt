@@ -93,12 +93,12 @@ module _ (bytes : List ℕ) (n runs : ℕ) (shape : Shape bytes n runs) (classes
 
     -- any other row, by its parts if it is an encryption, and by the marked cells of its kind
     pub possible-other : {b : Bool} → (kindAt bytes r ≡ 11 → ⊥) → (kindAt bytes r ≡ 12 → (getD can (leftAt bytes r) false && getD can (secondOf bytes r) false) ≡ false)
-        → ((y w : ℕ) → Inside n runs y w → kindAt bytes y ≡ kindAt bytes r → CanTake bytes n runs classes marks u r y w → b ≡ true)
+        → ((y w : ℕ) → Inside n runs y w → kindAt bytes y ≡ kindAt bytes r → CanTake bytes n runs classes u marks r y w → b ≡ true)
         → Possible (rowsOf bytes) runs classes marks u r b
     possible-other {b} other fails takes old new known right exact celled grows t h d = go (way s known exact celled r low high h d)
       where
         s : Setting bytes n runs classes u
-        s = record { shape = shape; old = old; new = new; right = right; grows = grows }
+        s = record { shape = shape; run = run; old = old; new = new; right = right; grows = grows }
 
         go : Way s known marks r t → b ≡ true
         go (byMark y w i k c) = takes y w i k c
