@@ -1,5 +1,5 @@
 -- What rows of a run need so that one of them gets the value of a class. Assumes nothing.
-use Prim.Native.Nat.{ℕ, _+_, _*_, _<_, _≤_}
+use Prim.Native.Nat.{ℕ, _<_, _≤_}
 use mathlib.Core.Path.{_≡_}
 use mathlib.Core.Bool.{Bool, true, false}
 use mathlib.Core.List.{List}
@@ -9,7 +9,7 @@ use Rattle.rows.specs.Rows.{rowsOf}
 use Rattle.cells.specs.Cells.{cellOf, absent, Shape, Readings, cellValue, secondOf}
 use Rattle.classes.specs.Classes.{Classes, Grows}
 use Rattle.knowledge.specs.Marks.{Marked}
-use Rattle.knowledge.specs.Steps.{classAt, kindAt, leftAt, Inside}
+use Rattle.knowledge.specs.Steps.{classAt, leftAt, Inside}
 use Rattle.knowledge.specs.laws.Values.{Has}
 use Rattle.possible.specs.Possible.{Possible}
 

@@ -1,4 +1,6 @@
-use Prim.Native.Nat.{ℕ, _+_, _-_, _≤_, _<_}
+-- `possible::fits_mark` meets its contract. The loop's invariant: the row can get the value of no marked cell of its kind in a row below y.
+-- The measure is how many rows are left. Assumes nothing.
+use Prim.Native.Nat.{ℕ, _-_, _≤_, _<_}
 use mathlib.Core.Path.{refl, sym, _∙_}
 use mathlib.Core.Logic.{⊎-elim}
 use mathlib.Core.Bool.{false≢true}
@@ -8,10 +10,6 @@ use native.Mathlib.Omega.{arith}
 use borrow.Author.Needs.{needs}
 use Rattle.possible.proofs.fits_mark.Statement.{statement}
 use Rattle.possible.proofs.fits_mark.Tie as tie
-use Rattle.possible.proofs.fits_mark.Reads as reads
-use Rattle.possible.proofs.fits_mark.Lts as lts
-use Rattle.possible.proofs.fits_row.Reads as fits-row-reads
-use Rattle.rows.proofs.kind_of.Reads as kind-of-reads
 
 abbrev Inv-loop : tie.InvT-loop
 Inv-loop t n runs classes marks u r kind y₀ y = (y ≤ n) × ((z : ℕ) → z < y → TakesIn t n runs classes u marks r z → ⊥)
@@ -19,39 +17,17 @@ Inv-loop t n runs classes marks u r kind y₀ y = (y ≤ n) × ((z : ℕ) → z 
 abbrev μ-loop : tie.MeasureT-loop
 μ-loop t n runs classes marks u r kind y₀ y = n - y
 
--- src/lib.rt:167:9
-kind-of-requires : tie.Need-kind-of-requires Inv-loop μ-loop
-kind-of-requires c κs = search needs
-
--- src/lib.rt:169:5
 loop-holds : tie.Need-loop-holds Inv-loop μ-loop
 loop-holds c = (omega arith, λ v l. absurd (omega arith))
 
--- src/lib.rt:170:12
-kind-of-requires-2 : tie.Need-kind-of-requires-2 Inv-loop μ-loop
-kind-of-requires-2 c κs = search needs
-
--- src/lib.rt:171:16
-fits-row-requires : tie.Need-fits-row-requires Inv-loop μ-loop
-fits-row-requires c κs = search needs
-
--- src/lib.rt:172:17
 returns : tie.Need-returns Inv-loop μ-loop
 returns c = λ z w i e k. refl
 
--- src/lib.rt:175:9
-add-y : tie.Need-add-y Inv-loop μ-loop
-add-y c = search needs
-
--- src/lib.rt:169:5
-loop-less : tie.Need-loop-less Inv-loop μ-loop
-loop-less c = omega arith
-
--- src/lib.rt:169:5
 loop-again : tie.Need-loop-again Inv-loop μ-loop
-loop-again c = let s = c .before .before .before .before .before .before .before .before in (omega (arith, c .before .before .loop-test .taken), none-more (TakesIn (s .args .t .now) (s .args .n) (s .args .runs) (s .args .classes .now) (s .args .u) (s .args .marks .now) (s .args .r)) (c .before .before .before .loop .y) (c .before .before .before .loop .inv .1) (⊎-elim (λ w k. false≢true (sym (w .2 .left) ∙ w .1 .ensures (k .0) (k .1) (k .3))) (λ w k. w .left (c .before .kind-of2 .ensures .0 ∙ k .2 ∙ sym (c .before .before .before .before .kind-of .ensures .0))) (c .if1 .came)))
+loop-again c =
+    let s = c .before .before .before .before .before .before .before .before in
+    (omega (arith, c .before .before .loop-test .taken), none-more (TakesIn (s .args .t .now) (s .args .n) (s .args .runs) (s .args .classes .now) (s .args .u) (s .args .marks .now) (s .args .r)) (c .before .before .before .loop .y) (c .before .before .before .loop .inv .1) (⊎-elim (λ w k. false≢true (sym (w .2 .left) ∙ w .1 .ensures (k .0) (k .1) (k .3))) (λ w k. w .left (c .before .kind-of2 .ensures .0 ∙ k .2 ∙ sym (c .before .before .before .before .kind-of .ensures .0))) (c .if1 .came)))
 
--- src/lib.rt:155:1
 returns-2 : tie.Need-returns-2 Inv-loop μ-loop
 returns-2 c = λ y w i e k. absurd (c .before .loop .inv .1 y (omega (arith, i .0, c .loop-test .left)) (w, i .1, e, k))
 
@@ -61,12 +37,12 @@ fits-mark-spec =
     (tie.spec
     Inv-loop
     μ-loop
-    kind-of-requires
+    (λ c κs. search needs)
     loop-holds
-    kind-of-requires-2
-    fits-row-requires
+    (λ c κs. search needs)
+    (λ c κs. search needs)
     returns
-    add-y
-    loop-less
+    (λ c. search needs)
+    (λ c. omega arith)
     loop-again
     returns-2)

@@ -1,5 +1,7 @@
+-- `possible::fits_row` meets its contract. The loop's invariant: in no run below w can the row get the value.
+-- The measure is how many runs are left. Assumes nothing.
 use Prim.Native.Nat.{ℕ, _+_, _-_, _≤_, _<_}
-use mathlib.Core.Path.{refl, sym, _∙_}
+use mathlib.Core.Path.{sym, _∙_}
 use mathlib.Core.Bool.{false≢true}
 use Rattle.cells.specs.laws.Cells.{none-more}
 use Rattle.possible.specs.Fits.{CanTake}
@@ -7,9 +9,6 @@ use native.Mathlib.Omega.{arith}
 use borrow.Author.Needs.{needs}
 use Rattle.possible.proofs.fits_row.Statement.{statement}
 use Rattle.possible.proofs.fits_row.Tie as tie
-use Rattle.possible.proofs.fits_row.Reads as reads
-use Rattle.possible.proofs.fits_row.Lts as lts
-use Rattle.possible.proofs.fits_cell.Reads as fits-cell-reads
 
 abbrev Inv-loop : tie.InvT-loop
 Inv-loop t n runs classes marks u r y w₀ w = (w ≤ runs + 1) × ((v : ℕ) → v < w → CanTake t n runs classes u marks r y v → ⊥)
@@ -17,31 +16,14 @@ Inv-loop t n runs classes marks u r y w₀ w = (w ≤ runs + 1) × ((v : ℕ) �
 abbrev μ-loop : tie.MeasureT-loop
 μ-loop t n runs classes marks u r y w₀ w = runs + 1 - w
 
--- src/lib.rt:145:5
 loop-holds : tie.Need-loop-holds Inv-loop μ-loop
 loop-holds c = (omega arith, λ v l. absurd (omega arith))
 
--- src/lib.rt:146:12
-fits-cell-requires : tie.Need-fits-cell-requires Inv-loop μ-loop
-fits-cell-requires c κs = search needs
-
--- src/lib.rt:147:13
-returns : tie.Need-returns Inv-loop μ-loop
-returns c = search needs
-
--- src/lib.rt:149:9
-add-w : tie.Need-add-w Inv-loop μ-loop
-add-w c = search needs
-
--- src/lib.rt:145:5
-loop-less : tie.Need-loop-less Inv-loop μ-loop
-loop-less c = omega arith
-
--- src/lib.rt:145:5
 loop-again : tie.Need-loop-again Inv-loop μ-loop
-loop-again c = let s = c .before .before .before .before .before .before .before in (omega arith, none-more (CanTake (s .args .t .now) (s .args .n) (s .args .runs) (s .args .classes .now) (s .args .u) (s .args .marks .now) (s .args .r) (s .args .y)) (c .before .before .before .loop .w) (c .before .before .before .loop .inv .1) (λ k. false≢true (sym (c .if1 .left) ∙ c .before .fits-cell .ensures k)))
+loop-again c =
+    let s = c .before .before .before .before .before .before .before in
+    (omega arith, none-more (CanTake (s .args .t .now) (s .args .n) (s .args .runs) (s .args .classes .now) (s .args .u) (s .args .marks .now) (s .args .r) (s .args .y)) (c .before .before .before .loop .w) (c .before .before .before .loop .inv .1) (λ k. false≢true (sym (c .if1 .left) ∙ c .before .fits-cell .ensures k)))
 
--- src/lib.rt:131:1
 returns-2 : tie.Need-returns-2 Inv-loop μ-loop
 returns-2 c = λ w l k. absurd (c .before .loop .inv .1 w (omega arith) k)
 
@@ -52,9 +34,9 @@ fits-row-spec =
     Inv-loop
     μ-loop
     loop-holds
-    fits-cell-requires
-    returns
-    add-w
-    loop-less
+    (λ c κs. search needs)
+    (λ c. search needs)
+    (λ c. search needs)
+    (λ c. omega arith)
     loop-again
     returns-2)

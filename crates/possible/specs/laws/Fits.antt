@@ -1,24 +1,24 @@
 -- Needs of rows: one that is noted is met, and one that is refused cannot be. Assumes nothing.
-use Prim.Native.Nat.{ℕ, _+_, _*_, _/_, _%_, _<_, _≤_}
+use Prim.Native.Nat.{ℕ, _/_, _%_, _<_, _≤_}
 use native.Mathlib.Decide.{ℕ-discrete}
 use native.Mathlib.Omega.{arith}
-use mathlib.Core.Path.{_≡_, refl, sym, ap, _∙_}
-use mathlib.Core.Bool.{Bool, true, false, true≢false, false≢true}
+use mathlib.Core.Path.{_≡_, refl, sym, _∙_}
+use mathlib.Core.Bool.{Bool, true, false, false≢true}
 use mathlib.Core.List.{List}
 use mathlib.Core.Option.{Option, some, Option·some-injective}
 use borrow.Author.Tests.{eq-eqb}
 use lib.Dec.{eqb}
 use lib.ListN.{length, getD, set, length-set, replicate, length-replicate, getD-replicate}
 use lib.Seq.{getD-set-same, getD-set-other}
-use Rattle.semantics.specs.Term.{Term, atom}
+use Rattle.semantics.specs.Term.{Term}
 use Rattle.semantics.specs.laws.Value.{value-within}
 use Rattle.rows.specs.Rows.{rowsOf}
-use Rattle.cells.specs.Cells.{cellOf, cellCount, absent, Shape, cellValue, secondOf}
+use Rattle.cells.specs.Cells.{cellOf, cellCount, absent, secondOf}
 use Rattle.cells.specs.laws.Cells.{class-read, left-lower, second-lower}
-use Rattle.classes.specs.laws.Kinds.{kindOf, firstPart, secondPart, value-made}
+use Rattle.classes.specs.laws.Kinds.{firstPart, secondPart, value-made}
 use Rattle.classes.specs.laws.Values.{cell-kept}
 use Rattle.knowledge.specs.Steps.{classAt, kindAt, leftAt, Inside}
-use Rattle.knowledge.specs.laws.Values.{Has, Standing, standsAtom, standsRow, has-value, stand, one-class, cells-apart}
+use Rattle.knowledge.specs.laws.Values.{Has, Standing, standsAtom, standsRow, has-value, stand, one-class}
 use Rattle.possible.specs.Fits.{Setting, ClassOf, Gets, Needed, Asked, Shared, Followed, CanGet, CanTake}
 
 -- a row has one value
@@ -128,8 +128,7 @@ module _ (bytes : List ℕ) (n runs : ℕ) (classes : List ℕ) (u q : ℕ) (nee
               let d = value-made (s .shape) low (s .new u) high h in
               let e = value-made (s .shape) (i .0) (s .old w) l v in
               let a = left-lower bytes n runs (s .shape) y (i .0) l in
-              let b = second-lower bytes n runs (s .shape) y (i .0) l in
-              (
+              let b = second-lower bytes n runs (s .shape) y (i .0) l in (
                 sym (e .kind) ∙ d .kind,
                 (firstPart t, d .first, (leftAt bytes y, w, (omega (arith, i .0), i .1), e .first, refl)),
                 (secondPart t, d .second, (secondOf bytes y, w, (omega (arith, i .0), i .1), e .second, refl)),

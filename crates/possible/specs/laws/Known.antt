@@ -1,24 +1,20 @@
 -- Derivable terms: values of cells, and pairs and encryptions of derivable terms. Assumes nothing.
-use Prim.Native.Nat.{ℕ, _+_, _*_, _<_, _≤_}
+use Prim.Native.Nat.{ℕ, _<_, _≤_}
 use native.Mathlib.Omega.{arith}
-use mathlib.Core.Path.{_≡_, refl, sym, ap, _∙_}
-use mathlib.Core.Logic.{⊎-elim}
-use mathlib.Core.Bool.{Bool, true, false, true≢false, false≢true, _&&_}
-use mathlib.Core.List.{List, List·Memᴰ}
-use mathlib.Core.Option.{Option, none, some, Option·some-injective}
-use lib.ListN.{length, getD}
-use Rattle.semantics.specs.Term.{Atom, Term, atom, pk, sk, shared, pair, encrypted, inverse}
+use mathlib.Core.Path.{_≡_, sym, _∙_}
+use mathlib.Core.Bool.{Bool}
+use mathlib.Core.List.{List}
+use Rattle.semantics.specs.Term.{Term, pair, encrypted, inverse}
 use Rattle.semantics.specs.Inference.{Derives, member, pairs, first, second, encrypts, decrypts}
 use Rattle.semantics.specs.laws.Inference.{Carried, derives-keeps}
 use Rattle.rows.specs.Rows.{rowsOf}
-use Rattle.cells.specs.Cells.{cellOf, absent, Shape, Within, Readings, cellValue, secondOf}
+use Rattle.cells.specs.Cells.{cellOf, Readings, secondOf}
 use Rattle.cells.specs.laws.Cells.{left-lower, second-lower}
-use Rattle.classes.specs.Classes.{Classes, Grows}
 use Rattle.classes.specs.laws.Kinds.{kindOf, firstPart, secondPart, value-made}
-use Rattle.knowledge.specs.Marks.{Marked, Exact, Celled}
+use Rattle.knowledge.specs.Marks.{Exact, Celled}
 use Rattle.knowledge.specs.Steps.{classAt, kindAt, leftAt, Inside}
 use Rattle.knowledge.specs.laws.Values.{Has, Standing, standsAtom, standsRow, stand, one-class, inside}
-use Rattle.possible.specs.Fits.{Setting, Gets, CanTake}
+use Rattle.possible.specs.Fits.{Setting, CanTake}
 
 -- What is derivable: the value of a cell, or a pair or an encryption of what is derivable.
 data Known (bytes : List ℕ) (n runs : ℕ) (old : Readings) (known : List Term) : Term → Type 0 where

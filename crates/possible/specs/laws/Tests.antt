@@ -1,22 +1,22 @@
 -- The test of a row keeps its promise, if the tests of its parts do. Assumes nothing.
-use Prim.Native.Nat.{ℕ, _+_, _*_, _<_, _≤_}
+use Prim.Native.Nat.{ℕ, _<_, _≤_}
 use native.Mathlib.Decide.{ℕ-discrete}
 use native.Mathlib.Omega.{arith}
-use mathlib.Core.Path.{_≡_, refl, sym, ap, _∙_}
-use mathlib.Core.Bool.{Bool, true, false, true≢false, false≢true, _&&_}
+use mathlib.Core.Path.{_≡_, sym, _∙_}
+use mathlib.Core.Bool.{Bool, true, false, false≢true, _&&_}
 use mathlib.Core.List.{List}
-use mathlib.Core.Option.{some, Option·some-injective}
-use lib.ListN.{length, getD, set, length-set, replicate, length-replicate, getD-replicate}
+use mathlib.Core.Option.{Option·some-injective}
+use lib.ListN.{getD, set, length-set, replicate, length-replicate, getD-replicate}
 use lib.Seq.{getD-set-same, getD-set-other}
 use Rattle.semantics.specs.Term.{Term, atom, pk, sk, shared, pair, encrypted}
 use Rattle.semantics.specs.Inference.{Derives, first, second}
 use Rattle.rows.specs.Rows.{rowsOf}
-use Rattle.cells.specs.Cells.{cellOf, cellCount, absent, Shape, Readings, cellValue, secondOf}
-use Rattle.cells.specs.laws.Cells.{left-lower, second-lower}
+use Rattle.cells.specs.Cells.{cellOf, absent, Shape, Readings, cellValue, secondOf}
+use Rattle.cells.specs.laws.Cells.{left-lower, second-lower, left-small, second-small}
 use Rattle.classes.specs.Classes.{Classes, Grows}
 use Rattle.classes.specs.laws.Kinds.{kindOf, firstPart, secondPart, value-made}
 use Rattle.classes.specs.laws.Values.{cell-kept}
-use Rattle.knowledge.specs.Marks.{Marked, Exact, Celled}
+use Rattle.knowledge.specs.Marks.{Exact, Celled}
 use Rattle.knowledge.specs.Steps.{classAt, kindAt, leftAt, Inside}
 use Rattle.knowledge.specs.laws.Values.{Has, has-value, inside}
 use Rattle.possible.specs.Possible.{Possible}
@@ -40,6 +40,12 @@ pair-parts (sk t) e d = absurd (omega arith)
 pair-parts (shared t k) e d = absurd (omega arith)
 pair-parts (pair t k) e d = (first d, second d)
 pair-parts (encrypted t k) e d = absurd (omega arith)
+
+-- the parts of a row that is no atom have cells
+pub parts-small : (bytes : List ℕ) (n runs : ℕ) → Shape bytes n runs → (r : ℕ) → r < n → {k l s : ℕ} → k ≡ kindAt bytes r → 8 ≤ k → l ≡ leftAt bytes r → s ≡ secondOf bytes r
+    → (l < 96) × (s < 96)
+parts-small bytes n runs shape r low e h el es =
+    (left-small bytes n runs shape r low (rw e at h) el, second-small bytes n runs shape r low (rw e at h) es)
 
 -- two tests that both pass
 both-pass : {a b : Bool} → a ≡ true → b ≡ true → (a && b) ≡ true
