@@ -35,7 +35,7 @@ orElse none o = o
 orElse (some a) o = some a
 
 -- the value of a variable is the first of its values
-assigned-first : (x : Atom) (v : Value) (sets : List (Atom × Value)) → assigned x ((x, v) ∷ sets) ≡ some v
+pub assigned-first : (x : Atom) (v : Value) (sets : List (Atom × Value)) → assigned x ((x, v) ∷ sets) ≡ some v
 unfolding assigned
 assigned-first x v sets = go (atom? x x) refl
   where
@@ -44,7 +44,7 @@ assigned-first x v sets = go (atom? x x) refl
     go (no n) e = absurd (n refl)
 
 -- or one of the later ones
-assigned-later : (x y : Atom) (v : Value) (sets : List (Atom × Value)) → ¬ (x ≡ y) → assigned x ((y, v) ∷ sets) ≡ assigned x sets
+pub assigned-later : (x y : Atom) (v : Value) (sets : List (Atom × Value)) → ¬ (x ≡ y) → assigned x ((y, v) ∷ sets) ≡ assigned x sets
 unfolding assigned
 assigned-later x y v sets differ = go (atom? x y) refl
   where
@@ -76,7 +76,7 @@ pub assigned-new : (x : Atom) (sets more : List (Atom × Value)) → assigned x 
 assigned-new x sets more e = rw (assigned-append x sets more, e)
 
 -- values stand for terms if those before and after do
-standing-append : (rows : List Row) (sets more : List (Atom × Value)) → Standing rows sets → Standing rows more → Standing rows (sets ++ more)
+pub standing-append : (rows : List Row) (sets more : List (Atom × Value)) → Standing rows sets → Standing rows more → Standing rows (sets ++ more)
 standing-append rows sets more old new x v e = go (assigned x sets) refl
   where
     go : (o : Option Value) → assigned x sets ≡ o → There (termOf rows v)

@@ -1,0 +1,4 @@
+-- Which claim a state breaks, as the code answers it, and the laws of that.
+pub mod Claims
+pub mod AtRun
+pub mod laws

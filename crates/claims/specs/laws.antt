@@ -1,0 +1,5 @@
+-- The laws of broken claims, with their proofs.
+pub mod First
+pub mod Event
+pub mod Run
+pub mod State

@@ -1,0 +1,79 @@
+-- The first broken claim of a run: its events are looked at in order, if its agents are all trusted. Assumes nothing.
+use Prim.Native.Nat.{ℕ, suc, _+_, _<_, _≤_}
+use native.Mathlib.Numerals.{add-one}
+use native.Mathlib.Omega.{arith}
+use native.Mathlib.Nat.{eq-or-lt-of-le}
+use mathlib.Core.Path.{_≡_, refl}
+use mathlib.Core.Logic.{⊎-elim}
+use mathlib.Core.Bool.{Bool, true, false, _&&_}
+use mathlib.Core.List.{List, map}
+use mathlib.Core.Option.{none}
+use lib.ListN.{getElem?}
+use Rattle.semantics.specs.Basic.{provided, firstOf, numbersFrom}
+use Rattle.semantics.specs.Inference.{derivable}
+use Rattle.semantics.specs.Value.{valueOf}
+use Rattle.semantics.specs.Roles.{Event}
+use Rattle.semantics.specs.Runs.{Run}
+use Rattle.semantics.specs.Scenario.{Scenario}
+use Rattle.semantics.specs.State.{Progress, State, eventsOf, readingIn}
+use Rattle.semantics.specs.Verdict.{isClaim, allTrusted, brokenEvent, brokenInRun}
+use Rattle.rows.specs.Rows.{Sized}
+use Rattle.cells.specs.Cells.{Shape}
+use Rattle.runs.specs.declared.Runs.{Runs}
+use Rattle.claims.specs.AtRun.{AtRun, claimAt, eventBreaks}
+use Rattle.claims.specs.Claims.{claimedAs}
+use Rattle.claims.specs.declared.ClaimKind.the-variants.{Secrecy}
+use Rattle.claims.specs.declared.Claimed.the-variants.{Broken, Nothing}
+use Rattle.claims.specs.laws.First.{first-found, first-none}
+use Rattle.claims.specs.laws.Event.{andThen-none}
+
+-- the bytes of a table, whatever the runs
+pub sized-table : {t : List ℕ} {n runs : ℕ} → Shape t n runs → Sized t n
+sized-table shape = record { table = shape .table; count = shape .count; size = shape .size; few = shape .few }
+
+module _ (file : List ℕ) (r : Runs) (marks : List Bool) (k j : ℕ) where
+  -- whether event j of a run is a broken claim
+  abbrev pub Answers : Bool → Type 0
+  Answers b = (sc : Scenario) (d : State) (run : Run) (p : Progress) → AtRun file r sc d marks k run p → true ≡ allTrusted (sc .rows) run → eventBreaks sc d k run p j ≡ provided b (claimAt k j)
+
+  -- none of its first j events is
+  abbrev pub NoneTo : Type 0
+  NoneTo = (sc : Scenario) (d : State) (run : Run) (p : Progress) → AtRun file r sc d marks k run p → true ≡ allTrusted (sc .rows) run → (i : ℕ) → i < j → eventBreaks sc d k run p i ≡ none
+
+-- one more that is none
+pub none-more : (file : List ℕ) (r : Runs) (marks : List Bool) (k j : ℕ) → NoneTo file r marks k j → Answers file r marks k j false → NoneTo file r marks k (j + 1)
+none-more file r marks k j before here sc d run p at trusts i l =
+    let m : i ≤ j = omega arith in
+    ⊎-elim (λ (e : i ≡ j). rw e (here sc d run p at trusts)) (before sc d run p at trusts i) (eq-or-lt-of-le m)
+
+-- a test of which a part fails
+no-part : (a b : Bool) → (a && false && b) ≡ false
+no-part true b = refl
+no-part false b = refl
+
+module _ {file : List ℕ} {r : Runs} {sc : Scenario} {d : State} {marks : List Bool} {k : ℕ} {run : Run} {p : Progress} (at : AtRun file r sc d marks k run p) where
+  -- the first broken claim of the run is the first of its events'
+  in-run : brokenInRun sc d k ≡ firstOf (map (eventBreaks sc d k run p) (numbersFrom 0 (p .done)))
+  unfolding brokenInRun
+  in-run = rw (at .isRun, at .isProgress) refl
+
+  -- an event of a run with an untrusted agent is none
+  untrusted-event : false ≡ allTrusted (sc .rows) run → (j : ℕ) (ev : Event) → brokenEvent sc d (suc k) run p j ev ≡ none
+  unfolding brokenEvent
+  untrusted-event e j ev =
+      andThen-none (valueOf (readingIn (sc .rows) (suc k) run (p .values)) (sc .rows) (ev .row)) (λ t. provided (isClaim (ev .kind) && allTrusted (sc .rows) run && derivable (d .known) t) (claimAt k j))
+      (λ t. rw (← e, no-part) refl)
+
+  -- a run with an untrusted agent breaks none
+  pub run-untrusted : false ≡ allTrusted (sc .rows) run → Nothing ≡ claimedAs (brokenInRun sc d k)
+  run-untrusted e = rw (in-run, first-none (eventBreaks sc d k run p) (p .done) (λ i l. andThen-none (getElem? (eventsOf sc run) i) (brokenEvent sc d (suc k) run p i) (untrusted-event e i))) refl
+
+  module _ (trusts : true ≡ allTrusted (sc .rows) run) (j : ℕ) (before : NoneTo file r marks k j) {done : ℕ} (made : done ≡ p .done) where
+    -- an event that is one, after none, is the first
+    pub run-broken : j < done → Answers file r marks k j true → Broken (record { run = k + 1; event = j; kind = Secrecy }) ≡ claimedAs (brokenInRun sc d k)
+    run-broken l here =
+        rw (in-run, first-found (eventBreaks sc d k run p) (p .done) j (omega arith) (before sc d run p at trusts) (here sc d run p at trusts), add-one k) refl
+
+    -- with all events passed there is none
+    pub run-none : done ≤ j → Nothing ≡ claimedAs (brokenInRun sc d k)
+    run-none l = rw (in-run, first-none (eventBreaks sc d k run p) (p .done) (λ i m. before sc d run p at trusts i (omega arith))) refl

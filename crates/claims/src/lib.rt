@@ -1,0 +1,105 @@
+// Which claim a state breaks: of the runs whose agents are all trusted, the first claim passed whose value is derivable.
+ghost use mathlib.Core.Path.{_≡_};
+ghost use mathlib.Core.Bool.{true};
+ghost use Prim.Native.Nat.{_<_};
+ghost use lib.ListN.{length};
+ghost use Rattle.semantics.specs.Basic.{provided};
+ghost use Rattle.semantics.specs.Runs.{Run};
+ghost use Rattle.semantics.specs.Scenario.{Scenario};
+ghost use Rattle.semantics.specs.Guarantee.{Guarantee};
+ghost use Rattle.semantics.specs.State as definitions;
+ghost use Rattle.semantics.specs.State.{Progress};
+ghost use Rattle.semantics.specs.Verdict.{allTrusted, broken, brokenInRun};
+ghost use Rattle.rows.specs.Rows.{rowsOf};
+ghost use Rattle.cells.specs.Cells.{cellCount};
+ghost use Rattle.runs.specs.Runs.{RunsAt};
+ghost use Rattle.state.specs.State.{Given, IsState};
+ghost use Rattle.claims.specs.AtRun.{AtRun, claimAt, eventBreaks};
+ghost use Rattle.claims.specs.Claims.{claimedAs};
+use cells::cell;
+use runs::Runs;
+use state::State;
+
+// The kind of a claim.
+pub enum ClaimKind {
+    Secrecy,
+}
+
+// A claim: its run, from 1, its event, from 0, and its kind.
+pub struct Claim {
+    pub run: usize,
+    pub event: usize,
+    pub kind: ClaimKind,
+}
+
+// The claim broken, or none.
+pub enum Claimed {
+    Broken(Claim),
+    Nothing,
+}
+
+// Whether event j of run k, both from 0, is a claim whose value is derivable. Past the last event there is none.
+fn claims_derivable(file: &[u8], r: Runs, marks: &[bool], k: usize, j: usize) -> bool
+    requires { ⌜ ((sc : Scenario) × (RunsAt (now file) sc r × (Guarantee sc × (k < r .count)))) × (length (now marks) ≡ cellCount) ⌝ }
+    ensures { λ b. ⌜ ((sc : Scenario) (d : definitions.State) (run : Run) (p : Progress) → AtRun (now (file .entry)) r sc d (now (marks .entry)) k run p → true ≡ allTrusted (sc .rows) run → eventBreaks sc d k run p j ≡ provided b (claimAt k j)) ⌝ }
+{
+    let events = r.events;
+    if events[k] <= j {
+        return false;
+    }
+    let e = runs::event_of(file, r, k, j);
+    if e.kind == 2 {
+        let c = cell(e.row, k + 1);
+        return marks[c];
+    }
+    false
+}
+
+// The first broken claim of run k, from 0, among the events that it has made.
+fn broken_in_run(
+    file: &[u8],
+    t: &[u8],
+    n: usize,
+    r: Runs,
+    marks: &[bool],
+    done: usize,
+    k: usize,
+) -> Claimed
+    requires { ⌜ ((sc : Scenario) × Given (now file) (now t) n r sc) × ((length (now marks) ≡ cellCount) × (k < r .count)) ⌝ }
+    ensures { λ c. ⌜ ((sc : Scenario) (d : definitions.State) (run : Run) (p : Progress) → AtRun (now (file .entry)) r sc d (now (marks .entry)) k run p → sc .rows ≡ rowsOf (now (t .entry)) → done ≡ p .done → c ≡ claimedAs (brokenInRun sc d k)) ⌝ }
+{
+    if runs::all_trusted(file, t, n, r, k) {
+        let mut j = 0;
+        while j < done {
+            let event = j;
+            j += 1;
+            if claims_derivable(file, r, marks, k, event) {
+                return Claimed::Broken(Claim {
+                    run: k + 1,
+                    event,
+                    kind: ClaimKind::Secrecy,
+                });
+            }
+        }
+    }
+    Claimed::Nothing
+}
+
+// The first claim that a state breaks: of the lowest run, and there the first of its events.
+pub fn broken(file: &[u8], t: &[u8], n: usize, r: Runs, s: State) -> Claimed
+    requires { ⌜ ((sc : Scenario) × (d : definitions.State) × Given (now file) (now t) n r sc × IsState sc d s) ⌝ }
+    ensures { λ c. ⌜ ((sc : Scenario) (d : definitions.State) → Given (now (file .entry)) (now (t .entry)) n r sc → IsState sc d s → c ≡ claimedAs (broken sc d)) ⌝ }
+{
+    let marks = s.marks;
+    let done = s.done;
+    let runs = r.count;
+    let mut k = 0;
+    while k < runs {
+        let found = broken_in_run(file, t, n, r, &marks, done[k], k);
+        if let Claimed::Broken(_) = found {
+            return found;
+        }
+        k += 1;
+    }
+    Claimed::Nothing
+}

@@ -1,0 +1,9 @@
+-- The laws of states and moves, with their proofs.
+pub mod Readings
+pub mod Learn
+pub mod Moves
+pub mod Performed
+pub mod Names
+pub mod Start
+pub mod Active
+pub mod Given

@@ -1,0 +1,297 @@
+// The state of a scenario by value, and its moves: how far each run has come, the names that its atoms have, and marks that are exact.
+ghost use mathlib.Core.Path.{_≡_};
+ghost use mathlib.Core.List.{List, []};
+ghost use Prim.Native.Nat.{ℕ, suc, _+_, _<_, _≤_};
+ghost use lib.ListN.{length, getD, set};
+ghost use Rattle.semantics.specs.State as definitions;
+ghost use Rattle.semantics.specs.State.{Value, Active};
+ghost use Rattle.semantics.specs.Scenario.{Scenario};
+ghost use Rattle.semantics.specs.Guarantee.{Guarantee};
+ghost use Rattle.rows.specs.Rows.{rowsOf};
+ghost use Rattle.cells.specs.Cells.{Shape, cellCount};
+ghost use Rattle.runs.specs.Runs.{RunsAt};
+ghost use Rattle.role_level.specs.RoleLevel.{ListedBelow};
+ghost use Rattle.state.specs.Start.{AreAgents, FirstName, Entered, StartMarks, Agents};
+ghost use Rattle.state.specs.State.{Given, IsState, LearnsCell, Due, NextMove, Sets, Performed};
+use cells::Cells;
+use cells::cell;
+use runs::RunEvent;
+use runs::Runs;
+
+// How far each run has come, what its atoms stand for, the classes of values, and the marks, taken apart.
+pub struct State {
+    pub done: [usize; 4],
+    pub names: [u16; 480],
+    pub classes: [u16; 480],
+    pub marks: [bool; 480],
+}
+
+// What a move answers: whether it is allowed, and the state after it.
+pub struct Moved {
+    pub allowed: bool,
+    pub state: State,
+}
+
+// The marks when the value of row r in run u is known too.
+fn learn(
+    marks: [bool; 480],
+    t: &[u8],
+    n: usize,
+    runs: usize,
+    classes: &[u16],
+    r: usize,
+    u: usize,
+) -> [bool; 480]
+    requires { ⌜ Shape (now t) n runs × ((length (now classes) ≡ cellCount) × ((r < n) × (u ≤ runs))) ⌝ }
+    ensures { λ more. ⌜ LearnsCell (rowsOf (now (t .entry))) runs (now (classes .entry)) r u marks more ⌝ }
+{
+    let c = cell(r, u);
+    if marks[c] {
+        return marks;
+    }
+    let mut more = marks;
+    more[c] = true;
+    knowledge::settle(more, t, n, runs, classes)
+}
+
+// How far each run has come once run k, from 0, has made one more event.
+fn advance(done: [usize; 4], k: usize) -> [usize; 4]
+    requires { ⌜ (k < 4) × (getD done k 0 ≤ 8) ⌝ }
+    ensures { λ r. ⌜ r ≡ set done k (getD done k 0 + 1) ⌝ }
+{
+    let mut more = done;
+    more[k] += 1;
+    more
+}
+
+// The state after a send of run k: sender, receiver and term are known. A term without a value is not sent.
+fn sent(s: State, t: &[u8], n: usize, runs: usize, k: usize, e: RunEvent) -> Moved
+    requires { ⌜ Shape (now t) n runs × (Due n runs k (e .own) (e .peer) (e .row) × (getD (s .done) k 0 ≤ 8)) ⌝ }
+    ensures { λ moved. ⌜ ((sc : Scenario) (d : definitions.State) (a : Active) → NextMove (now (t .entry)) runs k e sc d s a → e .kind ≡ 0 → Performed sc d a [] moved) ⌝ }
+{
+    let c = cell(e.row, k + 1);
+    let names = s.names;
+    let classes = s.classes;
+    let marks = s.marks;
+    let before = s.done;
+    if classes[c] == Cells::ABSENT {
+        return Moved {
+            allowed: false,
+            state: s,
+        };
+    }
+    let term = learn(marks, t, n, runs, &classes, e.row, k + 1);
+    let receiver = learn(term, t, n, runs, &classes, e.peer, 0);
+    let sender = learn(receiver, t, n, runs, &classes, e.own, 0);
+    let done = advance(before, k);
+    Moved {
+        allowed: true,
+        state: State {
+            done,
+            names,
+            classes,
+            marks: sender,
+        },
+    }
+}
+
+// The state after a claim of run k: nothing more is known.
+fn claimed(s: State, k: usize) -> Moved
+    requires { ⌜ (k < 4) × (getD (s .done) k 0 ≤ 8) ⌝ }
+    ensures { λ moved. ⌜ ((t : List ℕ) (runs : ℕ) (e : RunEvent) (sc : Scenario) (d : definitions.State) (a : Active) → NextMove t runs k e sc d s a → e .kind ≡ 2 → Performed sc d a [] moved) ⌝ }
+{
+    let names = s.names;
+    let classes = s.classes;
+    let marks = s.marks;
+    let before = s.done;
+    let done = advance(before, k);
+    Moved {
+        allowed: true,
+        state: State {
+            done,
+            names,
+            classes,
+            marks,
+        },
+    }
+}
+
+// The state after a read of run k whose new values stand in `names`, if sender, receiver and pattern are then derivable.
+fn was_read(
+    s: State,
+    names: [u16; 480],
+    t: &[u8],
+    n: usize,
+    runs: usize,
+    k: usize,
+    e: RunEvent,
+) -> Moved
+    requires { ⌜ Shape (now t) n runs × (Due n runs k (e .own) (e .peer) (e .row) × (getD (s .done) k 0 ≤ 8)) ⌝ }
+    ensures { λ moved. ⌜ ((sc : Scenario) (d : definitions.State) (a : Active) (vs : List Value) → NextMove (now (t .entry)) runs k e sc d s a → Sets sc d a vs names → e .kind ≡ 1 → Performed sc d a vs moved) ⌝ }
+{
+    let start = s.marks;
+    let before = s.done;
+    let mut classes = s.classes;
+    classes::refill(&mut classes, t, n, runs, &names, k + 1);
+    let marks = knowledge::settle(start, t, n, runs, &classes);
+    let own = e.own;
+    let peer = e.peer;
+    let c = cell(e.row, k + 1);
+    let done = advance(before, k);
+    let after = State {
+        done,
+        names,
+        classes,
+        marks,
+    };
+    if marks[own] {
+        if marks[peer] {
+            return Moved {
+                allowed: marks[c],
+                state: after,
+            };
+        }
+        return Moved {
+            allowed: false,
+            state: after,
+        };
+    }
+    Moved {
+        allowed: false,
+        state: after,
+    }
+}
+
+// The state after the next event of run k, if it is allowed. New values of a read stand in `names`.
+pub fn perform(
+    s: State,
+    names: [u16; 480],
+    t: &[u8],
+    n: usize,
+    runs: usize,
+    k: usize,
+    e: RunEvent,
+) -> Moved
+    requires { ⌜ Shape (now t) n runs × (Due n runs k (e .own) (e .peer) (e .row) × (getD (s .done) k 0 ≤ 8)) ⌝ }
+    ensures { λ moved. ⌜ ((sc : Scenario) (d : definitions.State) (a : Active) (vs : List Value) → NextMove (now (t .entry)) runs k e sc d s a → Sets sc d a vs names → ((e .kind ≡ 1 → ⊥) → vs ≡ []) → Performed sc d a vs moved) ⌝ }
+{
+    if e.kind == 1 {
+        return was_read(s, names, t, n, runs, k, e);
+    }
+    if e.kind == 0 {
+        return sent(s, t, n, runs, k, e);
+    }
+    claimed(s, k)
+}
+
+// The name of row r in run u, for the agents of that run and before any variable is set.
+fn name_of(t: &[u8], n: usize, r: usize, u: usize, agents: &[u8]) -> u16
+    requires { ⌜ Shape (now t) n 0 × ((r < n) × ((u ≤ 4) × AreAgents (rowsOf (now t)) (now agents))) ⌝ }
+    ensures { λ name. ⌜ FirstName (rowsOf (now (t .entry))) u (now (agents .entry)) r name ⌝ }
+{
+    let kind = rows::kind_of(t, r);
+    if kind < 5 {
+        return r as u16;
+    }
+    if u == 0 {
+        return Cells::ABSENT;
+    }
+    if kind == 5 {
+        let i = rows::left_of(t, r);
+        if i < agents.len() {
+            return rows::wide(agents[i]) as u16;
+        }
+        return Cells::ABSENT;
+    }
+    if kind == 7 {
+        return cell(r, u) as u16;
+    }
+    Cells::ABSENT
+}
+
+// The names with those of run u filled in.
+fn entered(names: [u16; 480], t: &[u8], n: usize, u: usize, agents: &[u8]) -> [u16; 480]
+    requires { ⌜ Shape (now t) n 0 × ((u ≤ 4) × AreAgents (rowsOf (now t)) (now agents)) ⌝ }
+    ensures { λ more. ⌜ Entered (rowsOf (now (t .entry))) u (now (agents .entry)) names more ⌝ }
+{
+    let mut more = names;
+    let mut r = 0;
+    while r < n {
+        let name = name_of(t, n, r, u, agents);
+        more[cell(r, u)] = name;
+        r += 1;
+    }
+    more
+}
+
+// The marks of the intruder constants.
+fn intruder_marks(t: &[u8], n: usize) -> [bool; 480]
+    requires { ⌜ Shape (now t) n 0 ⌝ }
+    ensures { λ marks. ⌜ StartMarks (now (t .entry)) n [] marks ⌝ }
+{
+    let mut marks = [false; 480];
+    let mut r = 0;
+    while r < n {
+        if rows::kind_of(t, r) == 4 {
+            marks[r] = true;
+        }
+        r += 1;
+    }
+    marks
+}
+
+// The marks of the intruder constants and of the listed rows.
+fn start_marks(t: &[u8], n: usize, list: &[u8]) -> [bool; 480]
+    requires { ⌜ Shape (now t) n 0 × ListedBelow n (now list) ⌝ }
+    ensures { λ marks. ⌜ StartMarks (now (t .entry)) n (now (list .entry)) marks ⌝ }
+{
+    let mut marks = intruder_marks(t, n);
+    let mut i = 0;
+    while i < list.len() {
+        marks[rows::wide(list[i])] = true;
+        i += 1;
+    }
+    marks
+}
+
+// The agents of run u as the file has them, and none for run 0.
+fn agents_of(file: &[u8], r: Runs, u: usize) -> &[u8]
+    requires { ⌜ ((sc : Scenario) × (RunsAt (now file) sc r × ((u ≤ r .count) × (length (now file) ≤ 4096)))) ⌝ }
+    ensures { λ agents. ⌜ ((sc : Scenario) → RunsAt (now (file .entry)) sc r → Guarantee sc → Agents sc u (now agents)) ⌝ }
+{
+    if u == 0 {
+        return &file[0..0];
+    }
+    let k = u - 1;
+    let starts = r.starts;
+    let first = starts[k] + 1;
+    let end = first + r.roles;
+    &file[first..end]
+}
+
+impl State {
+    // The state before any move: what is known is the file's list and all intruder constants.
+    pub fn initial(file: &[u8], t: &[u8], n: usize, r: Runs, list: &[u8]) -> State
+        requires { ⌜ ((sc : Scenario) × (Given (now file) (now t) n r sc × (now list ≡ sc .knowledge))) ⌝ }
+        ensures { λ s. ⌜ ((sc : Scenario) → Given (now (file .entry)) (now (t .entry)) n r sc → now (list .entry) ≡ sc .knowledge → IsState sc (definitions.initial sc) s) ⌝ }
+    {
+        let runs = r.count;
+        let mut names = [480u16; 480];
+        let mut classes = [480u16; 480];
+        let mut u = 0;
+        while u <= runs {
+            let agents = agents_of(file, r, u);
+            let more = entered(names, t, n, u, agents);
+            names = more;
+            classes::refill(&mut classes, t, n, runs, &names, u);
+            u += 1;
+        }
+        let marks = knowledge::settle(start_marks(t, n, list), t, n, runs, &classes);
+        State {
+            done: [0; 4],
+            names,
+            classes,
+            marks,
+        }
+    }
+}
