@@ -35,6 +35,11 @@ uint64_t tejorva_derive(const uint8_t *table, size_t table_len, const uint8_t *l
 /* Whether a scenario file is accepted: TEJORVA_ACCEPTED, or TEJORVA_REFUSED with 1 to 9 and a place in the file. */
 uint64_t tejorva_open(const uint8_t *file, size_t file_len);
 
+/* Which claim a trace breaks, step by step from the start of a scenario file: TEJORVA_CLAIM, TEJORVA_NO_CLAIM, or
+ * TEJORVA_REFUSED with 1 to 9 and a place in the file, or 12 and the place in the trace of the first step that is cut
+ * short or not allowed. */
+uint64_t tejorva_replay(const uint8_t *file, size_t file_len, const uint8_t *trace, size_t trace_len);
+
 /* The word of an answer. */
 static inline enum tejorva_word tejorva_word(uint64_t answer) { return (enum tejorva_word)(answer >> 60); }
 

@@ -1,16 +1,25 @@
 -- One 64-bit number for each answer (docs/C-INTERFACE.md): the word in the highest 4 bits, what goes with it below. Assumes nothing.
 use Prim.Native.Nat.{ℕ, _+_, _*_, min}
-use mathlib.Core.Path.{_≡_, refl}
+use mathlib.Core.Path.{_≡_, refl, ap}
 use mathlib.Core.Bool.{Bool, true, false}
 use mathlib.Core.List.{List}
+use mathlib.Core.Option.{Option, none, some}
 use Rattle.semantics.specs.Answer.{Answer, refused, accepted}
 use Rattle.semantics.specs.Scenario.{Scenario}
+use Rattle.semantics.specs.Verdict.{Claim, ClaimKind, secrecy}
+use Rattle.claims.specs.Claims.{kindAs, claimAs}
+use Rattle.claims.specs.declared.Claim.{Claim as CodeClaim}
+use Rattle.claims.specs.declared.ClaimKind.{ClaimKind as CodeKind}
+use Rattle.claims.specs.declared.ClaimKind.the-variants.{Secrecy}
 use Rattle.derive.specs.Answers.{derivedAs}
 use Rattle.derive.specs.declared.Derived.{Derived}
 use Rattle.derive.specs.declared.Derived.the-variants.{Refused, Derivable, NotDerivable}
 use Rattle.scenario.specs.Opened.{openedAs}
 use Rattle.scenario.specs.declared.Opened.{Opened}
 use Rattle.scenario.specs.declared.Opened.the-variants as opening
+use Rattle.replay.specs.Replay.{replayedAs}
+use Rattle.replay.specs.declared.Replayed.{Replayed}
+use Rattle.replay.specs.declared.Replayed.the-variants as replaying
 
 -- the words
 abbrev pub refusedWord : ℕ
@@ -24,6 +33,12 @@ derivableWord = 5
 
 abbrev pub notDerivableWord : ℕ
 notDerivableWord = 6
+
+abbrev pub claimWord : ℕ
+claimWord = 7
+
+abbrev pub noClaimWord : ℕ
+noClaimWord = 8
 
 -- a word and nothing with it
 abbrev pub wordAlone : ℕ → ℕ
@@ -65,3 +80,42 @@ packedOpening (opening.Accepted layout) = wordAlone acceptedWord
 pub packed-opened : (file : List ℕ) (a : Answer Scenario) → packedOpening (openedAs file a) ≡ packedOpened a
 packed-opened file (refused r) = refl
 packed-opened file (accepted sc) = refl
+
+-- A claim: run, event and kind in 4 bits each, below the word. A run is at most 4 and an event at most 7, so that no bit is lost.
+abbrev pub packedClaim : ℕ → ℕ → ℕ → ℕ
+packedClaim run event kind = wordAlone claimWord + kind * 1099511627776 + min event 15 * 68719476736 + min run 15 * 4294967296
+
+-- the kind of a claim is the kind of its event
+abbrev pub packedKind : ClaimKind → ℕ
+packedKind secrecy = 2
+
+-- Replay's answer
+abbrev pub packedReplayed : Answer (Option Claim) → ℕ
+packedReplayed (refused r) = packedRefusal (r .number) (r .place)
+packedReplayed (accepted none) = wordAlone noClaimWord
+packedReplayed (accepted (some c)) = packedClaim (c .run) (c .event) (packedKind (c .kind))
+
+-- the same of the code's enum
+abbrev pub packedCodeKind : CodeKind → ℕ
+packedCodeKind Secrecy = 2
+
+abbrev pub packedCodeClaim : CodeClaim → ℕ
+packedCodeClaim c = packedClaim (c .run) (c .event) (packedCodeKind (c .kind))
+
+abbrev pub packedReplaying : Replayed → ℕ
+packedReplaying (replaying.Refused number place) = packedRefusal number place
+packedReplaying replaying.NoClaim = wordAlone noClaimWord
+packedReplaying (replaying.Broken c) = packedCodeClaim c
+
+-- there is one kind
+pub kind-two : (k : CodeKind) → packedCodeKind k ≡ 2
+kind-two Secrecy = refl
+
+-- the two agree
+packed-kind : (k : ClaimKind) → packedCodeKind (kindAs k) ≡ packedKind k
+packed-kind secrecy = refl
+
+pub packed-replayed : (a : Answer (Option Claim)) → packedReplaying (replayedAs a) ≡ packedReplayed a
+packed-replayed (refused r) = refl
+packed-replayed (accepted none) = refl
+packed-replayed (accepted (some c)) = ap (packedClaim (c .run) (c .event)) (packed-kind (c .kind))

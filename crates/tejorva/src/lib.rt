@@ -3,8 +3,12 @@ ghost use mathlib.Core.Path.{_≡_};
 ghost use Prim.Native.Nat.{min};
 ghost use Rattle.semantics.specs.Derive.{derived};
 ghost use Rattle.semantics.specs.Scenario.{opened};
-ghost use Rattle.tejorva.specs.Packing.{packedRefusal, packedOf, packedDerived, packedOpening, packedOpened};
+ghost use Rattle.semantics.specs.Replay.{replayed};
+ghost use Rattle.tejorva.specs.Packing.{packedRefusal, packedOf, packedDerived, packedOpening, packedOpened, packedCodeKind, packedCodeClaim, packedReplaying, packedReplayed};
+use claims::Claim;
+use claims::ClaimKind;
 use derive::Derived;
+use replay::Replayed;
 use scenario::Opened;
 
 // The smaller of two numbers.
@@ -42,6 +46,37 @@ fn packed_opening(answer: Opened) -> u64
     }
 }
 
+// The number of a claim's kind.
+fn kind_number(kind: ClaimKind) -> u64
+    ensures { λ r. ⌜ r ≡ packedCodeKind kind ⌝ }
+{
+    match kind {
+        ClaimKind::Secrecy => 2,
+    }
+}
+
+// A claim: run, event and kind.
+fn packed_claim(claim: Claim) -> u64
+    ensures { λ r. ⌜ r ≡ packedCodeClaim claim ⌝ }
+{
+    let kind = claim.kind;
+    7 * 1152921504606846976
+        + kind_number(kind) * 1099511627776
+        + least(claim.event as u64, 15) * 68719476736
+        + least(claim.run as u64, 15) * 4294967296
+}
+
+// Replay's answer as one number.
+fn packed_replaying(answer: Replayed) -> u64
+    ensures { λ r. ⌜ r ≡ packedReplaying answer ⌝ }
+{
+    match answer {
+        Replayed::Refused { number, place } => refusal(number, place),
+        Replayed::Broken(claim) => packed_claim(claim),
+        Replayed::NoClaim => 8 * 1152921504606846976,
+    }
+}
+
 // Whether row `target` of a table is derivable from the listed rows.
 #[no_mangle]
 pub extern "C" fn tejorva_derive(table: &[u8], list: &[u8], target: u64) -> u64
@@ -56,4 +91,12 @@ pub extern "C" fn tejorva_open(file: &[u8]) -> u64
     ensures { λ r. ⌜ r ≡ packedOpened (opened (now (file .entry))) ⌝ }
 {
     packed_opening(scenario::open(file))
+}
+
+// Which claim a trace breaks, step by step through a scenario file.
+#[no_mangle]
+pub extern "C" fn tejorva_replay(file: &[u8], trace: &[u8]) -> u64
+    ensures { λ r. ⌜ r ≡ packedReplayed (replayed (now (file .entry)) (now (trace .entry))) ⌝ }
+{
+    packed_replaying(replay::replay(file, trace))
 }
