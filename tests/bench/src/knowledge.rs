@@ -1,7 +1,7 @@
 //! The same analysis in Rust: the check of a table, classes of cells, marks settled to a fixed point.
 // Functions are marked inline so that each module that calls them has them at hand, made for its number of runs.
 
-const ABSENT: u16 = 480;
+pub const ABSENT: u16 = 480;
 
 pub fn derive(table: &[u8], list: &[u8], target: u64) -> u64 {
     let n = match check(table, 0) {
@@ -82,7 +82,7 @@ fn fits(t: &[u8], i: usize) -> bool {
 }
 
 #[inline]
-fn cell(r: usize, u: usize) -> usize {
+pub fn cell(r: usize, u: usize) -> usize {
     u * 96 + r
 }
 

@@ -2,10 +2,12 @@
 mod derive;
 mod knowledge;
 mod open;
+mod replay;
 
 fn main() {
     derive::run();
     open::run();
+    replay::run();
 }
 
 /// The least time of one call in nanoseconds, over rounds that take turns with the other side.

@@ -11,7 +11,7 @@ const ROLE_NAME: u8 = 1;
 const VARIABLE: u8 = 2;
 const LOCAL_CONSTANT: u8 = 4;
 
-type Refusal = (u64, usize);
+pub type Refusal = (u64, usize);
 
 /// The packed answer: accepted, or the first refusal and its place.
 fn open(file: &[u8]) -> u64 {
@@ -21,7 +21,7 @@ fn open(file: &[u8]) -> u64 {
     }
 }
 
-fn judge(file: &[u8]) -> Result<(), Refusal> {
+pub fn judge(file: &[u8]) -> Result<(), Refusal> {
     if file.first() != Some(&1) {
         return Err((1, 0));
     }
@@ -43,13 +43,13 @@ fn judge(file: &[u8]) -> Result<(), Refusal> {
 
 /// A part of the file and the place of its first byte.
 #[derive(Clone, Copy)]
-struct Block<'a> {
-    place: usize,
-    bytes: &'a [u8],
+pub struct Block<'a> {
+    pub place: usize,
+    pub bytes: &'a [u8],
 }
 
 /// The four blocks, if they fill the file exactly.
-fn blocks(file: &[u8]) -> Option<[Block<'_>; 4]> {
+pub fn blocks(file: &[u8]) -> Option<[Block<'_>; 4]> {
     let mut blocks = [Block { place: 0, bytes: &[] }; 4];
     let mut place = 5;
     for block in &mut blocks {
@@ -105,9 +105,9 @@ fn beneath(t: &[u8]) -> [u8; 96] {
 }
 
 #[derive(Clone, Copy)]
-struct Role<'a> {
-    known: &'a [u8],
-    events: &'a [u8],
+pub struct Role<'a> {
+    pub known: &'a [u8],
+    pub events: &'a [u8],
 }
 
 /// The role at the front, if its record is complete.
@@ -118,7 +118,7 @@ fn role(bytes: &[u8]) -> Option<Role<'_>> {
 }
 
 /// Every record that begins in the block, with its place. Counts alone tell where; an incomplete one takes all that is left.
-fn records(block: Block<'_>) -> impl Iterator<Item = (usize, Option<Role<'_>>)> {
+pub fn records(block: Block<'_>) -> impl Iterator<Item = (usize, Option<Role<'_>>)> {
     let mut at = 0;
     std::iter::from_fn(move || {
         let rest = &block.bytes[at..];

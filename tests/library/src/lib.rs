@@ -13,6 +13,7 @@ mod ffi {
             target: u64,
         ) -> u64;
         pub fn tejorva_open(file: *const u8, file_len: usize) -> u64;
+        pub fn tejorva_replay(file: *const u8, file_len: usize, trace: *const u8, trace_len: usize) -> u64;
     }
 }
 
@@ -32,4 +33,9 @@ pub fn derive(table: &[u8], list: &[u8], target: u64) -> u64 {
 /// Whether a scenario file is accepted, as the packed number.
 pub fn open(file: &[u8]) -> u64 {
     unsafe { ffi::tejorva_open(file.as_ptr(), file.len()) }
+}
+
+/// Which claim a trace breaks, step by step through a scenario file, as the packed number.
+pub fn replay(file: &[u8], trace: &[u8]) -> u64 {
+    unsafe { ffi::tejorva_replay(file.as_ptr(), file.len(), trace.as_ptr(), trace.len()) }
 }
