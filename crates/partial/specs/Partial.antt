@@ -1,0 +1,21 @@
+-- What the test of a partial choice of a read's values promises. Assumes nothing.
+use Prim.Native.Nat.{ℕ}
+use mathlib.Core.Path.{_≡_}
+use mathlib.Core.Bool.{Bool, false}
+use mathlib.Core.List.{List, _++_}
+use mathlib.Core.Option.{none}
+use Rattle.semantics.specs.Term.{Atom}
+use Rattle.semantics.specs.Scenario.{Scenario}
+use Rattle.semantics.specs.State as definitions
+use Rattle.semantics.specs.State.{Value, Active}
+use Rattle.semantics.specs.Moves.{performed}
+use Rattle.runs.specs.declared.RunEvent.{RunEvent}
+use Rattle.state.specs.declared.State.{State}
+use Rattle.state.specs.State.{NextMove}
+use Rattle.values.specs.Values.{Setting}
+
+-- Where the test says no, no completion of the choice is allowed.
+abbrev pub Tested : List ℕ → ℕ → ℕ → RunEvent → State → List ℕ → Bool → Type 0
+Tested t runs k e s names answer =
+    (sc : Scenario) (d : definitions.State) (a : Active) (from : ℕ) (xs : List Atom) (vs ws : List Value) → NextMove t runs k e sc d s a → e .kind ≡ 1
+    → Setting sc d a (s .names) from xs vs names → answer ≡ false → performed sc d a (vs ++ ws) ≡ none

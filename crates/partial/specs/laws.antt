@@ -1,0 +1,1 @@
+-- The laws of partial choices, with their proofs.
