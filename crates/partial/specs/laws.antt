@@ -1,1 +1,2 @@
 -- The laws of partial choices, with their proofs.
+pub mod Refused

@@ -1,6 +1,7 @@
 -- The laws of states and moves, with their proofs.
 pub mod Readings
 pub mod Learn
+pub mod Grown
 pub mod Moves
 pub mod Performed
 pub mod Names

@@ -30,7 +30,7 @@ use Rattle.semantics.specs.laws.Inference.{derivable-exact}
 use Rattle.semantics.specs.laws.Moves.{ActiveIn, active-in}
 use Rattle.cells.specs.Cells.{cellOf, Within, Readings, cellValue, Canonical}
 use Rattle.classes.specs.Classes.{Classes, NamesRight}
-use Rattle.knowledge.specs.Marks.{Marked, Exact}
+use Rattle.knowledge.specs.Marks.{Marked, Derivable, Exact}
 use Rattle.runs.specs.Runs.{EventRead}
 use Rattle.state.specs.declared.State.{State as CodeState}
 use Rattle.state.specs.Readings.{SetsOf, setsIn, setsOf, withSets, readings}
@@ -166,6 +166,19 @@ module _ (sc : Scenario) (good : Guarantee sc) (d : State) (u : ℕ) (a : Active
     unfolding knownAfter
     unsent k e = performed-none sc d a vs (known-after (d .known) k (message-absent e))
 
+    -- a read is not allowed unless the values of three cells derive
+    pub read-underived : a .event .kind ≡ read
+        → (Derivable (sc .rows) newReadings (d .known) own 0 → Derivable (sc .rows) newReadings (d .known) peer 0 → Derivable (sc .rows) newReadings (d .known) row u → ⊥) → performed sc d a vs ≡ none
+    unfolding knownAfter
+    read-underived k n = go (cellValue newReadings (sc .rows) row u) refl
+      where
+        go : (o : Option Term) → cellValue newReadings (sc .rows) row u ≡ o → performed sc d a vs ≡ none
+        go none e = performed-none sc d a vs (known-after (d .known) k (message-absent e))
+        go (some t) e =
+            let w = message-cells e in
+            performed-none sc d a vs (known-after (d .known) k (w .2) ∙ unread-after (d .known) _ (λ p.
+            n (w .0, w .3, derivable-exact (d .known) (w .0) .0 (p .0)) (w .1, w .4, derivable-exact (d .known) (w .1) .0 (p .1)) (t, e, derivable-exact (d .known) t .0 (p .2))))
+
     module _ (marks : List Bool) (exact : Exact (sc .rows) (length (sc .runs)) newReadings (d .known) marks) (k : a .event .kind ≡ read)
         (ownWithin : Within (sc .rows) (length (sc .runs)) own 0) (peerWithin : Within (sc .rows) (length (sc .runs)) peer 0) (rowWithin : Within (sc .rows) (length (sc .runs)) row u) where
       derives : {r w : ℕ} → Within (sc .rows) (length (sc .runs)) r w → {t : Term} → cellValue newReadings (sc .rows) r w ≡ some t → Marked marks r w ↔ Derives (d .known) t
@@ -184,16 +197,7 @@ module _ (sc : Scenario) (good : Guarantee sc) (d : State) (u : ℕ) (a : Active
 
       -- and otherwise not
       pub read-refused : (Marked marks own 0 → Marked marks peer 0 → Marked marks row u → ⊥) → performed sc d a vs ≡ none
-      unfolding knownAfter
-      read-refused n = go (cellValue newReadings (sc .rows) row u) refl
-        where
-          go : (o : Option Term) → cellValue newReadings (sc .rows) row u ≡ o → performed sc d a vs ≡ none
-          go none e = performed-none sc d a vs (known-after (d .known) k (message-absent e))
-          go (some t) e =
-              let w = message-cells e in
-              performed-none sc d a vs (known-after (d .known) k (w .2) ∙ unread-after (d .known) _ (λ p.
-              n (derives ownWithin (w .3) .1 (derivable-exact (d .known) (w .0) .0 (p .0))) (derives peerWithin (w .4) .1 (derivable-exact (d .known) (w .1) .0 (p .1)))
-              (derives rowWithin e .1 (derivable-exact (d .known) t .0 (p .2)))))
+      read-refused n = read-underived k (λ o p r. n (exact own 0 ownWithin .1 o) (exact peer 0 peerWithin .1 p) (exact row u rowWithin .1 r))
 
   -- a claim is always allowed
   pub claimed : a .event .kind ≡ claim → performed sc d a vs ≡ some (advanced sc d a vs (d .known))

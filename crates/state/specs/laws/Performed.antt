@@ -9,8 +9,6 @@ use mathlib.Core.List.{List, [], _∷_, _++_, append-nil}
 use mathlib.Core.Option.{Option, none, some, Option·some-injective, Option·none-ne-some}
 use lib.ListN.{length, getD, getElem?, set}
 use Rattle.semantics.specs.Term.{Atom, Term}
-use Rattle.semantics.specs.Inference.{member}
-use Rattle.semantics.specs.Table.{Row}
 use Rattle.semantics.specs.Roles.{EventKind, send, read, claim, eventKinds}
 use Rattle.semantics.specs.Scenario.{Scenario}
 use Rattle.semantics.specs.State.{Value, State, Active, active, paired}
@@ -20,24 +18,24 @@ use Rattle.semantics.specs.laws.Moves.{ActiveIn, active-in}
 use Rattle.rows.specs.Rows.{rowsOf}
 use Rattle.cells.specs.Cells.{cellOf, cellCount, absent, Shape, Within, Readings, cellValue}
 use Rattle.cells.specs.laws.Cells.{getD-any}
-use Rattle.classes.specs.Classes.{Classes, NamesRight, Grows, Refilled}
+use Rattle.classes.specs.Classes.{Grows, Refilled}
 use Rattle.classes.specs.laws.Classes.{classes-none, classes-there}
-use Rattle.classes.specs.laws.Values.{cell-kept}
-use Rattle.knowledge.specs.Marks.{Marked, Covers, Exact, Settled}
+use Rattle.knowledge.specs.Marks.{Marked, Settled}
 use Rattle.runs.specs.declared.RunEvent.{RunEvent}
 use Rattle.runs.specs.Runs.{EventRead}
 use Rattle.state.specs.declared.State.{State as CodeState}
 use Rattle.state.specs.declared.Moved.{Moved}
 use Rattle.state.specs.Readings.{SetsOf, setsIn, setsOf, withSets, readings}
 use Rattle.state.specs.State.{Arrays, Due, LearnsCell, IsState, NextMove, Sets, Performed, isAllowed, notAllowed}
-use Rattle.state.specs.laws.Readings.{with-itself, readings-grow}
+use Rattle.state.specs.laws.Readings.{with-itself, readings-grow-from}
+use Rattle.state.specs.laws.Grown.{grown-arrays}
 use Rattle.state.specs.laws.Moves.{newReadings, mine, paired-none, sent-known, unsent, claimed, read-allowed, read-refused, advanced-state}
 
 -- the kinds of events by their bytes
 kind-send : (kind : EventKind) → getElem? eventKinds 0 ≡ some kind → kind ≡ send
 kind-send kind e = sym (Option·some-injective send kind e)
 
-kind-read : (kind : EventKind) → getElem? eventKinds 1 ≡ some kind → kind ≡ read
+pub kind-read : (kind : EventKind) → getElem? eventKinds 1 ≡ some kind → kind ≡ read
 kind-read kind e = sym (Option·some-injective read kind e)
 
 kind-claim : (kind : EventKind) → getElem? eventKinds 2 ≡ some kind → kind ≡ claim
@@ -47,11 +45,17 @@ module _ {t : List ℕ} {runs k : ℕ} {e : RunEvent} {sc : Scenario} {d : State
   is : ActiveIn sc d (suc k) a
   is = active-in sc d (suc k) (next .isActive)
 
-  index : a .index ≡ k
+  pub index : a .index ≡ k
   index = omega (arith, is .numbered)
 
   abbrev old : Readings
   old = readings sc (setsOf (d .progress))
+
+  -- with more set in the run, the readings grow
+  pub grows : (more : List (Atom × Value)) → Grows (k + 1) old (readings sc (withSets (a .index) (a .progress .values ++ more) (setsOf (d .progress))))
+  grows more =
+      subst (λ (w : ℕ). Grows w old (readings sc (withSets (a .index) (a .progress .values ++ more) (setsOf (d .progress))))) (ap suc index ∙ sym (add-one k))
+      (readings-grow-from sc (setsOf (d .progress)) (a .index) (a .progress .values) more (sym (ap setsIn (is .ofProgress))))
 
   -- with no new values the readings stay
   same-sets : setAfter sc a [] ≡ setsOf (d .progress) (a .index)
@@ -89,10 +93,10 @@ module _ {t : List ℕ} {runs k : ℕ} {e : RunEvent} {sc : Scenario} {d : State
     row-within : Within (sc .rows) (length (sc .runs)) (e .row) (suc k)
     row-within = record { row = omega (arith, rows-n, due .term); run = omega (arith, next .count, due .isRun) }
 
-    own-within : Within (sc .rows) (length (sc .runs)) (e .own) 0
+    pub own-within : Within (sc .rows) (length (sc .runs)) (e .own) 0
     own-within = record { row = omega (arith, rows-n, due .agent); run = omega arith }
 
-    peer-within : Within (sc .rows) (length (sc .runs)) (e .peer) 0
+    pub peer-within : Within (sc .rows) (length (sc .runs)) (e .peer) 0
     peer-within = record { row = omega (arith, rows-n, due .other); run = omega arith }
 
     learnt : (classes : List ℕ) (r u : ℕ) (marks more : List Bool) → LearnsCell (rowsOf t) runs classes r u marks more → LearnsCell (sc .rows) (length (sc .runs)) classes r u marks more
@@ -142,47 +146,22 @@ module _ {t : List ℕ} {runs k : ℕ} {e : RunEvent} {sc : Scenario} {d : State
       is-read : a .event .kind ≡ read
       is-read = kind-read _ (rw kind at (next .isEvent .kind))
 
-      grows : Grows (k + 1) old new
+      -- the arrays are right for the new readings
+      new-arrays : Arrays (sc .rows) (length (sc .runs)) new (d .known) names classes marks
       unfolding setAfter
-      grows =
-          let g = readings-grow sc (setsOf (d .progress)) (a .index) (paired (toSet sc a) vs) in
-          let h : setsOf (d .progress) (a .index) ≡ a .progress .values = ap setsIn (is .ofProgress) in
-          let g′ = subst (λ (l : List (Atom × Value)). Grows (suc (a .index)) old (readings sc (withSets (a .index) (l ++ paired (toSet sc a) vs) (setsOf (d .progress))))) h g in
-          subst (λ (w : ℕ). Grows w old new) (ap suc index ∙ sym (add-one k)) g′
-
-      new-classes : Classes (sc .rows) (length (sc .runs)) (cellValue new (sc .rows)) classes
-      new-classes =
-          let r : Refilled (sc .rows) (length (sc .runs)) (k + 1) names (s .classes) classes = rw (next .rows, ← next .count) refilled in
-          r old new grows (sets .named) (next .isState .arrays .classed)
-
-      kept : (r w : ℕ) {v : Term} → cellValue old (sc .rows) r w ≡ some v → cellValue new (sc .rows) r w ≡ some v
-      kept r w {v} h =
-          subst (λ (rs : List Row). cellValue new rs r w ≡ some v) (sym (next .rows))
-          (cell-kept shape grows r w v (subst (λ (rs : List Row). cellValue old rs r w ≡ some v) (next .rows) h))
-
-      -- what was known is known, and its marks are right for the new readings
-      new-covers : Covers (sc .rows) (length (sc .runs)) new (d .known) (s .marks)
-      new-covers = record {
-        sound = λ r w h m. let v = next .isState .arrays .exact r w h .0 m in (v .0, kept r w (v .1), v .2);
-        covers = λ v m. let c = next .isState .arrays .celled v m in (c .0, c .1, c .2, kept (c .0) (c .1) (c .3), next .isState .arrays .exact (c .0) (c .1) (c .2) .1 (v, c .3, member m));
-      }
-
-      new-exact : Exact (sc .rows) (length (sc .runs)) new (d .known) marks
-      new-exact =
-          let s′ : Settled (sc .rows) (length (sc .runs)) classes (s .marks) marks = rw (next .rows, ← next .count) settled in
-          s′ new (d .known) new-classes new-covers
+      new-arrays = grown-arrays shape (next .rows) (next .count) (grows (paired (toSet sc a) vs)) (next .isState .arrays) (sets .named) (sets .size) refilled settled
 
       -- a read with new values is allowed exactly if three cells are marked then
       pub read-performed : (done : List ℕ) → done ≡ set (s .done) k (getD (s .done) k 0 + 1) → length (s .done) ≡ 4 → Marked marks (e .own) 0 → Marked marks (e .peer) 0 → Marked marks (e .row) (suc k)
           → Performed sc d a vs (record { allowed = true; state = record { done = done; names = names; classes = classes; marks = marks } })
       read-performed done moved size mo mp mr =
-          isAllowed refl (read-allowed sc (next .good) d (suc k) a (next .isActive) vs (next .isEvent) marks new-exact is-read own-within peer-within row-within mo mp mr)
+          isAllowed refl (read-allowed sc (next .good) d (suc k) a (next .isActive) vs (next .isEvent) marks (new-arrays .exact) is-read own-within peer-within row-within mo mp mr)
           (advanced-state sc (next .good) d (suc k) a (next .isActive) vs (next .isState) (d .known) _ (rw index moved) size
-          (record { named = sets .named; sized = sets .size; classed = new-classes; exact = new-exact; celled = λ v m. let c = next .isState .arrays .celled v m in (c .0, c .1, c .2, kept (c .0) (c .1) (c .3)) }) (sets .valued))
+          new-arrays (sets .valued))
 
       pub read-not : (s′ : CodeState) → (Marked marks (e .own) 0 → Marked marks (e .peer) 0 → Marked marks (e .row) (suc k) → ⊥) → Performed sc d a vs (record { allowed = false; state = s′ })
       read-not s′ no-marks =
-          notAllowed refl (read-refused sc (next .good) d (suc k) a (next .isActive) vs (next .isEvent) marks new-exact is-read own-within peer-within row-within no-marks)
+          notAllowed refl (read-refused sc (next .good) d (suc k) a (next .isActive) vs (next .isEvent) marks (new-arrays .exact) is-read own-within peer-within row-within no-marks)
 
       -- the same by the marks that are looked at
       pub own-unmarked : (s′ : CodeState) → getD marks (e .own) false ≡ false → Performed sc d a vs (record { allowed = false; state = s′ })

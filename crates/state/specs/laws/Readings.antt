@@ -2,7 +2,7 @@
 use Prim.Native.Nat.{ℕ, zero, suc, _<_, _≤_}
 use native.Mathlib.Decide.{ℕ-discrete}
 use native.Mathlib.Omega.{arith}
-use mathlib.Core.Path.{_≡_, refl, sym, ap, _∙_, fun-ext}
+use mathlib.Core.Path.{_≡_, refl, sym, ap, _∙_, subst, fun-ext}
 use mathlib.Core.Bool.{Bool, true, false, _||_}
 use mathlib.Core.List.{List, [], _∷_, _++_}
 use mathlib.Core.Option.{Option, none, some, Option·some-injective, Option·none-ne-some}
@@ -85,12 +85,24 @@ reading-more rows u (some run) sets more (variable n type) t e = go (assigned (v
     go (some v) f h = rw (assigned-stays (variable n type) sets more f) h
 
 -- more sets of one run make its reading grow and keep the others
-pub readings-grow : (sc : Scenario) (sets : SetsOf) (k : ℕ) (more : List (Atom × Value)) → Grows (suc k) (readings sc sets) (readings sc (withSets k (sets k ++ more) sets))
-readings-grow sc sets k more = record { elsewhere = elsewhere; more = grown }
+pub readings-grow : (sc : Scenario) (others : SetsOf) (k : ℕ) (sets more : List (Atom × Value)) → Grows (suc k) (readings sc (withSets k sets others)) (readings sc (withSets k (sets ++ more) others))
+readings-grow sc others k sets more = record { elsewhere = elsewhere; more = grown }
   where
-    elsewhere : (w : ℕ) → (w ≡ suc k → ⊥) → (a : Atom) → readings sc (withSets k (sets k ++ more) sets) w a ≡ readings sc sets w a
+    elsewhere : (w : ℕ) → (w ≡ suc k → ⊥) → (a : Atom) → readings sc (withSets k (sets ++ more) others) w a ≡ readings sc (withSets k sets others) w a
     elsewhere zero d a = refl
-    elsewhere (suc j) d a = ap (λ (l : List (Atom × Value)). runReading (sc .rows) (suc j) (getElem? (sc .runs) j) l a) (with-other k (sets k ++ more) sets j (λ e. d (ap suc e)))
+    elsewhere (suc j) d a =
+        let differ : j ≡ k → ⊥ = λ e. d (ap suc e) in
+        ap (λ (l : List (Atom × Value)). runReading (sc .rows) (suc j) (getElem? (sc .runs) j) l a) (with-other k (sets ++ more) others j differ ∙ sym (with-other k sets others j differ))
 
-    grown : (a : Atom) (t : Term) → readings sc sets (suc k) a ≡ some t → readings sc (withSets k (sets k ++ more) sets) (suc k) a ≡ some t
-    grown a t e = ap (λ (l : List (Atom × Value)). runReading (sc .rows) (suc k) (getElem? (sc .runs) k) l a) (with-same k (sets k ++ more) sets) ∙ reading-more (sc .rows) (suc k) (getElem? (sc .runs) k) (sets k) more a t e
+    here : List (Atom × Value) → Atom → Option Term
+    here l a = runReading (sc .rows) (suc k) (getElem? (sc .runs) k) l a
+
+    grown : (a : Atom) (t : Term) → readings sc (withSets k sets others) (suc k) a ≡ some t → readings sc (withSets k (sets ++ more) others) (suc k) a ≡ some t
+    grown a t e =
+        ap (λ (l : List (Atom × Value)). here l a) (with-same k (sets ++ more) others)
+        ∙ reading-more (sc .rows) (suc k) (getElem? (sc .runs) k) sets more a t (ap (λ (l : List (Atom × Value)). here l a) (sym (with-same k sets others)) ∙ e)
+
+-- the same from the sets that a run has
+pub readings-grow-from : (sc : Scenario) (others : SetsOf) (k : ℕ) (sets more : List (Atom × Value)) → sets ≡ others k → Grows (suc k) (readings sc others) (readings sc (withSets k (sets ++ more) others))
+readings-grow-from sc others k sets more e =
+    subst (λ (before : SetsOf). Grows (suc k) (readings sc before) (readings sc (withSets k (sets ++ more) others))) (with-itself k sets others e) (readings-grow sc others k sets more)

@@ -80,7 +80,7 @@ module _ (sc : Scenario) (good : Guarantee sc) (k : ℕ) (run : Run) (isRun : ge
       (λ z. unset-none (sc .rows) (others k) standing a (sym r ∙ w .0 z), λ z. w .1 (r ∙ ap (λ (o : Option Value). andThen o (termOf (sc .rows))) z))
 
 -- variables with their values, in two parts
-paired-append : (xs ys : List Atom) (vs ws : List Value) → length xs ≡ length vs → paired (xs ++ ys) (vs ++ ws) ≡ paired xs vs ++ paired ys ws
+pub paired-append : (xs ys : List Atom) (vs ws : List Value) → length xs ≡ length vs → paired (xs ++ ys) (vs ++ ws) ≡ paired xs vs ++ paired ys ws
 paired-append [] ys [] ws e = refl
 paired-append [] ys (v ∷ vs) ws e = absurd (omega arith)
 paired-append (x ∷ xs) ys [] ws e = absurd (omega arith)
