@@ -3,6 +3,7 @@
 //! `derive` and `replay` take bytes, and `traces` lists what Search judges.
 
 mod derive;
+mod example;
 mod frame;
 mod hope;
 mod knowledge;
@@ -22,6 +23,7 @@ mod walk;
 mod wellformed;
 
 pub use derive::derive;
+pub use example::{stated_verdict, uncommented};
 pub use refusal::Refusal;
 pub use replay::replay;
 pub use request::{answer, bytes, hexadecimal, MALFORMED};
