@@ -1,6 +1,7 @@
 //! Open of the proved library against the cases and against the reference program.
 use library::answer::opened;
 use library::random::{damage, table, Random};
+use library::scenarios::{near, scenario};
 use library::slow;
 
 const CASES: &str = include_str!("../../cases/base.txt");
@@ -107,6 +108,18 @@ fn damaged_files_answer_as_the_reference() {
     println!("{words:?}");
     for word in ["OK", "REFUSED 1", "REFUSED 3", "REFUSED 4", "REFUSED 5", "REFUSED 6", "REFUSED 7", "REFUSED 8", "REFUSED 9"] {
         assert!(words.get(word).is_some_and(|&n| n >= 100), "too few {word}: {words:?}");
+    }
+}
+
+#[test]
+fn random_scenarios_are_accepted_and_damaged_ones_answer_as_the_reference() {
+    let rich = rich_files();
+    let mut random = Random::new(8);
+    for round in 0..6_000 {
+        let mut file = if round % 3 == 0 { near(&mut random, &rich[round % rich.len()]) } else { scenario(&mut random) };
+        assert_eq!(agrees(&file), "OK");
+        damage(&mut random, &mut file);
+        agrees(&file);
     }
 }
 
