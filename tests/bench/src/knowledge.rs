@@ -87,7 +87,7 @@ pub fn cell(r: usize, u: usize) -> usize {
 }
 
 #[inline]
-fn second(t: &[u8], r: usize) -> usize {
+pub fn second(t: &[u8], r: usize) -> usize {
     if t[3 * r] < 10 {
         t[3 * r + 1] as usize
     } else {

@@ -4,7 +4,7 @@ use crate::knowledge;
 use library::random::{damage, Random};
 use library::slow;
 
-const ACCEPTED: u64 = 4 << 60;
+pub const ACCEPTED: u64 = 4 << 60;
 
 // What may lie beneath a row.
 const ROLE_NAME: u8 = 1;
@@ -14,7 +14,7 @@ const LOCAL_CONSTANT: u8 = 4;
 pub type Refusal = (u64, usize);
 
 /// The packed answer: accepted, or the first refusal and its place.
-fn open(file: &[u8]) -> u64 {
+pub fn open(file: &[u8]) -> u64 {
     match judge(file) {
         Ok(()) => ACCEPTED,
         Err((number, place)) => knowledge::refusal(number, place),
