@@ -1,2 +1,3 @@
 -- The laws of new values, with their proofs.
 pub mod Values
+pub mod Next

@@ -19,7 +19,8 @@ use Rattle.runs.specs.declared.RunEvent.{RunEvent}
 use Rattle.state.specs.declared.State.{State}
 use Rattle.state.specs.State.{NextMove}
 use Rattle.variables.specs.Variables.{Beneath, NextUnset, MayTake}
-use Rattle.replay.specs.laws.Values.{Part, part-none, part-suits, part-long, part-short, part-not, part-more, no-more, another, variable-found, value-fits, taken-value, no-value, may-carry, part-carry}
+use Rattle.values.specs.laws.Next.{no-more, another, variable-found}
+use Rattle.replay.specs.laws.Values.{Part, part-none, part-suits, part-long, part-short, part-not, part-more, value-fits, taken-value, no-value, may-carry, part-carry}
 use borrow.Author.Tests.{not-true, not-false}
 use Rattle.replay.proofs.chosen.Statement.{statement}
 use Rattle.replay.proofs.chosen.Tie as tie
@@ -57,7 +58,7 @@ returns c e sc d s a next same row kind =
     let l = c .before .before .before .before .before in
     let view = c .before .before .next-unset .ensures _ (c .before .before .before .before .before .before .beneath .ensures) in
     let view′ : NextUnset (rowsOf (p .args .t .now)) (s .names) (p .args .k + 1) (e .row) (l .loop .from) (c .before .before .next-unset .result) = rw (← same, ← row) view in
-    part-suits next kind _ (l .loop .from) (l .loop .i) (l .loop .more) (l .loop .inv .2 e sc d s a next same row kind) (no-more next kind (p .args .values .now) (p .pre .0 .count) (l .loop .from) _ view′ (c .before .if1 .taken)) (c .if2 .taken)
+    part-suits next kind _ (l .loop .from) (l .loop .i) (l .loop .more) (l .loop .inv .2 e sc d s a next same row kind) (no-more next (p .pre .0 .count) (l .loop .from) _ view′ (c .before .if1 .taken)) (c .if2 .taken)
 
 returns-2 : tie.Need-returns-2 Inv-loop μ-loop
 returns-2 c e sc d s a next same row kind =
@@ -65,7 +66,7 @@ returns-2 c e sc d s a next same row kind =
     let l = c .before .before .before .before .before in
     let view = c .before .before .next-unset .ensures _ (c .before .before .before .before .before .before .beneath .ensures) in
     let view′ : NextUnset (rowsOf (p .args .t .now)) (s .names) (p .args .k + 1) (e .row) (l .loop .from) (c .before .before .next-unset .result) = rw (← same, ← row) view in
-    part-long next kind _ (l .loop .from) (l .loop .i) (l .loop .more) (l .loop .inv .2 e sc d s a next same row kind) (no-more next kind (p .args .values .now) (p .pre .0 .count) (l .loop .from) _ view′ (c .before .if1 .taken)) (c .if2 .left)
+    part-long next kind _ (l .loop .from) (l .loop .i) (l .loop .more) (l .loop .inv .2 e sc d s a next same row kind) (no-more next (p .pre .0 .count) (l .loop .from) _ view′ (c .before .if1 .taken)) (c .if2 .left)
 
 add-if3 : tie.Need-add-if3 Inv-loop μ-loop
 add-if3 c = record { fits = omega (arith, c .before .before .before .before .loop .inv .0, c .before .before .before .before .loop .inv .1, c .before .before .before .before .before .before .before .before .pre .0 .few) }
@@ -76,7 +77,7 @@ returns-3 c e sc d s a next same row kind =
     let l = c .before .before .before .before .before in
     let view = c .before .before .next-unset .ensures _ (c .before .before .before .before .before .before .beneath .ensures) in
     let view′ : NextUnset (rowsOf (p .args .t .now)) (s .names) (p .args .k + 1) (e .row) (l .loop .from) (c .before .before .next-unset .result) = rw (← same, ← row) view in
-    let more = another next kind (p .args .values .now) (p .pre .0 .count) (l .loop .from) _ view′ (c .before .if1 .left) in
+    let more = another next (p .pre .0 .count) (l .loop .from) _ view′ (c .before .if1 .left) in
     part-short next kind _ (l .loop .from) (l .loop .i) (l .loop .more) (l .loop .inv .2 e sc d s a next same row kind) (more .first) (c .if3 .taken)
 
 may-take-requires : tie.Need-may-take-requires Inv-loop μ-loop
@@ -92,7 +93,7 @@ returns-4 c e sc d s a next same row kind =
     let l = c .before .before .before .before .before .before .before .before .before .before .before in
     let view = c .before .before .before .before .before .before .before .before .next-unset .ensures _ (c .before .before .before .before .before .before .before .before .before .before .before .before .beneath .ensures) in
     let view′ : NextUnset (rowsOf (p .args .t .now)) (s .names) (p .args .k + 1) (e .row) (l .loop .from) (c .before .before .before .before .before .before .before .before .next-unset .result) = rw (← same, ← row) view in
-    let more = another next kind (p .args .values .now) (p .pre .0 .count) (l .loop .from) _ view′ (c .before .before .before .before .before .before .before .if1 .left) in
+    let more = another next (p .pre .0 .count) (l .loop .from) _ view′ (c .before .before .before .before .before .before .before .if1 .left) in
     let may = c .before .may-take .ensures (more .y) (ap (λ (rs : List Row). atomAt rs (c .before .before .before .before .before .before .before .before .next-unset .result)) (sym (next .rows)) ∙ more .isAtom) in
     let may′ : MayTake (sc .rows) (length (sc .runs)) (more .y) (getD (p .args .values .now) (l .loop .i) 0) (getD (p .args .values .now) (l .loop .i + 1) 0) (c .before .may-take .result) = may-carry (next .rows) (next .count) (c .before .before .before .before .wide .ensures .0) (c .before .before .wide2 .ensures .0) may in
     part-not next kind _ (l .loop .from) (l .loop .i) (l .loop .more) (l .loop .inv .2 e sc d s a next same row kind) (more .first) (c .before .before .before .before .before .before .if3 .left) (no-value may′ (not-true _ (c .if4 .taken)))
@@ -133,7 +134,7 @@ loop-again c =
       omega (arith, w .1, l .loop .inv .1),
       λ e sc d s a next same row kind.
           let view′ : NextUnset (rowsOf (p .args .t .now)) (s .names) (p .args .k + 1) (e .row) (l .loop .from) (c .before .before .before .before .before .before .before .before .before .next-unset .result) = rw (← same, ← row) view in
-          let more = another next kind (p .args .values .now) (p .pre .0 .count) (l .loop .from) _ view′ (c .before .before .before .before .before .before .before .before .if1 .left) in
+          let more = another next (p .pre .0 .count) (l .loop .from) _ view′ (c .before .before .before .before .before .before .before .before .if1 .left) in
           let may = c .before .before .may-take .ensures (more .y) (ap (λ (rs : List Row). atomAt rs (c .before .before .before .before .before .before .before .before .before .next-unset .result)) (sym (next .rows)) ∙ more .isAtom) in
           let may′ : MayTake (sc .rows) (length (sc .runs)) (more .y) (getD (p .args .values .now) (l .loop .i) 0) (getD (p .args .values .now) (l .loop .i + 1) 0) (c .before .before .may-take .result) = may-carry (next .rows) (next .count) (c .before .before .before .before .before .wide .ensures .0) (c .before .before .before .wide2 .ensures .0) may in
           let value = taken-value may′ (not-false _ (c .before .if4 .left)) in

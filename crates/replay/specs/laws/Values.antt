@@ -1,33 +1,31 @@
 -- New values in a trace, taken one after the other: whether they suit a read, and the names with them. Assumes nothing.
-use Prim.Native.Nat.{ℕ, zero, suc, _+_, _*_, _<_, _≤_}
+use Prim.Native.Nat.{ℕ, suc, _+_, _<_, _≤_}
 use native.Mathlib.Numerals.{add-one}
 use native.Mathlib.Omega.{arith}
 use mathlib.Core.Path.{_≡_, refl, sym, ap, _∙_, subst}
 use mathlib.Core.Bool.{Bool, true, false, true≢false, _&&_}
 use mathlib.Core.List.{List, [], _∷_, _++_, append-assoc, append-nil}
-use mathlib.Core.Option.{Option, some, Option·some-injective, Option·none-ne-some}
+use mathlib.Core.Option.{some, Option·some-injective}
 use lib.Dec.{T}
-use lib.ListN.{length, getD, getElem?, drop, set, length-drop}
+use lib.ListN.{length, getD, drop, set, length-drop}
 use lib.Seq.{drop-cons}
-use Rattle.semantics.specs.Term.{Atom, trusted, untrusted, global, intruder, role, local}
+use Rattle.semantics.specs.Term.{Atom}
 use Rattle.semantics.specs.Table.{Row, variableAtom}
-use Rattle.semantics.specs.Roles.{EventKind, send, read, claim, eventKinds}
-use Rattle.semantics.specs.Runs.{atomOf, atomAt}
+use Rattle.semantics.specs.Roles.{read}
+use Rattle.semantics.specs.Runs.{atomAt}
 use Rattle.semantics.specs.Scenario.{Scenario}
-use Rattle.semantics.specs.State.{Value, State, Active, newVariables}
+use Rattle.semantics.specs.State.{Value, State, Active}
 use Rattle.semantics.specs.Moves.{toSet, candidates}
 use Rattle.semantics.specs.Replay.{isValueOf, suits, valuesIn}
-use Rattle.rows.specs.Rows.{rowsOf}
-use Rattle.rows.specs.laws.Decodes.{Decodes, isTrusted, isUntrusted, isGlobal, isIntruder, isRole, isAgentVariable, isFreshVariable, isLocal, isPk, isSk, isShared, isPair, isEncrypted}
-use Rattle.cells.specs.Cells.{cellOf, absent, Shape}
-use Rattle.cells.specs.laws.Cells.{row-there, row-decodes}
+use Rattle.cells.specs.Cells.{cellOf, absent}
 use Rattle.runs.specs.declared.RunEvent.{RunEvent}
 use Rattle.state.specs.declared.State.{State as CodeState}
 use Rattle.state.specs.State.{IsState, NextMove, Sets}
 use Rattle.state.specs.laws.Performed.{none-set}
-use Rattle.variables.specs.Variables.{unsetFrom, NextUnset, isNext, noNext, MayTake, takes, takesNot, Names}
+use Rattle.variables.specs.Variables.{unsetFrom, MayTake, takes, takesNot, Names}
 use Rattle.values.specs.Values.{Setting}
-use Rattle.values.specs.laws.Values.{setting-none, setting-more, setting-all, state-tells}
+use Rattle.values.specs.laws.Values.{setting-none, setting-more, setting-all}
+use Rattle.values.specs.laws.Next.{nothing-set}
 use Rattle.replay.specs.declared.Choice.{Choice}
 use Rattle.replay.specs.Replay.{Suited, isSuited, notSuited}
 
@@ -126,60 +124,6 @@ module _ {t : List ℕ} {runs k : ℕ} {e : RunEvent} {sc : Scenario} {d : State
           same = part .same ∙ (λ j. suits (sc .rows) (length (sc .runs)) (more j) (rest j)) ∙ suits-more (sc .rows) (length (sc .runs)) y _ v _ isValue;
         }
 
-  -- the next unset variable, as it was found
-  found : (x from : ℕ) → NextUnset (rowsOf t) (s .names) (k + 1) (e .row) from x → NextUnset (sc .rows) (s .names) (suc k) (a .event .row) from x
-  found x from view =
-      subst (λ (rs : List Row). NextUnset rs (s .names) (suc k) (a .event .row) from x) (sym (next .rows))
-      (subst (λ (u : ℕ). NextUnset (rowsOf t) (s .names) u (a .event .row) from x) (add-one k)
-      (subst (λ (p : ℕ). NextUnset (rowsOf t) (s .names) (k + 1) p from x) (next .isEvent .row) view))
-
-  pub no-more : {n : ℕ} → n ≡ length (rowsOf t) → (from x : ℕ) → NextUnset (rowsOf t) (s .names) (k + 1) (e .row) from x → x ≡ n → unsetFrom (sc .rows) (a .progress .values) (a .event .row) from ≡ []
-  no-more {n} count from x view end = go (found x from view)
-    where
-      go : NextUnset (sc .rows) (s .names) (suc k) (a .event .row) from x → unsetFrom (sc .rows) (a .progress .values) (a .event .row) from ≡ []
-      go (isNext y l h i v u q) = absurd (omega (arith, ap length (next .rows)))
-      go (noNext z q) = q (a .progress .values) (state-tells sc (next .good) d k a (next .isActive) (next .isState))
-
-  -- what is known of it
-  pub record Another (from x : ℕ) : Type 0 where
-    pub y : Atom
-    pub low : x < length (sc .rows)
-    pub from-on : from ≤ x
-    pub isAtom : atomAt (sc .rows) x ≡ some y
-    pub isVariable : T (variableAtom y)
-    pub unset : getD (s .names) (cellOf x (suc k)) absent ≡ absent
-    pub first : unsetFrom (sc .rows) (a .progress .values) (a .event .row) from ≡ y ∷ unsetFrom (sc .rows) (a .progress .values) (a .event .row) (suc x)
-
-  pub another : {n : ℕ} → n ≡ length (rowsOf t) → (from x : ℕ) → NextUnset (rowsOf t) (s .names) (k + 1) (e .row) from x → (x ≡ n → ⊥) → Another from x
-  another {n} count from x view more = go (found x from view)
-    where
-      go : NextUnset (sc .rows) (s .names) (suc k) (a .event .row) from x → Another from x
-      go (isNext y l h i v u q) = record { y = y; low = l; from-on = h; isAtom = i; isVariable = v; unset = u; first = q (a .progress .values) (state-tells sc (next .good) d k a (next .isActive) (next .isState)) }
-      go (noNext z q) = absurd (more (omega (arith, ap length (next .rows))))
-
--- the row of a variable has kind 6
-variable-six : {k l q : ℕ} {row : Row} (a : Atom) → Decodes k l q row → atomOf (some row) ≡ some a → T (variableAtom a) → k ≡ 6
-variable-six a (isTrusted {n}) e h = absurd (rw (← Option·some-injective (trusted n) a e) at h)
-variable-six a (isUntrusted {n}) e h = absurd (rw (← Option·some-injective (untrusted n) a e) at h)
-variable-six a (isGlobal {n}) e h = absurd (rw (← Option·some-injective (global n) a e) at h)
-variable-six a (isIntruder {n}) e h = absurd (rw (← Option·some-injective (intruder n) a e) at h)
-variable-six a (isRole {i} l) e h = absurd (rw (← Option·some-injective (role i) a e) at h)
-variable-six a isAgentVariable e h = refl
-variable-six a isFreshVariable e h = refl
-variable-six a (isLocal {n}) e h = absurd (rw (← Option·some-injective (local n 0) a e) at h)
-variable-six a isPk e h = absurd (Option·none-ne-some a e)
-variable-six a isSk e h = absurd (Option·none-ne-some a e)
-variable-six a isShared e h = absurd (Option·none-ne-some a e)
-variable-six a isPair e h = absurd (Option·none-ne-some a e)
-variable-six a isEncrypted e h = absurd (Option·none-ne-some a e)
-
--- a row that is found is a variable's
-pub variable-found : (t : List ℕ) (n runs : ℕ) → Shape t n runs → (names : List ℕ) (u p from x : ℕ) → NextUnset (rowsOf t) names u p from x → (x ≡ n → ⊥) → (x < n) × (from ≤ x) × (getD t (3 * x) 0 ≡ 6) × ((y : Atom) × (atomAt (rowsOf t) x ≡ some y))
-variable-found t n runs shape names u p from x (isNext y l h i v w q) more =
-    let low : x < n = omega (arith, shape .count) in
-    (low, h, variable-six y (row-decodes t n runs shape x low) (sym (ap atomOf (row-there t n runs shape x low .1)) ∙ i) v, (y, i))
-variable-found t n runs shape names u p from x (noNext z q) more = absurd (more (z ∙ sym (shape .count)))
-
 -- a value that may be taken has a row and a run that fit a cell
 pub value-fits : {rows : List Row} {runs r w : ℕ} {y : Atom} {answer : Bool} → length rows ≤ 96 → runs ≤ 4 → MayTake rows runs y r w answer → answer ≡ true → (r < 96) × (w ≤ 4)
 value-fits few fewRuns (takes b e i names) yes-taken = (omega (arith, names .below), omega (arith, names .within))
@@ -206,44 +150,16 @@ part-carry {sc} {d} {a} {before} {bytes} x k i r w names more e f g part =
 
 -- an event that is no read sets nothing
 module _ {t : List ℕ} {runs k : ℕ} {e : RunEvent} {sc : Scenario} {d : State} {s : CodeState} {a : Active} (next : NextMove t runs k e sc d s a) (kind : e .kind ≡ 1 → ⊥) (bytes : List ℕ) where
-  nothing-set : toSet sc a ≡ []
-  unfolding newVariables
-  nothing-set = go (a .event .kind) (e .kind) (next .isEvent .kind) kind
-    where
-      go : (kind : EventKind) (b : ℕ) → getElem? eventKinds b ≡ some kind → (b ≡ 1 → ⊥) → newVariables (sc .rows) (a .progress .values) kind (a .event .row) ≡ []
-      go send b h n = refl
-      go read zero h n = absurd (differ (Option·some-injective send read h))
-        where
-          is-send : EventKind → Bool
-          is-send send = true
-          is-send read = false
-          is-send claim = false
-
-          differ : send ≡ read → ⊥
-          differ q = true≢false (ap is-send q)
-      go read (suc zero) h n = absurd (n refl)
-      go read (suc (suc zero)) h n = absurd (differ (Option·some-injective claim read h))
-        where
-          is-claim : EventKind → Bool
-          is-claim send = false
-          is-claim read = false
-          is-claim claim = true
-
-          differ : claim ≡ read → ⊥
-          differ q = true≢false (ap is-claim q)
-      go read (suc (suc (suc b))) h n = absurd (Option·none-ne-some read h)
-      go claim b h n = refl
-
   pub none-suit : length bytes < 2 → Suited sc d a (valuesIn bytes) (record { suits = true; names = s .names })
   none-suit l =
       let ended : valuesIn bytes ≡ [] = values-end bytes 0 (omega arith) in
-      isSuited refl ((λ j. suits (sc .rows) (length (sc .runs)) (nothing-set j) (ended j)) ∙ suits-none (sc .rows) (length (sc .runs))) (subst (λ (vs : List Value). Sets sc d a vs (s .names)) (sym ended) (none-set next))
+      isSuited refl ((λ j. suits (sc .rows) (length (sc .runs)) (nothing-set next kind j) (ended j)) ∙ suits-none (sc .rows) (length (sc .runs))) (subst (λ (vs : List Value). Sets sc d a vs (s .names)) (sym ended) (none-set next))
 
   pub some-suit-not : (names : List ℕ) → 2 ≤ length bytes → Suited sc d a (valuesIn bytes) (record { suits = false; names = names })
-  some-suit-not names l = notSuited refl ((λ j. suits (sc .rows) (length (sc .runs)) (nothing-set j) (values-next bytes 0 (omega arith) j)) ∙ suits-long (sc .rows) (length (sc .runs)) _ _)
+  some-suit-not names l = notSuited refl ((λ j. suits (sc .rows) (length (sc .runs)) (nothing-set next kind j) (values-next bytes 0 (omega arith) j)) ∙ suits-long (sc .rows) (length (sc .runs)) _ _)
 
   pub only-none : (vs : List Value) → suits (sc .rows) (length (sc .runs)) (toSet sc a) vs ≡ true → vs ≡ []
-  only-none vs h = go vs (sym (ap (λ (l : List Atom). suits (sc .rows) (length (sc .runs)) l vs) nothing-set) ∙ h)
+  only-none vs h = go vs (sym (ap (λ (l : List Atom). suits (sc .rows) (length (sc .runs)) l vs) (nothing-set next kind)) ∙ h)
     where
       go : (vs : List Value) → suits (sc .rows) (length (sc .runs)) [] vs ≡ true → vs ≡ []
       go [] h = refl
