@@ -1,0 +1,132 @@
+-- The walk through the values of one more variable of a read. Assumes nothing.
+use Prim.Native.Nat.{ℕ, zero, suc, _+_, _*_, _-_, _<_, _≤_}
+use native.Mathlib.Numerals.{add-one}
+use native.Mathlib.Omega.{arith}
+use mathlib.Core.Path.{_≡_, refl, sym, ap, _∙_, subst}
+use mathlib.Core.Bool.{Bool, true, false, _&&_, not}
+use mathlib.Core.List.{List, [], _∷_, _++_, map, append-assoc, append-nil, List·Memᴰ, List·Memᴰ·head as first, Memᴰ·append-right}
+use mathlib.Core.Option.{Option, none, some}
+use lib.Dec.{T}
+use lib.ListN.{length, getD, getElem?, set, length-append}
+use Rattle.semantics.specs.Basic.{joined, present, keep, presentOnes, numbersFrom}
+use Rattle.semantics.specs.Limits.{mostVariables}
+use Rattle.semantics.specs.Term.{VariableType, Atom, trusted, untrusted, global, intruder, role, variable, local}
+use Rattle.semantics.specs.Table.{Row, variableAtom}
+use Rattle.semantics.specs.Scenario.{Scenario}
+use Rattle.semantics.specs.State.{Value, State, Active}
+use Rattle.semantics.specs.Moves.{Move, candidates, toSet}
+use Rattle.semantics.specs.Verdict.{Entry}
+use Rattle.semantics.specs.Allowed.{MayTake, Takes, takesNone, takesMore}
+use Rattle.semantics.specs.laws.Moves.{mem-candidates}
+use Rattle.rows.specs.Rows.{rowsOf}
+use Rattle.cells.specs.Cells.{cellOf}
+use Rattle.runs.specs.declared.RunEvent.{RunEvent}
+use Rattle.runs.specs.declared.Runs.{Runs}
+use Rattle.state.specs.declared.State.{State as CodeState}
+use Rattle.variables.specs.declared.NextValue.{NextValue}
+use Rattle.variables.specs.Variables.{unsetFrom, NextUnset, valuesFrom, Names, NextOf, hasNext, hasNone}
+use Rattle.variables.specs.laws.Values.{values-all}
+use Rattle.values.specs.Values.{Setting}
+use Rattle.values.specs.laws.Values.{setting-more, setting-all}
+use Rattle.values.specs.laws.Next.{no-more, Another, another}
+use Rattle.search.specs.declared.Values.{Values}
+use Rattle.search.specs.declared.Walked.{Walked}
+use Rattle.search.specs.declared.Walked.the-variants.{Broken, Clean, Cut}
+use Rattle.search.specs.Walk.{Finds, below, branches, ValuesAre, Here, AtMove, Choosing, Chosen}
+use Rattle.search.specs.laws.Entries.{valuesOf, branches-more, branches-pruned}
+use Rattle.search.specs.laws.Finds.{Passed, passed-none, passed-all}
+use Rattle.search.specs.laws.Walk.{finds-same}
+
+-- a variable, by its number and type
+variable-is : (y : Atom) → T (variableAtom y) → (num : ℕ) × (type : VariableType) × (y ≡ variable num type)
+variable-is (trusted n) h = absurd h
+variable-is (untrusted n) h = absurd h
+variable-is (global n) h = absurd h
+variable-is (intruder n) h = absurd h
+variable-is (role i) h = absurd h
+variable-is (variable n t) h = (n, t, refl)
+variable-is (local n u) h = absurd h
+
+takes-more : {rows : List Row} {runs : ℕ} {xs : List Atom} {vs : List Value} {y : Atom} {v : Value} → Takes rows runs xs vs → MayTake rows runs y v → Takes rows runs (xs ++ (y ∷ [])) (vs ++ (v ∷ []))
+takes-more takesNone may = takesMore may takesNone
+takes-more (takesMore m takes) may = takesMore m (takes-more takes may)
+
+module _ {file t : List ℕ} {n : ℕ} {r : Runs} {sc : Scenario} {d : State} {s : CodeState} {ms : List Move} {at k : ℕ} {e : RunEvent} {a : Active} (move : AtMove file t n r sc d s ms at k e a) (kind : e .kind ≡ 1)
+    {from : ℕ} {xs : List Atom} {vs : List Value} {names : List ℕ} {values : Values} (choosing : Choosing sc d s a from xs vs names values) {x : ℕ} (view : NextUnset (rowsOf t) (s .names) (k + 1) (e .row) from x) where
+  abbrev pub left-to-set : List Atom
+  left-to-set = unsetFrom (sc .rows) (a .progress .values) (a .event .row) from
+
+  -- no variable is left
+  module _ (end : x ≡ n) where
+    none-left : left-to-set ≡ []
+    none-left = no-more (move .next) (move .here .given .shape .count) from x view end
+
+    pub choose-all : Chosen sc d a e vs names values
+    choose-all = record {
+      sets = setting-all sc (move .here .given .good) d k a (move .next .isActive) (s .names) from xs vs names (choosing .setting) none-left;
+      takes = subst (λ (l : List Atom). Takes (sc .rows) (length (sc .runs)) l vs) (sym (choosing .setting .split ∙ ap (λ (l : List Atom). xs ++ l) none-left ∙ append-nil xs)) (choosing .takes);
+      only = λ z. absurd (z kind);
+      are = choosing .are;
+    }
+
+    pub choose-done : (left depth : ℕ) {b b′ : List ℕ} {w : Walked} → Finds sc left (below sc depth (branches sc d (suc k) a vs [])) b at b′ w → Finds sc left (below sc depth (branches sc d (suc k) a vs left-to-set)) b at b′ w
+    choose-done left depth finds = finds-same sc left (ap (λ (l : List Atom). below sc depth (branches sc d (suc k) a vs l)) none-left) finds
+
+  -- another variable
+  module _ (more : x ≡ n → ⊥) where
+    pub its : Another (move .next) from x
+    its = another (move .next) (move .here .given .shape .count) from x view more
+
+    abbrev pub rest : List Atom
+    rest = unsetFrom (sc .rows) (a .progress .values) (a .event .row) (suc x)
+
+    pub var : (num : ℕ) × (type : VariableType) × (its .y ≡ variable num type)
+    var = variable-is (its .y) (its .isVariable)
+
+    -- the values tried so far
+    pub record Trying (left depth row run count : ℕ) : Type 0 where
+      pub tried : List Value
+      pub split : candidates (sc .rows) (length (sc .runs)) (its .y) ≡ tried ++ valuesFrom (sc .rows) (length (sc .runs)) (var .1) row run
+      pub passed : Passed sc left (below sc depth (branches sc d (suc k) a vs left-to-set)) (valuesOf sc depth d (suc k) a vs rest (valuesFrom (sc .rows) (length (sc .runs)) (var .1) row run)) count
+
+    pub trying-none : (left depth : ℕ) → Trying left depth 0 0 0
+    trying-none left depth =
+        let all = ap (candidates (sc .rows) (length (sc .runs))) (var .2) ∙ values-all (sc .rows) (length (sc .runs)) (var .0) (var .1) in
+        let same : below sc depth (branches sc d (suc k) a vs left-to-set) ≡ valuesOf sc depth d (suc k) a vs rest (valuesFrom (sc .rows) (length (sc .runs)) (var .1) 0 0) =
+        ap (λ (l : List Atom). below sc depth (branches sc d (suc k) a vs l)) (its .first) ∙ branches-more sc depth d (suc k) a vs (its .y) rest ∙ ap (valuesOf sc depth d (suc k) a vs rest) all in
+        record { tried = []; split = all; passed = subst (λ (es : List Entry). Passed sc left (below sc depth (branches sc d (suc k) a vs left-to-set)) es 0) same (passed-none sc left (below sc depth (branches sc d (suc k) a vs left-to-set))) }
+
+    module _ {left depth row run count : ℕ} (trying : Trying left depth row run count) where
+      -- no value is left
+      pub trying-end : valuesFrom (sc .rows) (length (sc .runs)) (var .1) row run ≡ [] → (b : List ℕ) → Finds sc left (below sc depth (branches sc d (suc k) a vs left-to-set)) b at b (Clean count)
+      trying-end none-left b =
+          passed-all sc left (subst (λ (es : List Entry). Passed sc left (below sc depth (branches sc d (suc k) a vs left-to-set)) es count) (ap (valuesOf sc depth d (suc k) a vs rest) none-left) (trying .passed)) b at
+
+      -- the next value
+      module _ (v : Value) (b : Atom) (value : Names (sc .rows) (length (sc .runs)) (v .row) (v .run) b)
+          (isNext : valuesFrom (sc .rows) (length (sc .runs)) (var .1) row run ≡ v ∷ valuesFrom (sc .rows) (length (sc .runs)) (var .1) (v .row) (suc (v .run))) where
+        may-take : MayTake (sc .rows) (length (sc .runs)) (its .y) v
+        may-take =
+            mem-candidates (sc .rows) (length (sc .runs)) (its .y) .0
+            (subst (λ (vs : List Value). List·Memᴰ v vs) (sym (trying .split)) (Memᴰ·append-right (trying .tried) (subst (λ (vs : List Value). List·Memᴰ v vs) (sym isNext) (first refl))))
+
+        -- its branches come next
+        pub trying-next : Passed sc left (below sc depth (branches sc d (suc k) a vs left-to-set)) (below sc depth (branches sc d (suc k) a (vs ++ (v ∷ [])) rest) ++ valuesOf sc depth d (suc k) a vs rest (valuesFrom (sc .rows) (length (sc .runs)) (var .1) (v .row) (suc (v .run)))) count
+        trying-next = subst (λ (es : List Entry). Passed sc left (below sc depth (branches sc d (suc k) a vs left-to-set)) es count) (ap (valuesOf sc depth d (suc k) a vs rest) isNext) (trying .passed)
+
+        -- and when they are passed the values behind it
+        pub trying-more : {count′ : ℕ} → Passed sc left (below sc depth (branches sc d (suc k) a vs left-to-set)) (valuesOf sc depth d (suc k) a vs rest (valuesFrom (sc .rows) (length (sc .runs)) (var .1) (v .row) (suc (v .run)))) count′ → Trying left depth (v .row) (suc (v .run)) count′
+        trying-more passed = record {
+          tried = trying .tried ++ (v ∷ []);
+          split = trying .split ∙ ap (λ (l : List Value). trying .tried ++ l) isNext ∙ sym (append-assoc (trying .tried) (v ∷ []) (valuesFrom (sc .rows) (length (sc .runs)) (var .1) (v .row) (suc (v .run))));
+          passed = passed;
+        }
+
+        -- the names and bytes with it
+        pub choosing-more : {more-names : List ℕ} {more-values : Values} → more-names ≡ set names (cellOf x (suc k)) (cellOf (v .row) (v .run)) → ValuesAre (vs ++ (v ∷ [])) more-values → Choosing sc d s a (suc x) (xs ++ (its .y ∷ [])) (vs ++ (v ∷ [])) more-names more-values
+        choosing-more put are = record {
+          setting = subst (λ (l : List ℕ). Setting sc d a (s .names) (suc x) (xs ++ (its .y ∷ [])) (vs ++ (v ∷ [])) l) (sym put)
+              (setting-more sc (move .here .given .good) d k a (move .next .isActive) (s .names) from xs vs names (choosing .setting) x (its .y) (its .low) (its .from-on) (its .isAtom) (its .isVariable) (its .unset) (its .first) v b value);
+          takes = takes-more (choosing .takes) may-take;
+          are = are;
+        }
