@@ -97,7 +97,7 @@ fn build_row(marks: &mut [bool], t: &[u8], n: usize, runs: usize, classes: &[u16
     }
 }
 
-// Marks what can be built among the rows below row r: first those below, then the row itself.
+// Marks what can be built among the rows below row r: first those below the last 16 of them, then these in order.
 fn build(marks: &mut [bool], t: &[u8], n: usize, runs: usize, classes: &[u16], r: usize)
     requires { ⌜ (length (now marks) ≡ cellCount) × (Shape (now t) n runs × ((length (now classes) ≡ cellCount) × (r ≤ n))) ⌝ }
     ensures { λ _. ⌜ Reaches (now (t .entry)) n runs (now (classes .entry)) (now (marks .entry)) (now (marks .exit)) ⌝ }
@@ -105,8 +105,15 @@ fn build(marks: &mut [bool], t: &[u8], n: usize, runs: usize, classes: &[u16], r
     if r == 0 {
         return;
     }
-    build(&mut marks[..], t, n, runs, classes, r - 1);
-    build_row(&mut marks[..], t, n, runs, classes, r - 1);
+    let mut y = 0;
+    if 16 < r {
+        build(&mut marks[..], t, n, runs, classes, r - 16);
+        y = r - 16;
+    }
+    while y < r {
+        build_row(&mut marks[..], t, n, runs, classes, y);
+        y += 1;
+    }
 }
 
 // Whether the inverse of a key is marked: the other key of that agent, or the key itself.
