@@ -270,14 +270,19 @@ fn agents_of(file: &[u8], r: Runs, u: usize) -> &[u8]
 }
 
 impl State {
+    // how many events a run has made before any move
+    pub const NONE_DONE: usize = 0;
+    // as a name or a class before any move: no value
+    pub const NO_VALUE: u16 = 480;
+
     // The state before any move: what is known is the file's list and all intruder constants.
     pub fn initial(file: &[u8], t: &[u8], n: usize, r: Runs, list: &[u8]) -> State
         requires { ⌜ ((sc : Scenario) × (Given (now file) (now t) n r sc × (now list ≡ sc .knowledge))) ⌝ }
         ensures { λ s. ⌜ ((sc : Scenario) → Given (now (file .entry)) (now (t .entry)) n r sc → now (list .entry) ≡ sc .knowledge → IsState sc (definitions.initial sc) s) ⌝ }
     {
         let runs = r.count;
-        let mut names = [480u16; 480];
-        let mut classes = [480u16; 480];
+        let mut names = [State::NO_VALUE; 480];
+        let mut classes = [State::NO_VALUE; 480];
         let mut u = 0;
         while u <= runs {
             let agents = agents_of(file, r, u);
@@ -288,7 +293,7 @@ impl State {
         }
         let marks = knowledge::settle(start_marks(t, n, list), t, n, runs, &classes);
         State {
-            done: [0; 4],
+            done: [State::NONE_DONE; 4],
             names,
             classes,
             marks,
