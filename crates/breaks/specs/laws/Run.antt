@@ -23,12 +23,12 @@ use Rattle.variables.specs.Variables.{unsetFrom}
 use Rattle.values.specs.Values.{Setting}
 use Rattle.values.specs.laws.Values.{setting-none, setting-all}
 use Rattle.values.specs.laws.Next.{nothing-set}
-use Rattle.search.specs.declared.Values.{Values}
-use Rattle.search.specs.declared.Walked.{Walked}
-use Rattle.search.specs.declared.Walked.the-variants.{Broken, Clean, Cut}
-use Rattle.search.specs.Walk.{Finds, below, branches, ValuesAre, Here, AtMove, Choosing, Chosen}
-use Rattle.search.specs.laws.Entries.{run-none, run-some}
-use Rattle.search.specs.laws.Walk.{finds-nil, finds-same}
+use Rattle.breaks.specs.declared.Values.{Values}
+use Rattle.breaks.specs.declared.Walked.{Walked}
+use Rattle.breaks.specs.declared.Walked.the-variants.{Broken, Clean, Cut}
+use Rattle.breaks.specs.Walk.{Finds, below, branches, ValuesAre, Here, AtMove, Choosing, Chosen}
+use Rattle.breaks.specs.laws.Entries.{run-none, run-some}
+use Rattle.breaks.specs.laws.Walk.{finds-nil, finds-same}
 
 module _ {file t : List ℕ} {n : ℕ} {r : Runs} {sc : Scenario} {d : State} {s : CodeState} {ms : List Move} {at : ℕ} (here : Here file t n r sc d s ms at) (k : ℕ) (low : k < r .count) where
   -- the run has made all its events

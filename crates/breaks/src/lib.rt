@@ -4,7 +4,7 @@ ghost use mathlib.Core.List.{List, [], _∷_, _++_};
 ghost use Prim.Native.Nat.{_+_, _*_, _<_, _≤_};
 ghost use lib.ListN.{length, take};
 ghost use Rattle.semantics.specs.State.{Value};
-ghost use Rattle.search.specs.Walk.{over, ValuesAre, ownBreak, placedLater, madeLonger};
+ghost use Rattle.breaks.specs.Walk.{over, ValuesAre, ownBreak, placedLater, madeLonger};
 use claims::Claim;
 use claims::ClaimKind;
 
@@ -31,7 +31,7 @@ pub struct Values {
 }
 
 // Writes a step at a place of the trace: run, count of new values, two bytes for each.
-fn write_step(trace: &mut [u8], at: usize, run: usize, values: Values)
+pub fn write_step(trace: &mut [u8], at: usize, run: usize, values: Values)
     requires { ⌜ (at + 2 + 2 * values .count ≤ length (now trace)) × ((values .count ≤ 8) × (run < 256)) ⌝ }
     ensures { λ _. ⌜ now (trace .exit) ≡ over (now (trace .entry)) at (run ∷ values .count ∷ take (2 * values .count) (values .bytes)) ⌝ }
 {
@@ -47,7 +47,7 @@ fn write_step(trace: &mut [u8], at: usize, run: usize, values: Values)
 }
 
 // The break of the first trace of a list, which has no bytes.
-fn own_break(claim: Claim) -> Break
+pub fn own_break(claim: Claim) -> Break
     ensures { λ b. ⌜ b ≡ ownBreak claim ⌝ }
 {
     let kind = claim.kind;
@@ -61,7 +61,7 @@ fn own_break(claim: Claim) -> Break
 }
 
 // A break that stands so many places later.
-fn later(b: Break, count: usize) -> Break
+pub fn later(b: Break, count: usize) -> Break
     requires { ⌜ (b .place < 4294967296) × (count < 4294967296) ⌝ }
     ensures { λ r. ⌜ r ≡ placedLater b count ⌝ }
 {
@@ -76,7 +76,7 @@ fn later(b: Break, count: usize) -> Break
 }
 
 // A break whose trace begins with so many bytes more.
-fn longer(b: Break, bytes: usize) -> Break
+pub fn longer(b: Break, bytes: usize) -> Break
     requires { ⌜ (b .length ≤ 128) × (bytes ≤ 18) ⌝ }
     ensures { λ r. ⌜ r ≡ madeLonger b bytes ⌝ }
 {
@@ -91,7 +91,7 @@ fn longer(b: Break, bytes: usize) -> Break
 }
 
 // No new values.
-fn no_values() -> Values
+pub fn no_values() -> Values
     ensures { λ v. ⌜ ValuesAre [] v ⌝ }
 {
     Values {
@@ -101,7 +101,7 @@ fn no_values() -> Values
 }
 
 // The values with one more, of row r and run w.
-fn with_value(values: Values, r: usize, w: usize) -> Values
+pub fn with_value(values: Values, r: usize, w: usize) -> Values
     requires { ⌜ (values .count < 8) × ((r < 256) × (w < 256)) ⌝ }
     ensures { λ v. ⌜ ((vs : List Value) → ValuesAre vs values → ValuesAre (vs ++ (record { row = r; run = w } ∷ [])) v) ⌝ }
 {

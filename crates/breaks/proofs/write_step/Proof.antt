@@ -6,10 +6,10 @@ use mathlib.Core.Path.{_≡_, refl, sym, ap, _∙_}
 use mathlib.Core.List.{List}
 use lib.ListN.{length, getD, take, set, length-set}
 use lib.Seq.{length-take-le}
-use Rattle.search.specs.Walk.{over}
-use Rattle.search.specs.laws.Bytes.{over-none, over-next, over-step, over-length}
-use Rattle.search.proofs.write_step.Statement.{statement}
-use Rattle.search.proofs.write_step.Tie as tie
+use Rattle.breaks.specs.Walk.{over}
+use Rattle.breaks.specs.laws.Bytes.{over-none, over-next, over-step, over-length}
+use Rattle.breaks.proofs.write_step.Statement.{statement}
+use Rattle.breaks.proofs.write_step.Tie as tie
 
 -- two stores keep the length
 lengths : (b : List ℕ) (i j x y : ℕ) → length (set (set b i x) j y) ≡ length b

@@ -21,10 +21,10 @@ use Rattle.state.specs.State.{Given, Due, IsState, NextMove, Sets}
 use Rattle.values.specs.Values.{Setting}
 use Rattle.claims.specs.declared.Claim.{Claim}
 use Rattle.claims.specs.Claims.{kindAs}
-use Rattle.search.specs.declared.Break.{Break}
-use Rattle.search.specs.declared.Values.{Values}
-use Rattle.search.specs.declared.Walked.{Walked}
-use Rattle.search.specs.declared.Walked.the-variants.{Broken, Clean, Cut}
+use Rattle.breaks.specs.declared.Break.{Break}
+use Rattle.breaks.specs.declared.Values.{Values}
+use Rattle.breaks.specs.declared.Walked.{Walked}
+use Rattle.breaks.specs.declared.Walked.the-variants.{Broken, Clean, Cut}
 
 -- whether the trace of an entry breaks a claim: its state says
 abbrev pub judged : Scenario → Entry → Option verdicts.Claim

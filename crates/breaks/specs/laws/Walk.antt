@@ -16,12 +16,12 @@ use Rattle.claims.specs.Claims.{claimAs, claimedAs}
 use Rattle.claims.specs.declared.Claim.{Claim}
 use Rattle.claims.specs.declared.Claimed.{Claimed}
 use Rattle.claims.specs.declared.Claimed.the-variants as claimed
-use Rattle.search.specs.declared.Walked.{Walked}
-use Rattle.search.specs.declared.Walked.the-variants.{Broken, Clean, Cut}
-use Rattle.search.specs.Walk.{judged, breakAs, walkedAs, over, bufferAs, Finds, ownBreak, below}
-use Rattle.search.specs.laws.Entries.{entries-leaf, entries-of, runsFrom, runs-all, runs-next, runs-end}
-use Rattle.search.specs.laws.Finds.{Passed, passed-none, passed-one, passed-all}
-use Rattle.search.specs.laws.Bytes.{over-none}
+use Rattle.breaks.specs.declared.Walked.{Walked}
+use Rattle.breaks.specs.declared.Walked.the-variants.{Broken, Clean, Cut}
+use Rattle.breaks.specs.Walk.{judged, breakAs, walkedAs, over, bufferAs, Finds, ownBreak, below}
+use Rattle.breaks.specs.laws.Entries.{entries-leaf, entries-of, runsFrom, runs-all, runs-next, runs-end}
+use Rattle.breaks.specs.laws.Finds.{Passed, passed-none, passed-one, passed-all}
+use Rattle.breaks.specs.laws.Bytes.{over-none}
 
 positive : (m : ℕ) → (m ≡ 0 → ⊥) → 0 < m
 positive m z = omega arith

@@ -29,13 +29,13 @@ use Rattle.variables.specs.laws.Values.{values-all}
 use Rattle.values.specs.Values.{Setting}
 use Rattle.values.specs.laws.Values.{setting-more, setting-all}
 use Rattle.values.specs.laws.Next.{no-more, Another, another}
-use Rattle.search.specs.declared.Values.{Values}
-use Rattle.search.specs.declared.Walked.{Walked}
-use Rattle.search.specs.declared.Walked.the-variants.{Broken, Clean, Cut}
-use Rattle.search.specs.Walk.{Finds, below, branches, ValuesAre, Here, AtMove, Choosing, Chosen}
-use Rattle.search.specs.laws.Entries.{valuesOf, branches-more, branches-pruned}
-use Rattle.search.specs.laws.Finds.{Passed, passed-none, passed-all}
-use Rattle.search.specs.laws.Walk.{finds-same}
+use Rattle.breaks.specs.declared.Values.{Values}
+use Rattle.breaks.specs.declared.Walked.{Walked}
+use Rattle.breaks.specs.declared.Walked.the-variants.{Broken, Clean, Cut}
+use Rattle.breaks.specs.Walk.{Finds, below, branches, ValuesAre, Here, AtMove, Choosing, Chosen}
+use Rattle.breaks.specs.laws.Entries.{valuesOf, branches-more, branches-pruned}
+use Rattle.breaks.specs.laws.Finds.{Passed, passed-none, passed-all}
+use Rattle.breaks.specs.laws.Walk.{finds-same}
 
 -- a variable, by its number and type
 variable-is : (y : Atom) → T (variableAtom y) → (num : ℕ) × (type : VariableType) × (y ≡ variable num type)

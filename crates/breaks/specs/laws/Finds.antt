@@ -7,11 +7,11 @@ use mathlib.Core.Option.{Option, none, some, Option·none-ne-some}
 use lib.ListN.{length, length-append}
 use Rattle.semantics.specs.Scenario.{Scenario}
 use Rattle.semantics.specs.Verdict.{Entry, Claim, Finding, found, nothing, cut, later, walked}
-use Rattle.search.specs.declared.Break.{Break}
-use Rattle.search.specs.declared.Walked.{Walked}
-use Rattle.search.specs.declared.Walked.the-variants.{Broken, Clean, Cut}
-use Rattle.search.specs.Walk.{judged, breakAs, walkedAs, bufferAs, Finds}
-use Rattle.search.specs.laws.Walked.{laterBy, continued, walked-append, nothing-within}
+use Rattle.breaks.specs.declared.Break.{Break}
+use Rattle.breaks.specs.declared.Walked.{Walked}
+use Rattle.breaks.specs.declared.Walked.the-variants.{Broken, Clean, Cut}
+use Rattle.breaks.specs.Walk.{judged, breakAs, walkedAs, bufferAs, Finds}
+use Rattle.breaks.specs.laws.Walked.{laterBy, continued, walked-append, nothing-within}
 
 -- what a walk answered, the other way round
 abbrev number-of : Walked → ℕ

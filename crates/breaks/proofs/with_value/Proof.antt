@@ -3,9 +3,9 @@ use native.Mathlib.Omega.{arith}
 use borrow.Author.Needs.{needs}
 use mathlib.Core.Path.{_≡_, refl}
 use lib.ListN.{length}
-use Rattle.search.specs.laws.Bytes.{values-more}
-use Rattle.search.proofs.with_value.Statement.{statement}
-use Rattle.search.proofs.with_value.Tie as tie
+use Rattle.breaks.specs.laws.Bytes.{values-more}
+use Rattle.breaks.proofs.with_value.Statement.{statement}
+use Rattle.breaks.proofs.with_value.Tie as tie
 
 returns : tie.Need-returns
 returns c vs are =

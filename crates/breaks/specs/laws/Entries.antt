@@ -13,7 +13,7 @@ use Rattle.semantics.specs.Moves.{Move, candidates, choices, performed, toSet, 
 use Rattle.semantics.specs.Tree.{listed}
 use Rattle.semantics.specs.Verdict.{Entry}
 use Rattle.semantics.specs.laws.Tree.{listed-zero, listed-suc}
-use Rattle.search.specs.Walk.{afterMove, below, branches}
+use Rattle.breaks.specs.Walk.{afterMove, below, branches}
 
 module _ {A B : Type 0} (f : A → List B) where
   joined-append : (xs ys : List A) → joined f (xs ++ ys) ≡ joined f xs ++ joined f ys

@@ -8,8 +8,8 @@ use lib.ListN.{length, getD, take, drop, set, length-append, length-take, length
 use lib.Seq.{take-suc, take-suc-set, take-set-le, drop-cons, length-take-le, set-at, take-at, drop-at, take-append-le, take-take, drop-drop, set-split}
 use Rattle.semantics.specs.State.{Value}
 use Rattle.semantics.specs.Verdict.{valueBytes}
-use Rattle.search.specs.declared.Values.{Values}
-use Rattle.search.specs.Walk.{over, ValuesAre}
+use Rattle.breaks.specs.declared.Values.{Values}
+use Rattle.breaks.specs.Walk.{over, ValuesAre}
 
 -- nothing is written at first
 pub over-none : (b : List ℕ) (at : ℕ) → over b at [] ≡ b

@@ -25,16 +25,16 @@ use Rattle.state.specs.declared.State.{State as CodeState}
 use Rattle.state.specs.declared.Moved.{Moved}
 use Rattle.state.specs.State.{IsState, Performed, isAllowed, notAllowed}
 use Rattle.claims.specs.Claims.{kindAs}
-use Rattle.search.specs.declared.Break.{Break}
-use Rattle.search.specs.declared.Values.{Values}
-use Rattle.search.specs.declared.Walked.{Walked}
-use Rattle.search.specs.declared.Walked.the-variants.{Broken, Clean, Cut}
-use Rattle.search.specs.Walk.{judged, breakAs, walkedAs, over, bufferAs, Finds, afterMove, below, branches, madeLonger, ValuesAre, Here, AtMove, Chosen}
-use Rattle.search.specs.laws.Walked.{changed, walked-map, found-within}
-use Rattle.search.specs.laws.Finds.{answer-clean, answer-cut, answer-broken}
-use Rattle.search.specs.laws.Entries.{branches-allowed, branches-refused}
-use Rattle.search.specs.laws.Bytes.{over-over}
-use Rattle.search.specs.laws.Walk.{finds-nil, finds-same}
+use Rattle.breaks.specs.declared.Break.{Break}
+use Rattle.breaks.specs.declared.Values.{Values}
+use Rattle.breaks.specs.declared.Walked.{Walked}
+use Rattle.breaks.specs.declared.Walked.the-variants.{Broken, Clean, Cut}
+use Rattle.breaks.specs.Walk.{judged, breakAs, walkedAs, over, bufferAs, Finds, afterMove, below, branches, madeLonger, ValuesAre, Here, AtMove, Chosen}
+use Rattle.breaks.specs.laws.Walked.{changed, walked-map, found-within}
+use Rattle.breaks.specs.laws.Finds.{answer-clean, answer-cut, answer-broken}
+use Rattle.breaks.specs.laws.Entries.{branches-allowed, branches-refused}
+use Rattle.breaks.specs.laws.Bytes.{over-over}
+use Rattle.breaks.specs.laws.Walk.{finds-nil, finds-same}
 
 -- the bytes of values, of a trace with one more move, and of a trace in two parts
 value-bytes : (vs : List Value) → length (valueBytes vs) ≡ 2 * length vs
