@@ -90,10 +90,14 @@ pub record Names (rows : List Row) (runs row run : ℕ) (b : Atom) : Type 0 wher
   pub isAtom : atomAt rows row ≡ some b
   pub canonical : Canonical b run
 
+-- row y with run v is not before row r with run w, in order of row and run
+abbrev pub NotBefore : ℕ → ℕ → ℕ → ℕ → Type 0
+NotBefore r w y v = (r < y) ⊎ ((r ≡ y) × (w ≤ v))
+
 -- the next value of a type, from a row and a run on
 pub data NextOf (rows : List Row) (runs : ℕ) (type : VariableType) (r w : ℕ) (next : NextValue) : Type 0 where
   hasNext :
-      (y v : ℕ) (b : Atom) → next ≡ isValue y v → Names rows runs y v b
+      (y v : ℕ) (b : Atom) → next ≡ isValue y v → Names rows runs y v b → NotBefore r w y v
       → valuesFrom rows runs type r w ≡ record { row = y; run = v } ∷ valuesFrom rows runs type y (suc v) → NextOf rows runs type r w next
   hasNone : next ≡ Nothing → valuesFrom rows runs type r w ≡ [] → NextOf rows runs type r w next
 

@@ -1,7 +1,8 @@
--- `variables::next_value` meets its contract. The loop's invariant: no value of the variable lies between the given row and run and row y with run v.
+-- `variables::next_value` meets its contract. The loop's invariant: row y with run v is not before the given row and run, and no value of the variable lies between the two.
 -- The measure is how many rows are left. Assumes nothing.
 use Prim.Native.Nat.{_-_, _≤_}
 use mathlib.Core.Path.{refl}
+use mathlib.Core.Logic.{inr}
 use Rattle.rows.specs.Rows.{rowsOf}
 use Rattle.variables.specs.laws.Spans.{Ahead, first-read, count-read, next-none, next-here, ahead-more}
 use native.Mathlib.Omega.{arith}
@@ -16,7 +17,7 @@ abbrev μ-loop : tie.MeasureT-loop
 μ-loop t n runs x r w fresh y₀ v₀ y v = n - y
 
 loop-holds : tie.Need-loop-holds Inv-loop μ-loop
-loop-holds c = (c .before .before .pre .1 .1, λ num type e. refl)
+loop-holds c = (c .before .before .pre .1 .1, record { later = inr (refl, omega arith); same = λ num type e. refl })
 
 returns : tie.Need-returns Inv-loop μ-loop
 returns c =

@@ -3,7 +3,7 @@ use Prim.Native.Nat.{ℕ, _+_, _-_, _*_, _<_, _≤_}
 use native.Mathlib.Numerals.{add-one}
 use native.Mathlib.Omega.{arith}
 use mathlib.Core.Path.{_≡_, refl, sym, ap, _∙_}
-use mathlib.Core.Logic.{_↔_}
+use mathlib.Core.Logic.{_↔_, inl, inr, ⊎-elim}
 use mathlib.Core.Bool.{Bool, true, false, cond}
 use mathlib.Core.List.{List, [], _∷_, List·Memᴰ}
 use mathlib.Core.Option.{some, Option·some-injective, Option·none-ne-some}
@@ -26,7 +26,7 @@ use Rattle.rows.specs.Rows.{rowsOf}
 use Rattle.rows.specs.laws.Decodes.{Decodes, isTrusted, isUntrusted, isGlobal, isIntruder, isRole, isAgentVariable, isFreshVariable, isLocal, isPk, isSk, isShared, isPair, isEncrypted}
 use Rattle.cells.specs.Cells.{Shape, Canonical}
 use Rattle.cells.specs.laws.Cells.{row-there, row-decodes}
-use Rattle.variables.specs.Variables.{isFresh, firstRun, runCount, Higher, valuesFrom, Names, NextOf, hasNext, hasNone, MayTake, takes, takesNot}
+use Rattle.variables.specs.Variables.{isFresh, firstRun, runCount, Higher, valuesFrom, Names, NotBefore, NextOf, hasNext, hasNone, MayTake, takes, takesNot}
 use Rattle.variables.specs.declared.NextValue.the-variants.{Value as isValue, Nothing}
 use Rattle.variables.specs.laws.Beneath.{passes-true}
 use Rattle.variables.specs.laws.Unset.{variable-kind}
@@ -170,9 +170,10 @@ fails-false : (b : Bool) → (T b → ⊥) → b ≡ false
 fails-false true h = absurd (h tt)
 fails-false false h = refl
 
--- no value of the variable of a row lies between two rows and runs
-abbrev pub Ahead : List Row → ℕ → ℕ → ℕ → ℕ → ℕ → ℕ → Type 0
-Ahead rows runs x r w y v = (num : ℕ) (type : VariableType) → atomAt rows x ≡ some (variable num type) → valuesFrom rows runs type r w ≡ valuesFrom rows runs type y v
+-- a row and a run that are not before others, with no value of the variable of a row between the two
+pub record Ahead (rows : List Row) (runs x r w y v : ℕ) : Type 0 where
+  pub later : NotBefore r w y v
+  pub same : (num : ℕ) (type : VariableType) → atomAt rows x ≡ some (variable num type) → valuesFrom rows runs type r w ≡ valuesFrom rows runs type y v
 
 module _ (bytes : List ℕ) (n runs : ℕ) (shape : Shape bytes n runs) (x : ℕ) (low : x < n) where
   -- the first run of a row, and how many runs it has, as a value of the variable
@@ -237,7 +238,7 @@ module _ (bytes : List ℕ) (n runs : ℕ) (shape : Shape bytes n runs) (x : ℕ
   module _ (r w y v : ℕ) (ahead : Ahead (rowsOf bytes) runs x r w y v) where
     -- behind the last row there is no value
     pub next-none : n ≤ y → (num : ℕ) (type : VariableType) → atomAt (rowsOf bytes) x ≡ some (variable num type) → NextOf (rowsOf bytes) runs type r w Nothing
-    next-none l num type e = hasNone refl (ahead num type e ∙ values-end (rowsOf bytes) runs type y v (omega (arith, shape .count)))
+    next-none l num type e = hasNone refl (ahead .same num type e ∙ values-end (rowsOf bytes) runs type y v (omega (arith, shape .count)))
 
     module _ (within : y < n) {first count m : ℕ} (f : first ≡ firstAt y) (c : count ≡ countAt y) (h : Higher v first m) where
       -- the next value is at the row
@@ -245,11 +246,14 @@ module _ (bytes : List ℕ) (n runs : ℕ) (shape : Shape bytes n runs) (x : ℕ
       next-here l num type e =
           let b = names-at y within m (omega arith) (omega arith) in
           let s : valuesAt runs type y (atomAt (rowsOf bytes) y) ≡ spanned y first count = rw (f, c) (values-at e y within) in
-          hasNext y m (b .0) refl (b .1)
-          (ahead num type e ∙ values-next (rowsOf bytes) runs type y v m (rw s (from-next y count (h .left) (h .right) l (h .one))))
+          hasNext y m (b .0) refl (b .1) (⊎-elim inl (λ q. inr (q .0, omega (arith, q .1, h .left))) (ahead .later))
+          (ahead .same num type e ∙ values-next (rowsOf bytes) runs type y v m (rw s (from-next y count (h .left) (h .right) l (h .one))))
 
       -- the row has no value left
       pub ahead-more : first + count ≤ m → Ahead (rowsOf bytes) runs x r w (y + 1) 0
-      ahead-more l num type e =
-          let s : valuesAt runs type y (atomAt (rowsOf bytes) y) ≡ spanned y first count = rw (f, c) (values-at e y within) in
-          rw (add-one y) (ahead num type e ∙ values-skip (rowsOf bytes) runs type y v (rw s (from-none y count l (h .one))))
+      ahead-more l = record {
+        later = inl (⊎-elim (λ (p : r < y). omega arith) (λ (q : (r ≡ y) × (w ≤ v)). omega arith) (ahead .later));
+        same = λ num type e.
+            let s : valuesAt runs type y (atomAt (rowsOf bytes) y) ≡ spanned y first count = rw (f, c) (values-at e y within) in
+            rw (add-one y) (ahead .same num type e ∙ values-skip (rowsOf bytes) runs type y v (rw s (from-none y count l (h .one))));
+      }

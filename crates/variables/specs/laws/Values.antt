@@ -1,5 +1,5 @@
 -- The values of a type in order of row and run, where those of a row are runs in a row. Assumes nothing.
-use Prim.Native.Nat.{ℕ, zero, suc, _+_, _-_, _<_, _≤_}
+use Prim.Native.Nat.{ℕ, zero, suc, _+_, _-_, _*_, _<_, _≤_}
 use native.Mathlib.Nat.{not-suc-le-zero}
 use native.Mathlib.Decide.{decLt}
 use native.Mathlib.Omega.{arith}
@@ -16,7 +16,7 @@ use Rattle.semantics.specs.Table.{Row}
 use Rattle.semantics.specs.Runs.{atomAt}
 use Rattle.semantics.specs.State.{Value}
 use Rattle.semantics.specs.Moves.{valuesAt, valuesOfType, candidates}
-use Rattle.variables.specs.Variables.{valuesFrom}
+use Rattle.variables.specs.Variables.{valuesFrom, NotBefore}
 
 -- a row with a run
 abbrev pub valueAt : ℕ → ℕ → Value
@@ -109,3 +109,7 @@ module _ (rows : List Row) (runs : ℕ) (type : VariableType) where
 pub values-all : (rows : List Row) (runs num : ℕ) (type : VariableType) → candidates rows runs (variable num type) ≡ valuesFrom rows runs type 0 0
 unfolding candidates valuesOfType
 values-all rows runs num type = let z : length rows ≡ length rows - 0 = omega arith in ap (λ (k : ℕ). joined (here rows runs type) (numbersFrom 0 k)) z ∙ later-values rows runs type 0
+
+-- behind a value that is not before row r with run w, fewer rows and runs are left than there
+pub value-falls : (n r w y v : ℕ) → NotBefore r w y v → y < n → v ≤ 4 → (n - y) * 6 + (6 - (v + 1)) < (n - r) * 6 + (6 - w)
+value-falls n r w y v h l few = ⊎-elim (λ (p : r < y). omega arith) (λ (p : (r ≡ y) × (w ≤ v)). omega arith) h
