@@ -18,6 +18,7 @@ use Rattle.semantics.specs.Moves.{Move, candidates, toSet}
 use Rattle.semantics.specs.Verdict.{Entry}
 use Rattle.semantics.specs.Allowed.{MayTake, Takes, takesNone, takesMore}
 use Rattle.semantics.specs.laws.Moves.{mem-candidates}
+use Rattle.semantics.specs.laws.Bytes.{set-few}
 use Rattle.rows.specs.Rows.{rowsOf}
 use Rattle.cells.specs.Cells.{cellOf}
 use Rattle.runs.specs.declared.RunEvent.{RunEvent}
@@ -82,6 +83,12 @@ module _ {file t : List ℕ} {n : ℕ} {r : Runs} {sc : Scenario} {d : State} {s
 
     pub var : (num : ℕ) × (type : VariableType) × (its .y ≡ variable num type)
     var = variable-is (its .y) (its .isVariable)
+
+    -- fewer than 8 values are chosen, so there is room for its value
+    pub few-values : values .count < 8
+    few-values =
+        let many : length (toSet sc a) ≡ length xs + suc (length rest) = ap length (choosing .setting .split ∙ ap (λ (l : List Atom). xs ++ l) (its .first)) ∙ length-append xs (its .y ∷ rest) in
+        omega (arith, set-few sc (move .here .given .good) a, choosing .setting .many, choosing .are .many)
 
     -- the values tried so far
     pub record Trying (left depth row run count : ℕ) : Type 0 where

@@ -1,4 +1,4 @@
--- The length of a trace: it fits its buffer. Assumes nothing.
+-- How many variables an event sets, and the length of a trace: it fits its buffer. Assumes nothing.
 use Prim.Native.Nat.{ℕ, zero, suc, _+_, _-_, _*_, _≤_, zero-le}
 use native.Mathlib.Nat.{mul-suc}
 use native.Mathlib.Omega.{arith}
@@ -16,8 +16,8 @@ use Rattle.semantics.specs.Value.{beneath}
 use Rattle.semantics.specs.Roles.{EventKind, send, read, claim, Role}
 use Rattle.semantics.specs.Runs.{Run, atomOf, atomAt}
 use Rattle.semantics.specs.Scenario.{Scenario}
-use Rattle.semantics.specs.State.{Value, Progress, State, assigned, atomsOf, initial, eventsOf, unsetBeneath, newVariables, paired}
-use Rattle.semantics.specs.Moves.{Move, setAfter, advanced}
+use Rattle.semantics.specs.State.{Value, Progress, State, Active, assigned, atomsOf, initial, eventsOf, unsetBeneath, newVariables, paired}
+use Rattle.semantics.specs.Moves.{Move, toSet, setAfter, advanced}
 use Rattle.semantics.specs.Tree.{Follows, stays, moves}
 use Rattle.semantics.specs.Verdict.{valueBytes, moveBytes, traceBytes}
 use Rattle.semantics.specs.Allowed.{Takes, Step, step, AllowedTrace}
@@ -86,13 +86,24 @@ variable-rows (sharedOf a b ∷ rows) = variable-rows rows
 variable-rows (pairOf l r ∷ rows) = variable-rows rows
 variable-rows (encryptedOf l r ∷ rows) = variable-rows rows
 
--- at the start no more variables are to set than a table may have
-unset-start : {rows : List Row} → GoodTable rows → unset rows [] ≤ mostVariables
+-- no more variables are to set than a table may have
+unset-few : {rows : List Row} → GoodTable rows → (sets : List (Atom × Value)) → unset rows sets ≤ mostVariables
 unfolding atomsOf
-unset-start {rows} good =
-    let fewer = keep-fewer variableAtom (isUnset []) (λ a. both-left (variableAtom a) (not (present (assigned a [])))) (atomsOf rows) in
+unset-few {rows} good sets =
+    let fewer = keep-fewer variableAtom (isUnset sets) (λ a. both-left (variableAtom a) (not (present (assigned a sets)))) (atomsOf rows) in
     let same : length (keep variableAtom (atomsOf rows)) ≡ length (keep variableRow rows) = rw (map-places atomOf rows) (variable-rows rows) in
     omega (arith, good .fewVariables)
+
+-- an event sets no more variables than are not set
+new-unset : (rows : List Row) (sets : List (Atom × Value)) (kind : EventKind) (row : ℕ) → length (newVariables rows sets kind row) ≤ unset rows sets
+unfolding newVariables unsetBeneath atomsOf
+new-unset rows sets send row = zero-le
+new-unset rows sets read row = omega (arith, keep-apart (atomAt rows) (λ x. beneath rows x row) (isUnset sets) (λ a. false) (λ a t. absurd t) (numbersFrom 0 (length rows)) (λ x a m b f t n. n))
+new-unset rows sets claim row = zero-le
+
+-- A run's next event sets no more variables than a table may have.
+pub set-few : (sc : Scenario) → Guarantee sc → (a : Active) → length (toSet sc a) ≤ mostVariables
+set-few sc g a = omega (arith, new-unset (sc .rows) (a .progress .values) (a .event .kind) (a .event .row), unset-few (g .table) (a .progress .values))
 
 -- a run has no more events than a role may have
 events-few : (sc : Scenario) → Guarantee sc → (run : Run) → length (eventsOf sc run) ≤ mostEvents
@@ -157,5 +168,5 @@ pub trace-bytes : (sc : Scenario) → Guarantee sc → (ms : List Move) (s : Sta
 unfolding initial
 trace-bytes sc g ms s t =
     let l = follows-bytes t in
-    let most = together-most (bytesLeft sc) (sc .runs) unmoved (2 * mostEvents + 2 * mostVariables) (λ run. let e = events-few sc g run in let v = unset-start (g .table) in omega arith) in
+    let most = together-most (bytesLeft sc) (sc .runs) unmoved (2 * mostEvents + 2 * mostVariables) (λ run. let e = events-few sc g run in let v = unset-few (g .table) [] in omega arith) in
     omega (arith, g .fewRuns)
