@@ -11,7 +11,7 @@ use Rattle.breaks.specs.declared.Break.{Break}
 use Rattle.breaks.specs.declared.Walked.{Walked}
 use Rattle.breaks.specs.declared.Walked.the-variants.{Broken, Clean, Cut}
 use Rattle.breaks.specs.Walk.{judged, breakAs, walkedAs, bufferAs, Finds}
-use Rattle.breaks.specs.laws.Walked.{laterBy, continued, walked-append, nothing-within}
+use Rattle.breaks.specs.laws.Walked.{laterBy, continued, walked-append, nothing-within, found-within}
 
 -- what a walk answered, the other way round
 abbrev number-of : Walked → ℕ
@@ -43,6 +43,12 @@ pub answer-broken : (es : List Entry) (f : Finding) {b : Break} → Broken b ≡
 answer-broken es (found p e c) {b} q = (p, e, c, refl, ap (break-of b) q)
 answer-broken es nothing q = let z : _≡_ {A = ℕ} 0 1 = ap which q in absurd (omega arith)
 answer-broken es cut q = let z : _≡_ {A = ℕ} 0 2 = ap which q in absurd (omega arith)
+
+-- a break stands at a place within the budget
+pub broken-place : (sc : Scenario) (left : ℕ) (es : List Entry) {before after : List ℕ} {at : ℕ} {w : Walked} → Finds sc left es before at after w → {b : Break} → w ≡ Broken b → b .place ≤ left
+broken-place sc left es finds {b} e =
+    let a = answer-broken es (walked (judged sc) left es) (sym e ∙ finds .answer) in
+    omega (arith, ap (λ (x : Break). x .place) (a .4), found-within (judged sc) left es (a .3) .0)
 
 -- the entries that were walked through so far, without a break
 pub record Passed (sc : Scenario) (left : ℕ) (all rest : List Entry) (count : ℕ) : Type 0 where

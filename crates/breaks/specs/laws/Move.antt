@@ -18,7 +18,8 @@ use Rattle.semantics.specs.Allowed.{Takes, Step, step, AllowedTrace}
 use Rattle.semantics.specs.Guarantee.{Guarantee}
 use Rattle.semantics.specs.laws.Tree.{follows-append, follows-map, listed-sound}
 use Rattle.semantics.specs.laws.Moves.{performed-exact, moves-exact}
-use Rattle.semantics.specs.laws.Bytes.{trace-bytes}
+use Rattle.semantics.specs.laws.Reached.{takes-length}
+use Rattle.semantics.specs.laws.Bytes.{set-few, trace-bytes}
 use Rattle.runs.specs.declared.RunEvent.{RunEvent}
 use Rattle.runs.specs.declared.Runs.{Runs}
 use Rattle.state.specs.declared.State.{State as CodeState}
@@ -33,7 +34,7 @@ use Rattle.breaks.specs.Walk.{judged, breakAs, walkedAs, over, bufferAs,
 use Rattle.breaks.specs.laws.Walked.{changed, walked-map, found-within}
 use Rattle.breaks.specs.laws.Finds.{answer-clean, answer-cut, answer-broken}
 use Rattle.breaks.specs.laws.Entries.{branches-allowed, branches-refused}
-use Rattle.breaks.specs.laws.Bytes.{over-over}
+use Rattle.breaks.specs.laws.Bytes.{over-length, over-over}
 use Rattle.breaks.specs.laws.Walk.{finds-nil, finds-same}
 
 -- the bytes of values, of a trace with one more move, and of a trace in two parts
@@ -63,6 +64,10 @@ pub performed-yes : {sc : Scenario} {d : State} {a : Active} {vs : List Value} {
 performed-yes (isAllowed {d′} e f g) h = (d′, f, g)
 performed-yes (notAllowed e f) h = absurd (true≢false (sym h ∙ e))
 
+-- a trace's end is within the longest trace
+pub place-low : {file t : List ℕ} {n : ℕ} {r : Runs} {sc : Scenario} {d : State} {s : CodeState} {ms : List Move} {at : ℕ} → Here file t n r sc d s ms at → at ≤ mostTraceBytes
+place-low {sc = sc} {d = d} {ms = ms} here = omega (arith, here .place, trace-bytes sc (here .given .good) ms d (here .allowed))
+
 module _ {file t : List ℕ} {n : ℕ} {r : Runs} {sc : Scenario} {d : State} {s : CodeState} {ms : List Move} {at k : ℕ} {e : RunEvent} {a : Active} (move : AtMove file t n r sc d s ms at k e a)
     {vs : List Value} {names : List ℕ} {values : Values} (chosen : Chosen sc d a e vs names values) where
   abbrev pub taken : Move
@@ -72,8 +77,12 @@ module _ {file t : List ℕ} {n : ℕ} {r : Runs} {sc : Scenario} {d : State} {s
   pub step-size : {bytes : ℕ} → bytes ≡ 2 + 2 * values .count → bytes ≡ length (moveBytes taken)
   step-size e = omega (arith, chosen .are .many, value-bytes vs)
 
-  pub step-bytes : suc k ∷ values .count ∷ take (2 * values .count) (values .bytes) ≡ moveBytes taken
-  step-bytes = λ i. suc k ∷ chosen .are .many i ∷ chosen .are .written i
+  pub step-bytes : (k + 1) ∷ values .count ∷ take (2 * values .count) (values .bytes) ≡ moveBytes taken
+  step-bytes = λ i. add-one k i ∷ chosen .are .many i ∷ chosen .are .written i
+
+  -- they are at most eight
+  pub few-chosen : values .count ≤ 8
+  few-chosen = omega (arith, chosen .are .many, takes-length (chosen .takes), set-few sc (move .here .given .good) a)
 
   -- a move that is not allowed
   pub move-refused : (left depth : ℕ) {moved : Moved} → Performed sc d a vs moved → moved .allowed ≡ false → (b : List ℕ) → Finds sc left (below sc depth (branches sc d (suc k) a vs [])) b at b (Clean 0)
@@ -149,8 +158,11 @@ module _ {file t : List ℕ} {n : ℕ} {r : Runs} {sc : Scenario} {d : State} {s
           written = finds .buffer ∙ ap (bufferAs b at′) (y .3);
         }
 
+    pub below-room : {x : Break} → Below x → mostTraceBytes ≤ length b → at′ ≡ at + length (moveBytes taken) → length b′ ≡ length b
+    below-room y room start = ap length (y .written) ∙ over-length b at′ (traceBytes (y .entry .0)) (omega (arith, start, y .fits))
+
     -- the break with the step written in front
-    pub move-broken : {x : Break} → Below x → mostTraceBytes ≤ length b → {bytes : ℕ} → bytes ≡ 2 + 2 * values .count → at′ ≡ at + bytes → (b″ : List ℕ) → b″ ≡ over b′ at (suc k ∷ values .count ∷ take (2 * values .count) (values .bytes))
+    pub move-broken : {x : Break} → Below x → mostTraceBytes ≤ length b → {bytes : ℕ} → bytes ≡ 2 + 2 * values .count → at′ ≡ at + bytes → (b″ : List ℕ) → b″ ≡ over b′ at ((k + 1) ∷ values .count ∷ take (2 * values .count) (values .bytes))
         → Finds sc left (below sc depth (branches sc d (suc k) a vs [])) b at b″ (Broken (madeLonger x bytes))
     move-broken {x} y room {bytes} size end b″ wrote =
         let is-found = mapped-walk ∙ ap (changed (judged sc) (afterMove taken)) (y .isFound) in

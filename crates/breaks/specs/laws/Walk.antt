@@ -1,5 +1,6 @@
 -- The walk from a state: its own trace, then those that go on with each run in order. Assumes nothing.
 use Prim.Native.Nat.{ℕ, zero, suc, _+_, _*_, _-_, _<_, _≤_}
+use native.Mathlib.Numerals.{add-one}
 use native.Mathlib.Omega.{arith}
 use mathlib.Core.Path.{_≡_, refl, sym, ap, _∙_, subst}
 use mathlib.Core.Bool.{Bool, true, false}
@@ -112,8 +113,9 @@ module _ (sc : Scenario) (left : ℕ) (d : State) (b : List ℕ) (at : ℕ) wher
 
 -- one run after the other
 module _ (sc : Scenario) (left n : ℕ) (d : State) {all : List Entry} {k count : ℕ} (passed : Passed sc left all (runsFrom sc n d k) count) where
-  pub walk-next : k < length (sc .runs) → Passed sc left all (below sc n (movesOfRun sc d (suc k) (active sc d (suc k))) ++ runsFrom sc n d (suc k)) count
-  walk-next l = subst (λ (es : List Entry). Passed sc left all es count) (runs-next sc n d k l) passed
+  pub walk-next : k < length (sc .runs) → Passed sc left all (below sc n (movesOfRun sc d (suc k) (active sc d (suc k))) ++ runsFrom sc n d (k + 1)) count
+  walk-next l =
+      subst (λ (m : ℕ). Passed sc left all (below sc n (movesOfRun sc d (suc k) (active sc d (suc k))) ++ runsFrom sc n d m) count) (sym (add-one k)) (subst (λ (es : List Entry). Passed sc left all es count) (runs-next sc n d k l) passed)
 
   pub walk-end : length (sc .runs) ≤ k → (b : List ℕ) (at : ℕ) → Finds sc left all b at b (Clean count)
   walk-end l b at = passed-all sc left (subst (λ (es : List Entry). Passed sc left all es count) (runs-end sc n d k l) passed) b at

@@ -1,0 +1,258 @@
+// Search: the walk through the list of allowed traces in its order.
+ghost use mathlib.Core.List.{List, []};
+ghost use Prim.Native.Nat.{ℕ, suc, _<_, _≤_};
+ghost use mathlib.Core.Path.{_≡_};
+ghost use lib.ListN.{length};
+ghost use Rattle.semantics.specs.Term.{Atom};
+ghost use Rattle.semantics.specs.Scenario.{Scenario};
+ghost use Rattle.semantics.specs.State as definitions;
+ghost use Rattle.semantics.specs.State.{Value, Active, active};
+ghost use Rattle.semantics.specs.Moves.{Move, movesOf, movesOfRun};
+ghost use Rattle.semantics.specs.Tree.{listed};
+ghost use Rattle.rows.specs.Rows.{rowsOf};
+ghost use Rattle.variables.specs.Variables.{Beneath, unsetFrom};
+ghost use Rattle.breaks.specs.Walk.{below, branches, Finds, Here, AtMove, Choosing, Chosen, SomeChoice, SomeMove};
+use breaks::Break;
+use breaks::Values;
+use breaks::Walked;
+use claims::Claimed;
+use runs::RunEvent;
+use runs::Runs;
+use state::State;
+use variables::NextValue;
+
+// Walks through the traces from a state on, `depth` moves deep; `at` is where its own trace ends.
+pub fn walk(
+    trace: &mut [u8],
+    file: &[u8],
+    t: &[u8],
+    n: usize,
+    r: Runs,
+    s: State,
+    left: usize,
+    at: usize,
+    depth: usize,
+) -> Walked
+    requires { ⌜ ((sc : Scenario) × (d : definitions.State) × (ms : List Move) × Here (now file) (now t) n r sc d s ms at) × ((128 ≤ length (now trace)) × (left < 4294967296)) ⌝ }
+    ensures { λ w. ⌜ ((sc : Scenario) (d : definitions.State) (ms : List Move) → Here (now (file .entry)) (now (t .entry)) n r sc d s ms at → Finds sc left (listed (movesOf sc) depth d) (now (trace .entry)) at (now (trace .exit)) w) ⌝ }
+{
+    if left == 0 {
+        return Walked::Cut;
+    }
+    let claimed = claims::broken(file, t, n, r, s);
+    match claimed {
+        Claimed::Broken(claim) => {
+            return Walked::Broken(breaks::own_break(claim));
+        }
+        Claimed::Nothing => {}
+    }
+    let mut count = 1;
+    if depth == 0 {
+        return Walked::Clean(count);
+    }
+    let mut k = 0;
+    while k < r.count {
+        let found = walk_run(trace, file, t, n, r, s, left - count, at, depth - 1, k);
+        match found {
+            Walked::Broken(b) => {
+                return Walked::Broken(breaks::later(b, count));
+            }
+            Walked::Clean(m) => {
+                count += m;
+            }
+            Walked::Cut => {
+                return Walked::Cut;
+            }
+        }
+        k += 1;
+    }
+    Walked::Clean(count)
+}
+
+// Walks through the traces that go on with run k.
+fn walk_run(
+    trace: &mut [u8],
+    file: &[u8],
+    t: &[u8],
+    n: usize,
+    r: Runs,
+    s: State,
+    left: usize,
+    at: usize,
+    depth: usize,
+    k: usize,
+) -> Walked
+    requires { ⌜ ((sc : Scenario) × (d : definitions.State) × (ms : List Move) × Here (now file) (now t) n r sc d s ms at) × ((128 ≤ length (now trace)) × ((left < 4294967296) × (k < r .count))) ⌝ }
+    ensures { λ w. ⌜ ((sc : Scenario) (d : definitions.State) (ms : List Move) → Here (now (file .entry)) (now (t .entry)) n r sc d s ms at → Finds sc left (below sc depth (movesOfRun sc d (suc k) (active sc d (suc k)))) (now (trace .entry)) at (now (trace .exit)) w) ⌝ }
+{
+    let names = s.names;
+    let j = s.done[k];
+    if r.events[k] <= j {
+        return Walked::Clean(0);
+    }
+    let e = runs::event_of(file, r, k, j);
+    if e.kind == 1 {
+        let under = variables::beneath(t, n, e.row);
+        return walk_values(
+            trace,
+            file,
+            t,
+            n,
+            r,
+            s,
+            left,
+            at,
+            depth,
+            k,
+            e,
+            under,
+            names,
+            0,
+            breaks::no_values(),
+        );
+    }
+    walk_move(
+        trace,
+        file,
+        t,
+        n,
+        r,
+        s,
+        left,
+        at,
+        depth,
+        k,
+        e,
+        names,
+        breaks::no_values(),
+    )
+}
+
+// Walks through the traces that go on with the read of run k, its variables of rows below `from` having values.
+fn walk_values(
+    trace: &mut [u8],
+    file: &[u8],
+    t: &[u8],
+    n: usize,
+    r: Runs,
+    s: State,
+    left: usize,
+    at: usize,
+    depth: usize,
+    k: usize,
+    e: RunEvent,
+    under: [bool; 96],
+    names: [u16; 480],
+    from: usize,
+    values: Values,
+) -> Walked
+    requires { ⌜ SomeChoice (now file) (now t) n r s at k e from names values × (Beneath (rowsOf (now t)) (e .row) under × ((128 ≤ length (now trace)) × ((left < 4294967296) × ((from ≤ n) × (e .kind ≡ 1))))) ⌝ }
+    ensures { λ w. ⌜ ((sc : Scenario) (d : definitions.State) (ms : List Move) (a : Active) (xs : List Atom) (vs : List Value) → AtMove (now (file .entry)) (now (t .entry)) n r sc d s ms at k e a → Choosing sc d s a from xs vs names values → Finds sc left (below sc depth (branches sc d (suc k) a vs (unsetFrom (sc .rows) (a .progress .values) (a .event .row) from))) (now (trace .entry)) at (now (trace .exit)) w) ⌝ }
+{
+    let own = s.names;
+    let x = variables::next_unset(t, n, &own, &under, k + 1, from);
+    if x == n {
+        return walk_move(
+            trace,
+            file,
+            t,
+            n,
+            r,
+            s,
+            left,
+            at,
+            depth,
+            k,
+            e,
+            names,
+            values,
+        );
+    }
+    if !partial::may_be_read(s, names, t, n, r.count, k, e) {
+        return Walked::Clean(0);
+    }
+    let mut count = 0;
+    let mut row = 0;
+    let mut run = 0;
+    loop {
+        let next = variables::next_value(t, n, r.count, x, row, run);
+        match next {
+            NextValue::Nothing => {
+                return Walked::Clean(count);
+            }
+            NextValue::Value { row: y, run: w } => {
+                let more = values::put(names, x, k + 1, y, w);
+                let found = walk_values(
+                    trace,
+                    file,
+                    t,
+                    n,
+                    r,
+                    s,
+                    left - count,
+                    at,
+                    depth,
+                    k,
+                    e,
+                    under,
+                    more,
+                    x + 1,
+                    breaks::with_value(values, y, w),
+                );
+                match found {
+                    Walked::Broken(b) => {
+                        return Walked::Broken(breaks::later(b, count));
+                    }
+                    Walked::Clean(m) => {
+                        count += m;
+                    }
+                    Walked::Cut => {
+                        return Walked::Cut;
+                    }
+                }
+                row = y;
+                run = w + 1;
+            }
+        }
+    }
+}
+
+// Walks through the traces that go on with the next event of run k, all its variables having values.
+fn walk_move(
+    trace: &mut [u8],
+    file: &[u8],
+    t: &[u8],
+    n: usize,
+    r: Runs,
+    s: State,
+    left: usize,
+    at: usize,
+    depth: usize,
+    k: usize,
+    e: RunEvent,
+    names: [u16; 480],
+    values: Values,
+) -> Walked
+    requires { ⌜ SomeMove (now file) (now t) n r s at k e names values × ((128 ≤ length (now trace)) × (left < 4294967296)) ⌝ }
+    ensures { λ w. ⌜ ((sc : Scenario) (d : definitions.State) (ms : List Move) (a : Active) (vs : List Value) → AtMove (now (file .entry)) (now (t .entry)) n r sc d s ms at k e a → Chosen sc d a e vs names values → Finds sc left (below sc depth (branches sc d (suc k) a vs [])) (now (trace .entry)) at (now (trace .exit)) w) ⌝ }
+{
+    let moved = state::perform(s, names, t, n, r.count, k, e);
+    if moved.allowed {
+        let after = moved.state;
+        let bytes = 2 + 2 * values.count;
+        let found = walk(trace, file, t, n, r, after, left, at + bytes, depth);
+        match found {
+            Walked::Broken(b) => {
+                breaks::write_step(trace, at, k + 1, values);
+                return Walked::Broken(breaks::longer(b, bytes));
+            }
+            Walked::Clean(m) => {
+                return Walked::Clean(m);
+            }
+            Walked::Cut => {
+                return Walked::Cut;
+            }
+        }
+    }
+    Walked::Clean(0)
+}
