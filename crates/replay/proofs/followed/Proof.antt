@@ -9,9 +9,9 @@ use Rattle.semantics.specs.Answer.{accepted}
 use Rattle.semantics.specs.Scenario.{Scenario, opened}
 use Rattle.runs.specs.laws.Blocks.{opened-framed}
 use Rattle.state.specs.State.{Given}
-use Rattle.state.specs.laws.Given.{opened-knowledge}
+use Rattle.state.specs.laws.Given.{opened-knowledge, given-layout}
 use Rattle.replay.specs.Replay.{replayedAs}
-use Rattle.replay.specs.laws.Follow.{given-layout, Followed, follow-start, follow-end, follow-refused, follow-size, follow-on, claim-broken, claim-none}
+use Rattle.replay.specs.laws.Follow.{Followed, follow-start, follow-end, follow-refused, follow-size, follow-on, claim-broken, claim-none}
 use Rattle.replay.proofs.followed.Statement.{statement}
 use Rattle.replay.proofs.followed.Tie as tie
 

@@ -2,7 +2,8 @@
 use borrow.Author.Needs.{needs}
 use mathlib.Core.Path.{sym, ap, _∙_}
 use Rattle.replay.specs.Replay.{replayedAs}
-use Rattle.replay.specs.laws.Follow.{replayed-accepted, replayed-refused, layout-accepted}
+use Rattle.scenario.specs.laws.Open.{layout-accepted}
+use Rattle.replay.specs.laws.Follow.{replayed-accepted, replayed-refused}
 use Rattle.replay.proofs.replay.Statement.{statement}
 use Rattle.replay.proofs.replay.Tie as tie
 

@@ -11,7 +11,7 @@ use lib.Seq.{take-all, drop-drop}
 use borrow.Author.Tests.{leb-true}
 use Rattle.semantics.specs.Basic.{provided}
 use Rattle.semantics.specs.Answer.{Answer, refused, accepted, refuse, _>>=_}
-use Rattle.semantics.specs.Scenario.{Scenario, termPart, opened}
+use Rattle.semantics.specs.Scenario.{Scenario, opened}
 use Rattle.semantics.specs.State.{State, initial}
 use Rattle.semantics.specs.Moves.{Move}
 use Rattle.semantics.specs.Replay.{after, valuesIn, firstStep, replayedFrom, replayed}
@@ -20,13 +20,9 @@ use Rattle.semantics.specs.Verdict.{broken}
 use Rattle.claims.specs.Claims.{claimedAs}
 use Rattle.claims.specs.declared.Claim.{Claim}
 use Rattle.claims.specs.declared.Claimed.the-variants as claimed
-use Rattle.runs.specs.Runs.{RunsAt}
-use Rattle.runs.specs.declared.Runs.{Runs}
-use Rattle.scenario.specs.Opened.{layoutOf, openedAs}
-use Rattle.scenario.specs.declared.Layout.{Layout}
+use Rattle.scenario.specs.Opened.{openedAs}
 use Rattle.scenario.specs.declared.Opened.the-variants as opening
-use Rattle.state.specs.State.{Given, IsState}
-use Rattle.state.specs.laws.Given.{given-accepted}
+use Rattle.state.specs.State.{IsState}
 use Rattle.state.specs.declared.State.{State as CodeState}
 use Rattle.replay.specs.declared.Stepped.{Stepped}
 use Rattle.replay.specs.declared.Replayed.the-variants.{Refused, Broken, NoClaim}
@@ -91,10 +87,6 @@ taken-size sc d d′ bytes size e = go (firstStep bytes) refl e
         let w = step-size bytes step h in
         let s = inner (step .1) (after sc d (step .0)) q in
         (omega arith, omega arith)
-
--- what an accepted file gives, as the code has it
-pub given-layout : (file : List ℕ) (sc : Scenario) → opened file ≡ accepted sc → {l : Layout} → l ≡ layoutOf file sc → {r : Runs} → RunsAt file sc r → {t : List ℕ} → t ≡ termPart file .bytes → Given file t (l .terms .count) r sc
-given-layout file sc o e {r} runs bytes = given-accepted file sc o r runs (ap (λ (x : Layout). x .terms .count) e) bytes
 
 -- a trace followed up to a place, at which the code has a state: what is left of it decides
 pub record Followed (sc : Scenario) (trace : List ℕ) (at : ℕ) (s : CodeState) : Type 0 where
@@ -172,14 +164,6 @@ module _ (file trace : List ℕ) where
           → Refused number place ≡ replayedAs (_>>=_ a (λ sc. _>>=_ (replayedFrom (length trace) sc 0 (initial sc) trace) (λ d. accepted (broken sc d))))
       go (refused r) q = cc
       go (accepted sc) q = let z : _≡_ {A = ℕ} 0 1 = cc in absurd (omega arith)
-
--- where Open accepts, there is a scenario with that layout
-pub layout-accepted : (file : List ℕ) {l : Layout} → opening.Accepted l ≡ openedAs file (opened file) → (sc : Scenario) × (opened file ≡ accepted sc) × (l ≡ layoutOf file sc)
-layout-accepted file {l} e = go (opened file) refl e
-  where
-    go : (a : Answer Scenario) → opened file ≡ a → opening.Accepted l ≡ openedAs file a → (sc : Scenario) × (opened file ≡ accepted sc) × (l ≡ layoutOf file sc)
-    go (refused r) o q = let z : _≡_ {A = ℕ} 0 1 = cc in absurd (omega arith)
-    go (accepted sc) o q = (sc, o, cc)
 
 -- the answer by the claim broken
 pub claim-broken : (sc : Scenario) (trace : List ℕ) (d : State) {c : Claim} → claimedAs (broken sc d) ≡ claimed.Broken c → followedOf sc trace ≡ accepted (broken sc d) → Broken c ≡ replayedAs (followedOf sc trace)

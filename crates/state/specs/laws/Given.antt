@@ -11,6 +11,8 @@ use Rattle.semantics.specs.laws.Open.{opened-inverts, opened-guarantee}
 use Rattle.rows.specs.Rows.{rowsOf}
 use Rattle.rows.specs.laws.Decodes.{table-good, table-length}
 use Rattle.table.specs.laws.Table.{accepted-table}
+use Rattle.scenario.specs.Opened.{layoutOf}
+use Rattle.scenario.specs.declared.Layout.{Layout}
 use Rattle.runs.specs.declared.Runs.{Runs}
 use Rattle.runs.specs.Runs.{RunsAt}
 use Rattle.runs.specs.laws.Blocks.{opened-framed}
@@ -45,3 +47,7 @@ module _ (file : List ℕ) (sc : Scenario) (isOpened : opened file ≡ accepted 
         rows = rows;
         good = opened-guarantee file sc isOpened;
       })
+
+-- what an accepted file gives, as the code has it
+pub given-layout : (file : List ℕ) (sc : Scenario) → opened file ≡ accepted sc → {l : Layout} → l ≡ layoutOf file sc → {r : Runs} → RunsAt file sc r → {t : List ℕ} → t ≡ termPart file .bytes → Given file t (l .terms .count) r sc
+given-layout file sc o e {r} runs bytes = given-accepted file sc o r runs (ap (λ (x : Layout). x .terms .count) e) bytes
