@@ -8,8 +8,6 @@ ghost use Rattle.cells.specs.Cells.{cellOf, cellCount, absent, Shape, se
 pub struct Cells {}
 
 impl Cells {
-    pub const MOST_RUNS: usize = 4;
-
     pub const COUNT: usize = 480;
     // as a name or a class: no value
     pub const ABSENT: u16 = 480;

@@ -11,13 +11,12 @@ ghost use Rattle.semantics.specs.Runs.{runLength, runRecords, atomAt, isAgent, 
 ghost use Rattle.rows.specs.Rows.{placeAs, rowsOf, Sized};
 ghost use Rattle.records.specs.Records.{Bars, Valued, clearAt, hasValue, unfitFrom, partAt, recordAt, eventAt, agentsIn};
 use rows::Place;
+use table::Table;
 
-// The limits of a scenario.
+// The limits of a scenario, beside those of its table.
 pub struct Scenario {}
 
 impl Scenario {
-    pub const MOST_ROLES: usize = 4;
-
     pub const MOST_RUNS: usize = 4;
 
     pub const MOST_EVENTS: usize = 8;
@@ -102,7 +101,7 @@ pub fn roles_present(b: &[u8]) -> usize
 {
     let mut i = 0;
     let mut at = 0;
-    while i < Scenario::MOST_ROLES {
+    while i < Table::MOST_ROLES {
         if b.len() <= at {
             return i;
         }
@@ -167,7 +166,7 @@ fn good_role(s: &[u8], n: usize, clear: &[bool], roles: usize, i: usize) -> bool
     if s.len() < role_length(s) {
         return false;
     }
-    if Scenario::MOST_ROLES <= i {
+    if Table::MOST_ROLES <= i {
         return false;
     }
     if Scenario::MOST_EVENTS < rows::wide(s[1 + rows::wide(s[0])]) {
