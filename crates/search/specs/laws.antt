@@ -1,0 +1,3 @@
+-- The laws of Search, with their proofs.
+pub mod Events
+pub mod Verdict

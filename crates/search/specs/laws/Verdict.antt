@@ -1,0 +1,104 @@
+-- The verdict by what the walk through the whole list finds, and Search by the verdict. Assumes nothing.
+use Prim.Native.Nat.{ℕ, _+_, _<_, _≤_}
+use native.Mathlib.Omega.{arith}
+use mathlib.Core.Path.{_≡_, refl, sym, ap, _∙_}
+use mathlib.Core.Bool.{Bool, true, false}
+use mathlib.Core.List.{List, [], _++_}
+use lib.Dec.{ltb}
+use lib.ListN.{length, drop}
+use borrow.Author.Tests.{lt-ltb, le-ltb}
+use Rattle.semantics.specs.Basic.{provided}
+use Rattle.semantics.specs.Answer.{Answer, refused, accepted, checked, _>>=_, _>>_}
+use Rattle.semantics.specs.Frame.{budgetOf}
+use Rattle.semantics.specs.Scenario.{Scenario, scenarioOf, opened}
+use Rattle.semantics.specs.State.{initial, eventsLeft}
+use Rattle.semantics.specs.Moves.{movesOf}
+use Rattle.semantics.specs.Tree.{listed, stays}
+use Rattle.semantics.specs.Verdict.{Entry, Finding, found, nothing, cut, walked, Verdict, verdictFrom, verdict, traceList, traceBytes, shortBuffer, searched, written, bufferAfter}
+use Rattle.semantics.specs.laws.Open.{opened-inverts}
+use Rattle.scenario.specs.Opened.{openedAs}
+use Rattle.scenario.specs.declared.Opened.the-variants as opening
+use Rattle.runs.specs.declared.Runs.{Runs}
+use Rattle.state.specs.State.{Given, IsState}
+use Rattle.state.specs.declared.State.{State}
+use Rattle.breaks.specs.Walk.{judged, over, walkedAs, bufferAs, Finds, Here}
+use Rattle.breaks.specs.declared.Walked.{Walked}
+use Rattle.breaks.specs.declared.Walked.the-variants as walking
+use Rattle.search.specs.declared.Searched.{Searched}
+use Rattle.search.specs.declared.Searched.the-variants.{Refused, Broken, Held, Stopped}
+use Rattle.search.specs.Search.{verdictAs, searchedAs}
+
+-- what a walk through the whole list answers, as Search answers it
+abbrev pub answered : ℕ → Walked → Searched
+answered budget (walking.Broken b) = Broken b
+answered budget (walking.Clean m) = Held m
+answered budget walking.Cut = Stopped budget
+
+-- a trace at the buffer's front
+over-front : (before bytes : List ℕ) → over before 0 bytes ≡ bytes ++ drop (length bytes) before
+over-front before bytes = let z : 0 + length bytes ≡ length bytes = omega arith in ap (λ (m : ℕ). bytes ++ drop m before) z
+
+module _ (sc : Scenario) (before : List ℕ) where
+  answer-found : (es : List Entry) (budget : ℕ) (f : Finding) → answered budget (walkedAs es f) ≡ verdictAs (verdictFrom (length es) budget f)
+  answer-found es budget (found p e c) = refl
+  answer-found es budget nothing = refl
+  answer-found es budget cut = refl
+
+  buffer-found : (size budget : ℕ) (f : Finding) → bufferAs before 0 f ≡ written before (accepted (verdictFrom size budget f))
+  buffer-found size budget (found p e c) = over-front before (traceBytes (e .0))
+  buffer-found size budget nothing = refl
+  buffer-found size budget cut = refl
+
+  -- the verdict, by a walk through all traces with the file's budget
+  pub verdict-walked : {after : List ℕ} {w : Walked} {left : ℕ} → left ≡ sc .budget → {depth : ℕ} → depth ≡ eventsLeft sc (initial sc) → Finds sc left (listed (movesOf sc) depth (initial sc)) before 0 after w
+      → (answered left w ≡ verdictAs (verdict sc)) × (after ≡ written before (accepted (verdict sc)))
+  unfolding verdict traceList
+  verdict-walked {after} {w} {left} e {depth} l finds =
+      let es = listed (movesOf sc) depth (initial sc) in
+      let whole : verdictFrom (length es) left (walked (judged sc) left es) ≡ verdict sc =
+      (λ i. verdictFrom (length (listed (movesOf sc) (l i) (initial sc))) (e i) (walked (judged sc) (e i) (listed (movesOf sc) (l i) (initial sc)))) in (
+        ap (answered left) (finds .answer) ∙ answer-found es left (walked (judged sc) left es) ∙ ap verdictAs whole,
+        finds .buffer ∙ buffer-found (length es) left (walked (judged sc) left es) ∙ ap (λ (v : Verdict). written before (accepted v)) whole,
+      )
+
+module _ (file : List ℕ) (sc : Scenario) (isOpened : opened file ≡ accepted sc) where
+  -- the scenario's budget is the file's
+  pub opened-budget : {budget : ℕ} → budget ≡ budgetOf file → budget ≡ sc .budget
+  unfolding scenarioOf
+  opened-budget e = e ∙ sym (ap (λ (x : Scenario). x .budget) (opened-inverts file sc isOpened .scenario))
+
+-- the state before any move, where the walk begins
+pub here-first : {file t : List ℕ} {n : ℕ} {r : Runs} {sc : Scenario} {s : State} → Given file t n r sc → IsState sc (initial sc) s → Here file t n r sc (initial sc) s [] 0
+unfolding traceBytes
+here-first given state = record { given = given; state = state; allowed = stays; place = refl }
+
+module _ (file buffer : List ℕ) where
+  -- a refused file
+  pub searched-refused : {number place : ℕ} → opening.Refused number place ≡ openedAs file (opened file) → (Refused number place ≡ searchedAs (searched file buffer)) × (buffer ≡ bufferAfter file buffer)
+  unfolding searched bufferAfter
+  searched-refused {number} {place} e = go (opened file) e
+    where
+      judge : Answer Scenario → Answer Verdict
+      judge a = _>>=_ a (λ sc. _>>_ (checked 10 (shortBuffer buffer)) (accepted (verdict sc)))
+
+      go : (a : Answer Scenario) → opening.Refused number place ≡ openedAs file a → (Refused number place ≡ searchedAs (judge a)) × (buffer ≡ written buffer (judge a))
+      go (refused r) q = (cc, refl)
+      go (accepted sc) q = let z : _≡_ {A = ℕ} 0 1 = cc in absurd (omega arith)
+
+  module _ (sc : Scenario) (isOpened : opened file ≡ accepted sc) where
+    by-buffer : (b : Bool) → ltb (length buffer) 128 ≡ b → searched file buffer ≡ _>>_ (checked 10 (provided b (length buffer))) (accepted (verdict sc))
+    unfolding searched shortBuffer
+    by-buffer b e = rw (isOpened, e) refl
+
+    -- a buffer that is too short
+    pub searched-short : length buffer < 128 → (Refused 10 (length buffer) ≡ searchedAs (searched file buffer)) × (buffer ≡ bufferAfter file buffer)
+    unfolding bufferAfter
+    searched-short l = let e = by-buffer true (lt-ltb (length buffer) 128 l) in (ap searchedAs (sym e), ap (written buffer) (sym e))
+
+    -- one that is not
+    pub searched-judged : 128 ≤ length buffer → searched file buffer ≡ accepted (verdict sc)
+    searched-judged l = by-buffer false (le-ltb (length buffer) 128 l)
+
+    pub buffer-judged : 128 ≤ length buffer → bufferAfter file buffer ≡ written buffer (accepted (verdict sc))
+    unfolding bufferAfter
+    buffer-judged l = ap (written buffer) (searched-judged l)
