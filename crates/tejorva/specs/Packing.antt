@@ -4,9 +4,10 @@ use mathlib.Core.Path.{_≡_, refl, ap}
 use mathlib.Core.Bool.{Bool, true, false}
 use mathlib.Core.List.{List}
 use mathlib.Core.Option.{Option, none, some}
+use lib.ListN.{length}
 use Rattle.semantics.specs.Answer.{Answer, refused, accepted}
 use Rattle.semantics.specs.Scenario.{Scenario}
-use Rattle.semantics.specs.Verdict.{Claim, ClaimKind, secrecy}
+use Rattle.semantics.specs.Verdict.{Claim, ClaimKind, secrecy, Verdict, brokenAt, held, stopped, traceBytes}
 use Rattle.claims.specs.Claims.{kindAs, claimAs}
 use Rattle.claims.specs.declared.Claim.{Claim as CodeClaim}
 use Rattle.claims.specs.declared.ClaimKind.{ClaimKind as CodeKind}
@@ -20,10 +21,23 @@ use Rattle.scenario.specs.declared.Opened.the-variants as opening
 use Rattle.replay.specs.Replay.{replayedAs}
 use Rattle.replay.specs.declared.Replayed.{Replayed}
 use Rattle.replay.specs.declared.Replayed.the-variants as replaying
+use Rattle.breaks.specs.declared.Break.{Break}
+use Rattle.search.specs.Search.{searchedAs}
+use Rattle.search.specs.declared.Searched.{Searched}
+use Rattle.search.specs.declared.Searched.the-variants as searching
 
 -- the words
 abbrev pub refusedWord : ℕ
 refusedWord = 0
+
+abbrev pub heldWord : ℕ
+heldWord = 1
+
+abbrev pub stoppedWord : ℕ
+stoppedWord = 2
+
+abbrev pub brokenWord : ℕ
+brokenWord = 3
 
 abbrev pub acceptedWord : ℕ
 acceptedWord = 4
@@ -81,9 +95,12 @@ pub packed-opened : (file : List ℕ) (a : Answer Scenario) → packedOpening (o
 packed-opened file (refused r) = refl
 packed-opened file (accepted sc) = refl
 
--- A claim: run, event and kind in 4 bits each, below the word. A run is at most 4 and an event at most 7, so that no bit is lost.
+-- What says a claim: run, event and kind in 4 bits each, below the word. A run is at most 4 and an event at most 7, so that no bit is lost.
+abbrev pub claimBits : ℕ → ℕ → ℕ → ℕ
+claimBits run event kind = kind * 1099511627776 + min event 15 * 68719476736 + min run 15 * 4294967296
+
 abbrev pub packedClaim : ℕ → ℕ → ℕ → ℕ
-packedClaim run event kind = wordAlone claimWord + kind * 1099511627776 + min event 15 * 68719476736 + min run 15 * 4294967296
+packedClaim run event kind = wordAlone claimWord + claimBits run event kind
 
 -- the kind of a claim is the kind of its event
 abbrev pub packedKind : ClaimKind → ℕ
@@ -119,3 +136,35 @@ pub packed-replayed : (a : Answer (Option Claim)) → packedReplaying (replayedA
 packed-replayed (refused r) = refl
 packed-replayed (accepted none) = refl
 packed-replayed (accepted (some c)) = ap (packedClaim (c .run) (c .event)) (packed-kind (c .kind))
+
+-- A word with a number in 32 bits: the budget of a file has 4 bytes, and a list's length or place is no larger where it is given, so that no bit is lost.
+abbrev pub packedNumber : ℕ → ℕ → ℕ
+packedNumber word n = wordAlone word + min n 4294967295
+
+-- A break: the list place, the trace's length in 9 bits, and the claim. A trace has at most 128 bytes.
+abbrev pub packedBreak : ℕ → ℕ → ℕ → ℕ → ℕ → ℕ
+packedBreak place size run event kind = packedNumber brokenWord place + min size 511 * 17592186044416 + claimBits run event kind
+
+-- Search's answer
+abbrev pub packedSearched : Answer Verdict → ℕ
+packedSearched (refused r) = packedRefusal (r .number) (r .place)
+packedSearched (accepted (brokenAt p ms c)) = packedBreak p (length (traceBytes ms)) (c .run) (c .event) (packedKind (c .kind))
+packedSearched (accepted (held n)) = packedNumber heldWord n
+packedSearched (accepted (stopped n)) = packedNumber stoppedWord n
+
+-- the same of the code's enum
+abbrev pub packedCodeBreak : Break → ℕ
+packedCodeBreak b = packedBreak (b .place) (b .length) (b .run) (b .event) (packedCodeKind (b .kind))
+
+abbrev pub packedSearching : Searched → ℕ
+packedSearching (searching.Refused number place) = packedRefusal number place
+packedSearching (searching.Broken b) = packedCodeBreak b
+packedSearching (searching.Held n) = packedNumber heldWord n
+packedSearching (searching.Stopped n) = packedNumber stoppedWord n
+
+-- the two agree
+pub packed-searched : (a : Answer Verdict) → packedSearching (searchedAs a) ≡ packedSearched a
+packed-searched (refused r) = refl
+packed-searched (accepted (brokenAt p ms c)) = ap (packedBreak p (length (traceBytes ms)) (c .run) (c .event)) (packed-kind (c .kind))
+packed-searched (accepted (held n)) = refl
+packed-searched (accepted (stopped n)) = refl

@@ -1,15 +1,18 @@
 // The functions that C calls, each one line over an operation, and the packing of answers into 64 bits.
 ghost use mathlib.Core.Path.{_≡_};
-ghost use Prim.Native.Nat.{min};
+ghost use Prim.Native.Nat.{_<_, _≤_, min};
 ghost use Rattle.semantics.specs.Derive.{derived};
 ghost use Rattle.semantics.specs.Scenario.{opened};
 ghost use Rattle.semantics.specs.Replay.{replayed};
-ghost use Rattle.tejorva.specs.Packing.{packedRefusal, packedOf, packedDerived, packedOpening, packedOpened, packedCodeKind, packedCodeClaim, packedReplaying, packedReplayed};
+ghost use Rattle.semantics.specs.Verdict.{searched, bufferAfter};
+ghost use Rattle.tejorva.specs.Packing.{packedRefusal, packedOf, packedDerived, packedOpening, packedOpened, packedNumber, claimBits, packedCodeKind, packedCodeClaim, packedReplaying, packedReplayed, packedCodeBreak, packedSearching, packedSearched};
+use breaks::Break;
 use claims::Claim;
 use claims::ClaimKind;
 use derive::Derived;
 use replay::Replayed;
 use scenario::Opened;
+use search::Searched;
 
 // The smaller of two numbers.
 fn least(a: u64, b: u64) -> u64
@@ -55,15 +58,21 @@ fn kind_number(kind: ClaimKind) -> u64
     }
 }
 
+// What says a claim, below the word: run, event and kind.
+fn claim_bits(run: usize, event: usize, kind: ClaimKind) -> u64
+    ensures { λ r. ⌜ (r ≡ claimBits run event (packedCodeKind kind)) × (r < 17592186044416) ⌝ }
+{
+    kind_number(kind) * 1099511627776
+        + least(event as u64, 15) * 68719476736
+        + least(run as u64, 15) * 4294967296
+}
+
 // A claim: run, event and kind.
 fn packed_claim(claim: Claim) -> u64
     ensures { λ r. ⌜ r ≡ packedCodeClaim claim ⌝ }
 {
     let kind = claim.kind;
-    7 * 1152921504606846976
-        + kind_number(kind) * 1099511627776
-        + least(claim.event as u64, 15) * 68719476736
-        + least(claim.run as u64, 15) * 4294967296
+    7 * 1152921504606846976 + claim_bits(claim.run, claim.event, kind)
 }
 
 // Replay's answer as one number.
@@ -74,6 +83,36 @@ fn packed_replaying(answer: Replayed) -> u64
         Replayed::Refused { number, place } => refusal(number, place),
         Replayed::Broken(claim) => packed_claim(claim),
         Replayed::NoClaim => 8 * 1152921504606846976,
+    }
+}
+
+// A word with a number.
+fn packed_number(word: u64, n: usize) -> u64
+    requires { ⌜ word ≤ 15 ⌝ }
+    ensures { λ r. ⌜ r ≡ packedNumber word n ⌝ }
+{
+    word * 1152921504606846976 + least(n as u64, 4294967295)
+}
+
+// A break: list place, trace length, and its claim.
+fn packed_break(b: Break) -> u64
+    ensures { λ r. ⌜ r ≡ packedCodeBreak b ⌝ }
+{
+    let kind = b.kind;
+    packed_number(3, b.place)
+        + least(b.length as u64, 511) * 17592186044416
+        + claim_bits(b.run, b.event, kind)
+}
+
+// Search's answer as one number.
+fn packed_searching(answer: Searched) -> u64
+    ensures { λ r. ⌜ r ≡ packedSearching answer ⌝ }
+{
+    match answer {
+        Searched::Refused { number, place } => refusal(number, place),
+        Searched::Broken(b) => packed_break(b),
+        Searched::Held(n) => packed_number(1, n),
+        Searched::Stopped(n) => packed_number(2, n),
     }
 }
 
@@ -91,6 +130,15 @@ pub extern "C" fn tejorva_open(file: &[u8]) -> u64
     ensures { λ r. ⌜ r ≡ packedOpened (opened (now (file .entry))) ⌝ }
 {
     packed_opening(scenario::open(file))
+}
+
+// The verdict on a scenario file, with the trace of a broken claim at the buffer's front.
+#[no_mangle]
+pub extern "C" fn tejorva_search(file: &[u8], trace: &mut [u8]) -> u64
+    ensures { λ r. ⌜ r ≡ packedSearched (searched (now (file .entry)) (now (trace .entry))) ⌝ }
+    ensures { λ r. ⌜ now (trace .exit) ≡ bufferAfter (now (file .entry)) (now (trace .entry)) ⌝ }
+{
+    packed_searching(search::search(file, trace))
 }
 
 // Which claim a trace breaks, step by step through a scenario file.

@@ -3,11 +3,13 @@ mod derive;
 mod knowledge;
 mod open;
 mod replay;
+mod search;
 
 fn main() {
     derive::run();
     open::run();
     replay::run();
+    search::run();
 }
 
 /// The least time of one call in nanoseconds, over rounds that take turns with the other side.

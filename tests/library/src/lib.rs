@@ -14,7 +14,18 @@ mod ffi {
             target: u64,
         ) -> u64;
         pub fn tejorva_open(file: *const u8, file_len: usize) -> u64;
-        pub fn tejorva_replay(file: *const u8, file_len: usize, trace: *const u8, trace_len: usize) -> u64;
+        pub fn tejorva_search(
+            file: *const u8,
+            file_len: usize,
+            trace: *mut u8,
+            trace_len: usize,
+        ) -> u64;
+        pub fn tejorva_replay(
+            file: *const u8,
+            file_len: usize,
+            trace: *const u8,
+            trace_len: usize,
+        ) -> u64;
     }
 }
 
@@ -34,6 +45,18 @@ pub fn derive(table: &[u8], list: &[u8], target: u64) -> u64 {
 /// Whether a scenario file is accepted, as the packed number.
 pub fn open(file: &[u8]) -> u64 {
     unsafe { ffi::tejorva_open(file.as_ptr(), file.len()) }
+}
+
+/// The verdict on a scenario file, as the packed number; a broken claim's trace stands at the buffer's front.
+pub fn search(file: &[u8], buffer: &mut [u8]) -> u64 {
+    unsafe {
+        ffi::tejorva_search(
+            file.as_ptr(),
+            file.len(),
+            buffer.as_mut_ptr(),
+            buffer.len(),
+        )
+    }
 }
 
 /// Which claim a trace breaks, step by step through a scenario file, as the packed number.

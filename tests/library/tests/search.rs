@@ -1,0 +1,256 @@
+//! Search of the proved library against the cases, the examples and the reference program.
+use library::answer::{replayed, searched, trace_length, word, BROKEN};
+use library::random::{damage, Random};
+use library::scenarios::{near, scenario, with_budget};
+use std::collections::BTreeMap;
+use std::path::Path;
+
+const CASES: &str = include_str!("../../cases/base.txt");
+
+/// P1: one role that sends its nonce in the clear and claims it secret.
+const P1: &str = "0100000064000f010000010100050000050100070000000f03020304020001010402020004000000030000010000";
+
+/// P2: it sends the nonce under the public key of role 1.
+const P2: &str = "01000000640015010000010100050000050100070000080300\
+    0c040500100402030405020001010602020004000000030000010000";
+
+/// Bytes behind the buffer, which no call may touch.
+const BEHIND: usize = 64;
+
+/// Search's answer with a buffer of that length, in the words of the cases. A broken claim's trace is all that was written, and no byte of the file.
+fn answered(file: &[u8], length: usize) -> String {
+    let lent = file.to_vec();
+    let before: Vec<u8> = (0..length + BEHIND).map(|i| (i * 89 + 170) as u8).collect();
+    let mut after = before.clone();
+    let answer = library::search(&lent, &mut after[..length]);
+    let written = if word(answer) == BROKEN { trace_length(answer) } else { 0 };
+    assert!(written <= length, "{written} of {length} bytes");
+    assert_eq!(after[written..], before[written..], "bytes that were to be kept: {}", reference::hexadecimal(file));
+    assert_eq!(lent, file);
+    searched(answer, &after[..length])
+}
+
+fn agrees(file: &[u8], length: usize) -> String {
+    let given = answered(file, length);
+    let request = format!("0 search {} {length}", reference::hexadecimal(file));
+    assert_eq!(given, reference::answer(&request), "{request}");
+    given
+}
+
+/// The number of a verdict: list place, list length or budget.
+fn number(verdict: &str) -> u32 {
+    verdict.split(' ').nth(1).unwrap().parse().unwrap()
+}
+
+/// A broken claim's trace replays to that claim, and all of it is needed: without its last steps it breaks none.
+fn replays(file: &[u8], verdict: &str) {
+    if let ["BROKEN", _, "RUN", run, "EVENT", event, "TRACE", trace] = verdict.split(' ').collect::<Vec<_>>()[..] {
+        let trace = reference::bytes(trace).unwrap();
+        let claim = format!("CLAIM RUN {run} EVENT {event}");
+        assert_eq!(replayed(library::replay(file, &trace)), claim, "{}: {verdict}", reference::hexadecimal(file));
+        let mut end = 0;
+        while end < trace.len() {
+            assert_eq!(replayed(library::replay(file, &trace[..end])), "NONE", "{}: {verdict}", reference::hexadecimal(file));
+            end += 2 + 2 * usize::from(trace[end + 1]);
+        }
+        assert_eq!(end, trace.len());
+    }
+}
+
+/// The examples: name, file and stated verdict.
+fn examples() -> Vec<(String, Vec<u8>, String)> {
+    let folder = Path::new(env!("CARGO_MANIFEST_DIR")).join("../../examples");
+    let mut paths: Vec<_> = std::fs::read_dir(folder).unwrap().map(|entry| entry.unwrap().path()).collect();
+    paths.retain(|path| path.extension().is_some_and(|end| end == "hex"));
+    paths.sort();
+    assert!(paths.len() >= 16);
+    let example = |path: std::path::PathBuf| {
+        let text = std::fs::read_to_string(&path).unwrap();
+        let verdict = reference::stated_verdict(&text).unwrap().to_string();
+        (path.file_name().unwrap().to_str().unwrap().to_string(), reference::uncommented(&text).unwrap(), verdict)
+    };
+    paths.into_iter().map(example).collect()
+}
+
+#[test]
+fn every_case_has_its_answer() {
+    let mut count = 0;
+    for line in CASES.lines().filter(|l| l.starts_with("0 search ")) {
+        let (request, answer) = line.split_once(" -> ").unwrap();
+        let fields: Vec<&str> = request.split(' ').collect();
+        let file = reference::bytes(fields[2]).unwrap();
+        assert_eq!(answered(&file, fields[3].parse().unwrap()), answer, "{request}");
+        replays(&file, answer);
+        count += 1;
+    }
+    assert!(count >= 400, "only {count} cases");
+}
+
+// Above this number of traces an example is searched once only.
+const LONG: u32 = 1_000_000;
+
+#[test]
+fn every_example_has_its_verdict() {
+    for (name, file, verdict) in examples() {
+        assert_eq!(answered(&file, 128), verdict, "{name}");
+        replays(&file, &verdict);
+        let number = number(&verdict);
+        if number <= LONG {
+            assert_eq!(answered(&with_budget(&file, number), 128), verdict, "{name}");
+            assert_eq!(answered(&with_budget(&file, number - 1), 128), format!("STOPPED {}", number - 1), "{name}");
+        }
+    }
+}
+
+/// Compares the answers of a file with a budget, with budgets at and around the number of the verdict, and with a buffer that is too short.
+fn agrees_around(random: &mut Random, file: &[u8], budget: u32) -> String {
+    let verdict = agrees(&with_budget(file, budget), 128);
+    replays(file, &verdict);
+    let number = number(&verdict);
+    for budget in [number.saturating_sub(1), number, number + 1] {
+        agrees(&with_budget(file, budget), random.pick(&[128, 129, 200, 1000]));
+    }
+    assert_eq!(agrees(file, 127), "REFUSED 10 127");
+    kind(&verdict)
+}
+
+/// The answer of a file damaged behind its budget, mostly in one byte that stays in its place.
+fn agrees_damaged(random: &mut Random, file: &[u8], budget: u32) -> String {
+    let mut rest = file[5..].to_vec();
+    if random.chance(4) {
+        damage(random, &mut rest);
+    } else {
+        let at = random.below(rest.len());
+        rest[at] = random.below(20) as u8;
+    }
+    let damaged = with_budget(&[&file[..5], &rest].concat(), budget);
+    kind(&agrees(&damaged, random.pick(&[0, 127, 128, 300])))
+}
+
+/// An answer's word, with the number if it is a refusal.
+fn kind(answer: &str) -> String {
+    let words = if answer.starts_with("REFUSED") { 2 } else { 1 };
+    answer.split(' ').take(words).collect::<Vec<_>>().join(" ")
+}
+
+fn assert_many(words: &BTreeMap<String, usize>, expected: &[&str]) {
+    println!("{words:?}");
+    for &word in expected {
+        assert!(words.get(word).is_some_and(|&n| n >= 50), "too few {word}: {words:?}");
+    }
+}
+
+#[test]
+fn random_scenarios_answer_as_the_reference() {
+    let mut random = Random::new(9);
+    let (mut words, mut damaged) = (BTreeMap::new(), BTreeMap::new());
+    for _ in 0..6_000 {
+        let file = scenario(&mut random);
+        let budget = random.pick(&[50, 300, 300, 3000]);
+        *words.entry(agrees_around(&mut random, &file, budget)).or_insert(0) += 1;
+        *damaged.entry(agrees_damaged(&mut random, &file, 300)).or_insert(0) += 1;
+    }
+    assert_many(&words, &["BROKEN", "HELD", "STOPPED"]);
+    assert_many(&damaged, &["REFUSED 3", "REFUSED 4", "REFUSED 5", "REFUSED 6", "REFUSED 7", "REFUSED 8", "REFUSED 9", "REFUSED 10"]);
+}
+
+/// Changed examples and cases, in which claims are broken late.
+#[test]
+fn files_near_examples_and_cases_answer_as_the_reference() {
+    let cases = CASES.lines().filter(|l| l.starts_with("0 search "));
+    let mut files: Vec<Vec<u8>> = cases.filter_map(|l| reference::bytes(l.split(' ').nth(2)?)).collect();
+    files.retain(|file| reference::open(file).is_ok());
+    let examples: Vec<Vec<u8>> = examples().into_iter().map(|(_, file, _)| file).collect();
+    let mut random = Random::new(10);
+    let mut words = BTreeMap::new();
+    for round in 0..1_500 {
+        let from = if round % 2 == 0 { &examples } else { &files };
+        let at = random.below(from.len());
+        let file = near(&mut random, &from[at]);
+        let budget = random.pick(&[300, 1000, 3000]);
+        *words.entry(agrees_around(&mut random, &file, budget)).or_insert(0) += 1;
+    }
+    assert_many(&words, &["BROKEN", "HELD", "STOPPED"]);
+}
+
+#[test]
+fn refused_calls_write_nothing() {
+    let p1 = reference::bytes(P1).unwrap();
+    for length in 0..128 {
+        assert_eq!(agrees(&p1, length), format!("REFUSED 10 {length}"));
+    }
+    for end in 0..p1.len() {
+        for length in [0, 127, 128, 200] {
+            let expected = if end == 0 { "REFUSED 1 0".to_string() } else { format!("REFUSED 3 {end}") };
+            assert_eq!(agrees(&p1[..end], length), expected);
+        }
+    }
+}
+
+#[test]
+fn budgets_at_their_ends() {
+    let (p1, p2) = (reference::bytes(P1).unwrap(), reference::bytes(P2).unwrap());
+    for (budget, verdict) in [(0, "STOPPED 0"), (1, "STOPPED 1"), (2, "STOPPED 2"), (3, "HELD 3"), (4, "HELD 3"), (u32::MAX, "HELD 3")] {
+        assert_eq!(agrees(&with_budget(&p2, budget), 128), verdict);
+    }
+    let broken = "BROKEN 3 RUN 1 EVENT 1 TRACE 01000100";
+    for (budget, verdict) in [(0, "STOPPED 0"), (2, "STOPPED 2"), (3, broken), (4, broken), (u32::MAX, broken)] {
+        assert_eq!(agrees(&with_budget(&p1, budget), 128), verdict);
+    }
+}
+
+/// A file of given blocks.
+fn framed(blocks: [&[u8]; 4]) -> Vec<u8> {
+    let mut file = vec![1, 0, 0, 0, 100];
+    for block in blocks {
+        file.extend((block.len() as u16).to_be_bytes());
+        file.extend(block);
+    }
+    file
+}
+
+/// Rows 4 to 11 are fresh variables; row 12 is an intruder constant, row 13 a global one.
+fn eight_variables() -> Vec<u8> {
+    let mut rows = vec![1, 0, 0, 2, 0, 0, 5, 0, 0, 5, 1, 0];
+    rows.extend((0..8).flat_map(|v| [6, v, 1]));
+    rows.extend([4, 0, 0, 3, 0, 0]);
+    rows
+}
+
+/// Four runs of eight events, each setting eight variables: the last of the 32 moves is the only claim that is judged.
+#[test]
+fn a_trace_may_need_all_128_bytes() {
+    // Row 14 is the pair of the first two variables.
+    let rows = [eight_variables(), vec![11, 4, 5]].concat();
+    let reads = |rows: &[u8]| -> Vec<u8> { rows.iter().flat_map(|&row| [1, 0, 1, row]).collect() };
+    let reader = [vec![2, 2, 3, 8], reads(&[4, 5, 6, 7, 8, 9, 10, 11])].concat();
+    let claimer = [vec![2, 2, 3, 8], reads(&[14, 6, 7, 8, 9, 10, 11]), vec![2, 0, 0, 4]].concat();
+    // Three readers with an untrusted agent, then the claimer.
+    let runs = [0, 0, 1, 0, 0, 1, 0, 0, 1, 1, 0, 0];
+    let file = framed([&rows, &[reader, claimer].concat(), &runs, &[0, 1]]);
+    let verdict = agrees(&file, 128);
+    assert!(verdict.starts_with("BROKEN 33 RUN 4 EVENT 7 TRACE "), "{verdict}");
+    assert_eq!(verdict.split(' ').last().unwrap().len(), 256);
+    replays(&file, &verdict);
+    for length in [129, 200, 256] {
+        assert_eq!(agrees(&file, length), verdict);
+    }
+    assert_eq!(agrees(&file, 127), "REFUSED 10 127");
+}
+
+/// Eight variables under a key that stays unknown, with more than a hundred values for each.
+#[test]
+fn hopeless_choices_are_not_tried() {
+    let mut rows = eight_variables();
+    rows.extend((0..60).flat_map(|c| [7, c, 0]));
+    rows.extend([11, 10, 11]);
+    for i in 0..6 {
+        rows.extend([11, 9 - i, 74 + i]);
+    }
+    rows.extend([12, 80, 13]);
+    let role = [3, 2, 3, 13, 1, 1, 0, 1, 81];
+    let file = framed([&rows, &[&role[..], &[0, 0]].concat(), &[0, 0, 0, 0, 0, 0], &[0, 1]]);
+    let begin = std::time::Instant::now();
+    assert_eq!(agrees(&with_budget(&file, u32::MAX), 128), "HELD 1");
+    assert!(begin.elapsed().as_millis() < 1000, "{:?}", begin.elapsed());
+}
