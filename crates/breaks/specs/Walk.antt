@@ -1,6 +1,7 @@
 -- What a walk through a part of the list finds, as the code answers it. Assumes nothing.
 use Prim.Native.Nat.{ℕ, zero, suc, _+_, _*_, _≤_}
 use mathlib.Core.Path.{_≡_}
+use mathlib.Core.Bool.{Bool}
 use mathlib.Core.List.{List, [], _∷_, _++_, map}
 use mathlib.Core.Option.{Option}
 use lib.ListN.{length, getD, take, drop}
@@ -17,8 +18,8 @@ use Rattle.semantics.specs.Allowed.{Takes, AllowedTrace}
 use Rattle.runs.specs.declared.RunEvent.{RunEvent}
 use Rattle.runs.specs.declared.Runs.{Runs}
 use Rattle.state.specs.declared.State.{State}
-use Rattle.state.specs.State.{Given, Due, IsState, NextMove, Sets}
-use Rattle.values.specs.Values.{Setting}
+use Rattle.state.specs.State.{Given, Due, IsState, NextMove, Ready}
+use Rattle.values.specs.Values.{Setting, PartArrays}
 use Rattle.claims.specs.declared.Claim.{Claim}
 use Rattle.claims.specs.Claims.{kindAs}
 use Rattle.breaks.specs.declared.Break.{Break}
@@ -83,6 +84,10 @@ pub record ValuesAre (vs : List Value) (values : Values) : Type 0 where
   pub many : values .count ≡ length vs
   pub written : take (2 * values .count) (values .bytes) ≡ valueBytes vs
 
+-- the state that lent arrays make
+abbrev pub stateOf : List ℕ → List ℕ → List ℕ → List Bool → State
+stateOf done names classes marks = record { done = done; names = names; classes = classes; marks = marks }
+
 -- a state that an allowed trace reaches, whose bytes end at a place
 pub record Here (file t : List ℕ) (n : ℕ) (r : Runs) (sc : Scenario) (d : definitions.State) (s : State) (ms : List Move) (at : ℕ) : Type 0 where
   pub given : Given file t n r sc
@@ -98,34 +103,40 @@ pub record AtMove (file t : List ℕ) (n : ℕ) (r : Runs) (sc : Scenario) (d : 
   pub few : getD (s .done) k 0 ≤ 8
 
 -- values chosen for the first of the variables that it sets
-pub record Choosing (sc : Scenario) (d : definitions.State) (s : State) (a : Active) (from : ℕ) (xs : List Atom) (vs : List Value) (names : List ℕ) (values : Values) : Type 0 where
+pub record Choosing (sc : Scenario) (d : definitions.State) (s : State) (a : Active) (from : ℕ) (xs : List Atom) (vs : List Value) (names classes : List ℕ) (marks : List Bool) (values : Values) : Type 0 where
   pub setting : Setting sc d a (s .names) from xs vs names
+  pub arrays : PartArrays sc d a xs vs names classes marks
   pub takes : Takes (sc .rows) (length (sc .runs)) xs vs
   pub are : ValuesAre vs values
 
 -- values chosen for all of them
-pub record Chosen (sc : Scenario) (d : definitions.State) (a : Active) (e : RunEvent) (vs : List Value) (names : List ℕ) (values : Values) : Type 0 where
-  pub sets : Sets sc d a vs names
+pub record Chosen (sc : Scenario) (d : definitions.State) (a : Active) (e : RunEvent) (vs : List Value) (names classes : List ℕ) (marks : List Bool) (values : Values) : Type 0 where
+  pub ready : Ready sc d a vs names classes marks
   pub takes : Takes (sc .rows) (length (sc .runs)) (toSet sc a) vs
   pub only : (e .kind ≡ 1 → ⊥) → vs ≡ []
   pub are : ValuesAre vs values
 
 -- there is a scenario of which this is so
-pub record SomeChoice (file t : List ℕ) (n : ℕ) (r : Runs) (s : State) (at k : ℕ) (e : RunEvent) (from : ℕ) (names : List ℕ) (values : Values) : Type 0 where
+pub record SomeChoice (file t : List ℕ) (n : ℕ) (r : Runs) (done own : List ℕ) (at k : ℕ) (e : RunEvent) (from : ℕ) (names classes : List ℕ) (marks : List Bool) (values : Values) : Type 0 where
   pub sc : Scenario
   pub d : definitions.State
+  pub s : State
   pub ms : List Move
   pub a : Active
   pub xs : List Atom
   pub vs : List Value
   pub move : AtMove file t n r sc d s ms at k e a
-  pub choosing : Choosing sc d s a from xs vs names values
+  pub isDone : done ≡ s .done
+  pub isOwn : own ≡ s .names
+  pub choosing : Choosing sc d s a from xs vs names classes marks values
 
-pub record SomeMove (file t : List ℕ) (n : ℕ) (r : Runs) (s : State) (at k : ℕ) (e : RunEvent) (names : List ℕ) (values : Values) : Type 0 where
+pub record SomeMove (file t : List ℕ) (n : ℕ) (r : Runs) (done : List ℕ) (at k : ℕ) (e : RunEvent) (names classes : List ℕ) (marks : List Bool) (values : Values) : Type 0 where
   pub sc : Scenario
   pub d : definitions.State
+  pub s : State
   pub ms : List Move
   pub a : Active
   pub vs : List Value
   pub move : AtMove file t n r sc d s ms at k e a
-  pub chosen : Chosen sc d a e vs names values
+  pub isDone : done ≡ s .done
+  pub chosen : Chosen sc d a e vs names classes marks values

@@ -12,10 +12,10 @@ use Rattle.semantics.specs.Moves.{performed}
 use Rattle.runs.specs.declared.RunEvent.{RunEvent}
 use Rattle.state.specs.declared.State.{State}
 use Rattle.state.specs.State.{NextMove}
-use Rattle.values.specs.Values.{Setting}
+use Rattle.values.specs.Values.{Setting, PartArrays}
 
 -- Where the test says no, no completion of the choice is allowed.
-abbrev pub Tested : List ℕ → ℕ → ℕ → RunEvent → State → List ℕ → Bool → Type 0
-Tested t runs k e s names answer =
-    (sc : Scenario) (d : definitions.State) (a : Active) (from : ℕ) (xs : List Atom) (vs ws : List Value) → NextMove t runs k e sc d s a → e .kind ≡ 1
-    → Setting sc d a (s .names) from xs vs names → answer ≡ false → performed sc d a (vs ++ ws) ≡ none
+abbrev pub Tested : List ℕ → ℕ → ℕ → RunEvent → List ℕ → List Bool → Bool → Type 0
+Tested t runs k e classes marks answer =
+    (sc : Scenario) (d : definitions.State) (s : State) (a : Active) (from : ℕ) (xs : List Atom) (vs ws : List Value) (names : List ℕ) → NextMove t runs k e sc d s a → e .kind ≡ 1
+    → Setting sc d a (s .names) from xs vs names → PartArrays sc d a xs vs names classes marks → answer ≡ false → performed sc d a (vs ++ ws) ≡ none

@@ -1,32 +1,29 @@
 // The test of a partial choice of a read's values: whether a completion of it may be allowed.
-ghost use Rattle.cells.specs.Cells.{Shape};
+ghost use mathlib.Core.Path.{_≡_};
+ghost use lib.ListN.{length};
+ghost use Rattle.cells.specs.Cells.{Shape, cellCount};
 ghost use Rattle.state.specs.State.{Due};
 ghost use Rattle.partial.specs.Partial.{Tested};
 use runs::RunEvent;
-use state::State;
 
-// Whether the next event of run k, a read, may be allowed once its other variables are set too. The values chosen so far stand in `names`.
+// Whether the next event of run k, a read, may be allowed once its other variables are set too. Classes and marks are those with the values chosen so far.
 pub fn may_be_read(
-    s: State,
-    names: [u16; 480],
+    classes: &[u16],
+    marks: [bool; 480],
     t: &[u8],
     n: usize,
     runs: usize,
     k: usize,
     e: RunEvent,
 ) -> bool
-    requires { ⌜ Shape (now t) n runs × Due n runs k (e .own) (e .peer) (e .row) ⌝ }
-    ensures { λ answer. ⌜ Tested (now (t .entry)) runs k e s names answer ⌝ }
+    requires { ⌜ Shape (now t) n runs × (Due n runs k (e .own) (e .peer) (e .row) × (length (now classes) ≡ cellCount)) ⌝ }
+    ensures { λ answer. ⌜ Tested (now (t .entry)) runs k e (now (classes .entry)) marks answer ⌝ }
 {
-    let start = s.marks;
-    let mut classes = s.classes;
-    classes::refill(&mut classes, t, n, runs, &names, k + 1);
-    let marks = knowledge::settle(start, t, n, runs, &classes);
     let own = e.own;
     let peer = e.peer;
     if marks[own] {
         if marks[peer] {
-            return possible::possible(t, n, runs, &classes, &marks, k + 1, e.row);
+            return possible::possible(t, n, runs, classes, &marks, k + 1, e.row);
         }
     }
     false

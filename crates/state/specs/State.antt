@@ -1,10 +1,10 @@
 -- A state of the code as a state of the definitions: positions, names, classes and marks. Assumes nothing.
-use Prim.Native.Nat.{ℕ, suc, _<_, _≤_}
+use Prim.Native.Nat.{ℕ, suc, _+_, _<_, _≤_}
 use mathlib.Core.Path.{_≡_}
 use mathlib.Core.Bool.{Bool, true, false}
 use mathlib.Core.List.{List, _∷_, List·Memᴰ}
 use mathlib.Core.Option.{Option, none, some}
-use lib.ListN.{length, getD, getElem?}
+use lib.ListN.{length, getD, getElem?, set}
 use Rattle.semantics.specs.Term.{Term}
 use Rattle.semantics.specs.Table.{Row}
 use Rattle.semantics.specs.Scenario.{Scenario}
@@ -75,6 +75,15 @@ pub record Sets (sc : Scenario) (d : definitions.State) (a : Active) (vs : List 
   pub size : length names ≡ cellCount
   pub named : NamesRight (sc .rows) (length (sc .runs)) (readings sc (withSets (a .index) (setAfter sc a vs) (setsOf (d .progress)))) names
   pub valued : Standing (sc .rows) (setAfter sc a vs)
+
+-- arrays that are right once a run's unset variables have new values
+pub record Ready (sc : Scenario) (d : definitions.State) (a : Active) (vs : List Value) (names classes : List ℕ) (marks : List Bool) : Type 0 where
+  pub arrays : Arrays (sc .rows) (length (sc .runs)) (readings sc (withSets (a .index) (setAfter sc a vs) (setsOf (d .progress)))) (d .known) names classes marks
+  pub valued : Standing (sc .rows) (setAfter sc a vs)
+
+-- the answer of an allowed move: one more event of a run, counted from 0, is done
+abbrev pub movedTo : List ℕ → List ℕ → List ℕ → List Bool → ℕ → Moved
+movedTo done names classes marks k = record { allowed = true; state = record { done = set done k (getD done k 0 + 1); names = names; classes = classes; marks = marks } }
 
 -- what a move answers: whether it is allowed, and the state after it
 pub data Performed (sc : Scenario) (d : definitions.State) (a : Active) (vs : List Value) (moved : Moved) : Type 0 where

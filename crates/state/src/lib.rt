@@ -1,5 +1,6 @@
 // The state of a scenario by value, and its moves: how far each run has come, the names that its atoms have, and marks that are exact.
 ghost use mathlib.Core.Path.{_≡_};
+ghost use mathlib.Core.Bool.{false};
 ghost use mathlib.Core.List.{List, []};
 ghost use Prim.Native.Nat.{ℕ, suc, _+_, _<_, _≤_};
 ghost use lib.ListN.{length, getD, set};
@@ -9,10 +10,12 @@ ghost use Rattle.semantics.specs.Scenario.{Scenario};
 ghost use Rattle.semantics.specs.Guarantee.{Guarantee};
 ghost use Rattle.rows.specs.Rows.{rowsOf};
 ghost use Rattle.cells.specs.Cells.{Shape, cellCount};
+ghost use Rattle.classes.specs.Classes.{Refilled};
+ghost use Rattle.knowledge.specs.Marks.{Settled};
 ghost use Rattle.runs.specs.Runs.{RunsAt};
 ghost use Rattle.role_level.specs.RoleLevel.{ListedBelow};
 ghost use Rattle.state.specs.Start.{AreAgents, FirstName, Entered, StartMarks, Agents};
-ghost use Rattle.state.specs.State.{Given, IsState, LearnsCell, Due, NextMove, Sets, Performed};
+ghost use Rattle.state.specs.State.{Given, IsState, LearnsCell, Due, NextMove, Ready, movedTo, Performed};
 use cells::Cells;
 use cells::cell;
 use runs::RunEvent;
@@ -30,6 +33,12 @@ pub struct State {
 pub struct Moved {
     pub allowed: bool,
     pub state: State,
+}
+
+// Classes and marks with new values of a run.
+pub struct Grown {
+    pub classes: [u16; 480],
+    pub marks: [bool; 480],
 }
 
 // The marks when the value of row r in run u is known too.
@@ -64,124 +73,149 @@ fn advance(done: [usize; 4], k: usize) -> [usize; 4]
     more
 }
 
-// The state after a send of run k: sender, receiver and term are known. A term without a value is not sent.
-fn sent(s: State, t: &[u8], n: usize, runs: usize, k: usize, e: RunEvent) -> Moved
-    requires { ⌜ Shape (now t) n runs × (Due n runs k (e .own) (e .peer) (e .row) × (getD (s .done) k 0 ≤ 8)) ⌝ }
-    ensures { λ moved. ⌜ ((sc : Scenario) (d : definitions.State) (a : Active) → NextMove (now (t .entry)) runs k e sc d s a → e .kind ≡ 0 → Performed sc d a [] moved) ⌝ }
+// Numbers of cells as an array of their own.
+pub fn copied(cells: &[u16]) -> [u16; 480]
+    requires { ⌜ length (now cells) ≡ cellCount ⌝ }
+    ensures { λ r. ⌜ r ≡ now (cells .entry) ⌝ }
 {
-    let c = cell(e.row, k + 1);
-    let names = s.names;
-    let classes = s.classes;
-    let marks = s.marks;
-    let before = s.done;
-    if classes[c] == Cells::ABSENT {
-        return Moved {
-            allowed: false,
-            state: s,
-        };
+    let mut own = [0; 480];
+    let mut i = 0;
+    while i < Cells::COUNT {
+        own[i] = cells[i];
+        i += 1;
     }
-    let term = learn(marks, t, n, runs, &classes, e.row, k + 1);
-    let receiver = learn(term, t, n, runs, &classes, e.peer, 0);
-    let sender = learn(receiver, t, n, runs, &classes, e.own, 0);
-    let done = advance(before, k);
+    own
+}
+
+// The classes and marks once the names of run u have grown.
+pub fn with_names(
+    classes: &[u16],
+    marks: [bool; 480],
+    names: &[u16],
+    t: &[u8],
+    n: usize,
+    runs: usize,
+    u: usize,
+) -> Grown
+    requires { ⌜ Shape (now t) n runs × ((length (now classes) ≡ cellCount) × ((length (now names) ≡ cellCount) × (u ≤ runs))) ⌝ }
+    ensures { λ g. ⌜ Refilled (rowsOf (now (t .entry))) runs u (now (names .entry)) (now (classes .entry)) (g .classes) × Settled (rowsOf (now (t .entry))) runs (g .classes) marks (g .marks) ⌝ }
+{
+    let mut more = copied(classes);
+    classes::refill(&mut more, t, n, runs, names, u);
+    let settled = knowledge::settle(marks, t, n, runs, &more);
+    Grown {
+        classes: more,
+        marks: settled,
+    }
+}
+
+// The answer of a move that is not allowed; the state in it is none.
+fn refused() -> Moved
+    ensures { λ moved. ⌜ moved .allowed ≡ false ⌝ }
+{
     Moved {
-        allowed: true,
+        allowed: false,
         state: State {
-            done,
-            names,
-            classes,
-            marks: sender,
+            done: [0; 4],
+            names: [0; 480],
+            classes: [0; 480],
+            marks: [false; 480],
         },
     }
 }
 
-// The state after a claim of run k: nothing more is known.
-fn claimed(s: State, k: usize) -> Moved
-    requires { ⌜ (k < 4) × (getD (s .done) k 0 ≤ 8) ⌝ }
-    ensures { λ moved. ⌜ ((t : List ℕ) (runs : ℕ) (e : RunEvent) (sc : Scenario) (d : definitions.State) (a : Active) → NextMove t runs k e sc d s a → e .kind ≡ 2 → Performed sc d a [] moved) ⌝ }
+// The answer of a move that is allowed: run k has made one more event.
+fn moved_on(done: [usize; 4], names: &[u16], classes: &[u16], marks: [bool; 480], k: usize) -> Moved
+    requires { ⌜ (length (now names) ≡ cellCount) × ((length (now classes) ≡ cellCount) × ((k < 4) × (getD done k 0 ≤ 8))) ⌝ }
+    ensures { λ moved. ⌜ moved ≡ movedTo done (now (names .entry)) (now (classes .entry)) marks k ⌝ }
 {
-    let names = s.names;
-    let classes = s.classes;
-    let marks = s.marks;
-    let before = s.done;
-    let done = advance(before, k);
+    let own_names = copied(names);
+    let own_classes = copied(classes);
     Moved {
         allowed: true,
         state: State {
-            done,
-            names,
-            classes,
+            done: advance(done, k),
+            names: own_names,
+            classes: own_classes,
             marks,
         },
     }
 }
 
-// The state after a read of run k whose new values stand in `names`, if sender, receiver and pattern are then derivable.
-fn was_read(
-    s: State,
-    names: [u16; 480],
+// The state after a send of run k: sender, receiver and term are known. A term without a value is not sent.
+fn sent(
+    done: [usize; 4],
+    names: &[u16],
+    classes: &[u16],
+    marks: [bool; 480],
     t: &[u8],
     n: usize,
     runs: usize,
     k: usize,
     e: RunEvent,
 ) -> Moved
-    requires { ⌜ Shape (now t) n runs × (Due n runs k (e .own) (e .peer) (e .row) × (getD (s .done) k 0 ≤ 8)) ⌝ }
-    ensures { λ moved. ⌜ ((sc : Scenario) (d : definitions.State) (a : Active) (vs : List Value) → NextMove (now (t .entry)) runs k e sc d s a → Sets sc d a vs names → e .kind ≡ 1 → Performed sc d a vs moved) ⌝ }
+    requires { ⌜ Shape (now t) n runs × (Due n runs k (e .own) (e .peer) (e .row) × ((getD done k 0 ≤ 8) × ((length (now names) ≡ cellCount) × (length (now classes) ≡ cellCount)))) ⌝ }
+    ensures { λ moved. ⌜ ((sc : Scenario) (d : definitions.State) (s : State) (a : Active) → NextMove (now (t .entry)) runs k e sc d s a → done ≡ s .done → Ready sc d a [] (now (names .entry)) (now (classes .entry)) marks → e .kind ≡ 0 → Performed sc d a [] moved) ⌝ }
 {
-    let start = s.marks;
-    let before = s.done;
-    let mut classes = s.classes;
-    classes::refill(&mut classes, t, n, runs, &names, k + 1);
-    let marks = knowledge::settle(start, t, n, runs, &classes);
+    let c = cell(e.row, k + 1);
+    if classes[c] == Cells::ABSENT {
+        return refused();
+    }
+    let term = learn(marks, t, n, runs, classes, e.row, k + 1);
+    let receiver = learn(term, t, n, runs, classes, e.peer, 0);
+    let sender = learn(receiver, t, n, runs, classes, e.own, 0);
+    moved_on(done, names, classes, sender, k)
+}
+
+// The state after a read of run k, if sender, receiver and pattern are derivable with the new values.
+fn was_read(
+    done: [usize; 4],
+    names: &[u16],
+    classes: &[u16],
+    marks: [bool; 480],
+    k: usize,
+    e: RunEvent,
+) -> Moved
+    requires { ⌜ (k < 4) × ((getD done k 0 ≤ 8) × ((length (now names) ≡ cellCount) × ((length (now classes) ≡ cellCount) × ((e .own < 96) × ((e .peer < 96) × (e .row < 96)))))) ⌝ }
+    ensures { λ moved. ⌜ ((t : List ℕ) (n runs : ℕ) (sc : Scenario) (d : definitions.State) (s : State) (a : Active) (vs : List Value) → Shape t n runs → Due n runs k (e .own) (e .peer) (e .row) → NextMove t runs k e sc d s a → done ≡ s .done → Ready sc d a vs (now (names .entry)) (now (classes .entry)) marks → e .kind ≡ 1 → Performed sc d a vs moved) ⌝ }
+{
     let own = e.own;
     let peer = e.peer;
     let c = cell(e.row, k + 1);
-    let done = advance(before, k);
-    let after = State {
-        done,
-        names,
-        classes,
-        marks,
-    };
     if marks[own] {
         if marks[peer] {
-            return Moved {
-                allowed: marks[c],
-                state: after,
-            };
+            if marks[c] {
+                return moved_on(done, names, classes, marks, k);
+            }
+            return refused();
         }
-        return Moved {
-            allowed: false,
-            state: after,
-        };
+        return refused();
     }
-    Moved {
-        allowed: false,
-        state: after,
-    }
+    refused()
 }
 
-// The state after the next event of run k, if it is allowed. New values of a read stand in `names`.
+// The state after the next event of run k, if it is allowed. Names, classes and marks are those with the new values of a read.
 pub fn perform(
-    s: State,
-    names: [u16; 480],
+    done: [usize; 4],
+    names: &[u16],
+    classes: &[u16],
+    marks: [bool; 480],
     t: &[u8],
     n: usize,
     runs: usize,
     k: usize,
     e: RunEvent,
 ) -> Moved
-    requires { ⌜ Shape (now t) n runs × (Due n runs k (e .own) (e .peer) (e .row) × (getD (s .done) k 0 ≤ 8)) ⌝ }
-    ensures { λ moved. ⌜ ((sc : Scenario) (d : definitions.State) (a : Active) (vs : List Value) → NextMove (now (t .entry)) runs k e sc d s a → Sets sc d a vs names → ((e .kind ≡ 1 → ⊥) → vs ≡ []) → Performed sc d a vs moved) ⌝ }
+    requires { ⌜ Shape (now t) n runs × (Due n runs k (e .own) (e .peer) (e .row) × ((getD done k 0 ≤ 8) × ((length (now names) ≡ cellCount) × (length (now classes) ≡ cellCount)))) ⌝ }
+    ensures { λ moved. ⌜ ((sc : Scenario) (d : definitions.State) (s : State) (a : Active) (vs : List Value) → NextMove (now (t .entry)) runs k e sc d s a → done ≡ s .done → Ready sc d a vs (now (names .entry)) (now (classes .entry)) marks → ((e .kind ≡ 1 → ⊥) → vs ≡ []) → Performed sc d a vs moved) ⌝ }
 {
     if e.kind == 1 {
-        return was_read(s, names, t, n, runs, k, e);
+        return was_read(done, names, classes, marks, k, e);
     }
     if e.kind == 0 {
-        return sent(s, t, n, runs, k, e);
+        return sent(done, names, classes, marks, t, n, runs, k, e);
     }
-    claimed(s, k)
+    moved_on(done, names, classes, marks, k)
 }
 
 // The name of row r in run u, for the agents of that run and before any variable is set.

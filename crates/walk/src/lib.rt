@@ -11,7 +11,7 @@ ghost use Rattle.semantics.specs.Moves.{Move, movesOf, movesOfRun};
 ghost use Rattle.semantics.specs.Tree.{listed};
 ghost use Rattle.rows.specs.Rows.{rowsOf};
 ghost use Rattle.variables.specs.Variables.{Beneath, unsetFrom};
-ghost use Rattle.breaks.specs.Walk.{below, branches, Finds, Here, AtMove, Choosing, Chosen, SomeChoice, SomeMove};
+ghost use Rattle.breaks.specs.Walk.{stateOf, below, branches, Finds, Here, AtMove, Choosing, Chosen, SomeChoice, SomeMove};
 use breaks::Break;
 use breaks::Values;
 use breaks::Walked;
@@ -50,9 +50,27 @@ pub fn walk(
     if depth == 0 {
         return Walked::Clean(count);
     }
+    let done = s.done;
+    let names = s.names;
+    let classes = s.classes;
+    let marks = s.marks;
     let mut k = 0;
     while k < r.count {
-        let found = walk_run(trace, file, t, n, r, s, left - count, at, depth - 1, k);
+        let found = walk_run(
+            trace,
+            file,
+            t,
+            n,
+            r,
+            done,
+            &names,
+            &classes,
+            marks,
+            left - count,
+            at,
+            depth - 1,
+            k,
+        );
         match found {
             Walked::Broken(b) => {
                 return Walked::Broken(breaks::later(b, count));
@@ -69,24 +87,26 @@ pub fn walk(
     Walked::Clean(count)
 }
 
-// Walks through the traces that go on with run k.
+// Walks through the traces that go on with run k, from a state whose arrays are lent.
 fn walk_run(
     trace: &mut [u8],
     file: &[u8],
     t: &[u8],
     n: usize,
     r: Runs,
-    s: State,
+    done: [usize; 4],
+    names: &[u16],
+    classes: &[u16],
+    marks: [bool; 480],
     left: usize,
     at: usize,
     depth: usize,
     k: usize,
 ) -> Walked
-    requires { ⌜ ((sc : Scenario) × (d : definitions.State) × (ms : List Move) × Here (now file) (now t) n r sc d s ms at) × ((128 ≤ length (now trace)) × ((left < 4294967296) × (k < r .count))) ⌝ }
-    ensures { λ w. ⌜ ((sc : Scenario) (d : definitions.State) (ms : List Move) → Here (now (file .entry)) (now (t .entry)) n r sc d s ms at → Finds sc left (below sc depth (movesOfRun sc d (suc k) (active sc d (suc k)))) (now (trace .entry)) at (now (trace .exit)) w) ⌝ }
+    requires { ⌜ ((sc : Scenario) × (d : definitions.State) × (ms : List Move) × Here (now file) (now t) n r sc d (stateOf done (now names) (now classes) marks) ms at) × ((128 ≤ length (now trace)) × ((left < 4294967296) × (k < r .count))) ⌝ }
+    ensures { λ w. ⌜ ((sc : Scenario) (d : definitions.State) (ms : List Move) → Here (now (file .entry)) (now (t .entry)) n r sc d (stateOf done (now (names .entry)) (now (classes .entry)) marks) ms at → Finds sc left (below sc depth (movesOfRun sc d (suc k) (active sc d (suc k)))) (now (trace .entry)) at (now (trace .exit)) w) ⌝ }
 {
-    let names = s.names;
-    let j = s.done[k];
+    let j = done[k];
     if r.events[k] <= j {
         return Walked::Clean(0);
     }
@@ -99,7 +119,8 @@ fn walk_run(
             t,
             n,
             r,
-            s,
+            done,
+            names,
             left,
             at,
             depth,
@@ -107,6 +128,8 @@ fn walk_run(
             e,
             under,
             names,
+            classes,
+            marks,
             0,
             breaks::no_values(),
         );
@@ -117,40 +140,45 @@ fn walk_run(
         t,
         n,
         r,
-        s,
+        done,
         left,
         at,
         depth,
         k,
         e,
         names,
+        classes,
+        marks,
         breaks::no_values(),
     )
 }
 
-// Walks through the traces that go on with the read of run k, its variables of rows below `from` having values.
+// Walks through the traces that go on with the read of run k, its variables of rows below `from` having values. Own names are the state's; names, classes
+// and marks have the values chosen so far.
 fn walk_values(
     trace: &mut [u8],
     file: &[u8],
     t: &[u8],
     n: usize,
     r: Runs,
-    s: State,
+    done: [usize; 4],
+    own: &[u16],
     left: usize,
     at: usize,
     depth: usize,
     k: usize,
     e: RunEvent,
     under: [bool; 96],
-    names: [u16; 480],
+    names: &[u16],
+    classes: &[u16],
+    marks: [bool; 480],
     from: usize,
     values: Values,
 ) -> Walked
-    requires { ⌜ SomeChoice (now file) (now t) n r s at k e from names values × (Beneath (rowsOf (now t)) (e .row) under × ((128 ≤ length (now trace)) × ((left < 4294967296) × ((from ≤ n) × (e .kind ≡ 1))))) ⌝ }
-    ensures { λ w. ⌜ ((sc : Scenario) (d : definitions.State) (ms : List Move) (a : Active) (xs : List Atom) (vs : List Value) → AtMove (now (file .entry)) (now (t .entry)) n r sc d s ms at k e a → Choosing sc d s a from xs vs names values → Finds sc left (below sc depth (branches sc d (suc k) a vs (unsetFrom (sc .rows) (a .progress .values) (a .event .row) from))) (now (trace .entry)) at (now (trace .exit)) w) ⌝ }
+    requires { ⌜ SomeChoice (now file) (now t) n r done (now own) at k e from (now names) (now classes) marks values × (Beneath (rowsOf (now t)) (e .row) under × ((128 ≤ length (now trace)) × ((left < 4294967296) × ((from ≤ n) × (e .kind ≡ 1))))) ⌝ }
+    ensures { λ w. ⌜ ((sc : Scenario) (d : definitions.State) (s : State) (ms : List Move) (a : Active) (xs : List Atom) (vs : List Value) → AtMove (now (file .entry)) (now (t .entry)) n r sc d s ms at k e a → done ≡ s .done → now (own .entry) ≡ s .names → Choosing sc d s a from xs vs (now (names .entry)) (now (classes .entry)) marks values → Finds sc left (below sc depth (branches sc d (suc k) a vs (unsetFrom (sc .rows) (a .progress .values) (a .event .row) from))) (now (trace .entry)) at (now (trace .exit)) w) ⌝ }
 {
-    let own = s.names;
-    let x = variables::next_unset(t, n, &own, &under, k + 1, from);
+    let x = variables::next_unset(t, n, own, &under, k + 1, from);
     if x == n {
         return walk_move(
             trace,
@@ -158,17 +186,19 @@ fn walk_values(
             t,
             n,
             r,
-            s,
+            done,
             left,
             at,
             depth,
             k,
             e,
             names,
+            classes,
+            marks,
             values,
         );
     }
-    if !partial::may_be_read(s, names, t, n, r.count, k, e) {
+    if !partial::may_be_read(classes, marks, t, n, r.count, k, e) {
         return Walked::Clean(0);
     }
     let mut count = 0;
@@ -182,20 +212,26 @@ fn walk_values(
             }
             NextValue::Value { row: y, run: w } => {
                 let more = values::put(names, x, k + 1, y, w);
+                let grown = state::with_names(classes, marks, &more, t, n, r.count, k + 1);
+                let more_classes = grown.classes;
+                let more_marks = grown.marks;
                 let found = walk_values(
                     trace,
                     file,
                     t,
                     n,
                     r,
-                    s,
+                    done,
+                    own,
                     left - count,
                     at,
                     depth,
                     k,
                     e,
                     under,
-                    more,
+                    &more,
+                    &more_classes,
+                    more_marks,
                     x + 1,
                     breaks::with_value(values, y, w),
                 );
@@ -224,19 +260,21 @@ fn walk_move(
     t: &[u8],
     n: usize,
     r: Runs,
-    s: State,
+    done: [usize; 4],
     left: usize,
     at: usize,
     depth: usize,
     k: usize,
     e: RunEvent,
-    names: [u16; 480],
+    names: &[u16],
+    classes: &[u16],
+    marks: [bool; 480],
     values: Values,
 ) -> Walked
-    requires { ⌜ SomeMove (now file) (now t) n r s at k e names values × ((128 ≤ length (now trace)) × (left < 4294967296)) ⌝ }
-    ensures { λ w. ⌜ ((sc : Scenario) (d : definitions.State) (ms : List Move) (a : Active) (vs : List Value) → AtMove (now (file .entry)) (now (t .entry)) n r sc d s ms at k e a → Chosen sc d a e vs names values → Finds sc left (below sc depth (branches sc d (suc k) a vs [])) (now (trace .entry)) at (now (trace .exit)) w) ⌝ }
+    requires { ⌜ SomeMove (now file) (now t) n r done at k e (now names) (now classes) marks values × ((128 ≤ length (now trace)) × (left < 4294967296)) ⌝ }
+    ensures { λ w. ⌜ ((sc : Scenario) (d : definitions.State) (s : State) (ms : List Move) (a : Active) (vs : List Value) → AtMove (now (file .entry)) (now (t .entry)) n r sc d s ms at k e a → done ≡ s .done → Chosen sc d a e vs (now (names .entry)) (now (classes .entry)) marks values → Finds sc left (below sc depth (branches sc d (suc k) a vs [])) (now (trace .entry)) at (now (trace .exit)) w) ⌝ }
 {
-    let moved = state::perform(s, names, t, n, r.count, k, e);
+    let moved = state::perform(done, names, classes, marks, t, n, r.count, k, e);
     if moved.allowed {
         let after = moved.state;
         let bytes = 2 + 2 * values.count;

@@ -22,6 +22,8 @@ use Rattle.semantics.specs.laws.Moves.{mem-candidates}
 use Rattle.semantics.specs.laws.Bytes.{set-few}
 use Rattle.rows.specs.Rows.{rowsOf}
 use Rattle.cells.specs.Cells.{cellOf}
+use Rattle.classes.specs.Classes.{Refilled}
+use Rattle.knowledge.specs.Marks.{Settled}
 use Rattle.runs.specs.declared.RunEvent.{RunEvent}
 use Rattle.runs.specs.declared.Runs.{Runs}
 use Rattle.state.specs.declared.State.{State as CodeState}
@@ -30,7 +32,8 @@ use Rattle.variables.specs.declared.NextValue.the-variants.{Value as isValue, N
 use Rattle.variables.specs.Variables.{unsetFrom, NextUnset, valuesFrom, Names, NotBefore, NextOf, hasNext, hasNone}
 use Rattle.variables.specs.laws.Values.{values-all}
 use Rattle.values.specs.Values.{Setting}
-use Rattle.values.specs.laws.Values.{setting-more, setting-all}
+use Rattle.values.specs.laws.Values.{setting-more}
+use Rattle.values.specs.laws.Arrays.{part-more, part-ready}
 use Rattle.values.specs.laws.Next.{no-more, Another, another}
 use Rattle.breaks.specs.declared.Values.{Values}
 use Rattle.breaks.specs.declared.Walked.{Walked}
@@ -86,7 +89,7 @@ takes-more takesNone may = takesMore may takesNone
 takes-more (takesMore m takes) may = takesMore m (takes-more takes may)
 
 module _ {file t : List ℕ} {n : ℕ} {r : Runs} {sc : Scenario} {d : State} {s : CodeState} {ms : List Move} {at k : ℕ} {e : RunEvent} {a : Active} (move : AtMove file t n r sc d s ms at k e a) (kind : e .kind ≡ 1)
-    {from : ℕ} {xs : List Atom} {vs : List Value} {names : List ℕ} {values : Values} (choosing : Choosing sc d s a from xs vs names values) {x : ℕ} (view : NextUnset (rowsOf t) (s .names) (k + 1) (e .row) from x) where
+    {from : ℕ} {xs : List Atom} {vs : List Value} {names classes : List ℕ} {marks : List Bool} {values : Values} (choosing : Choosing sc d s a from xs vs names classes marks values) {x : ℕ} (view : NextUnset (rowsOf t) (s .names) (k + 1) (e .row) from x) where
   abbrev pub left-to-set : List Atom
   left-to-set = unsetFrom (sc .rows) (a .progress .values) (a .event .row) from
 
@@ -95,9 +98,9 @@ module _ {file t : List ℕ} {n : ℕ} {r : Runs} {sc : Scenario} {d : State} {s
     none-left : left-to-set ≡ []
     none-left = no-more (move .next) (move .here .given .shape .count) from x view end
 
-    pub choose-all : Chosen sc d a e vs names values
+    pub choose-all : Chosen sc d a e vs names classes marks values
     choose-all = record {
-      sets = setting-all sc (move .here .given .good) d k a (move .next .isActive) (s .names) from xs vs names (choosing .setting) none-left;
+      ready = part-ready (move .next) (choosing .setting) (choosing .arrays) none-left;
       takes = subst (λ (l : List Atom). Takes (sc .rows) (length (sc .runs)) l vs) (sym (choosing .setting .split ∙ ap (λ (l : List Atom). xs ++ l) none-left ∙ append-nil xs)) (choosing .takes);
       only = λ z. absurd (z kind);
       are = choosing .are;
@@ -166,14 +169,13 @@ module _ {file t : List ℕ} {n : ℕ} {r : Runs} {sc : Scenario} {d : State} {s
         }
 
         -- the names and bytes with it
-        pub choosing-more : {more-names : List ℕ} {more-values : Values} → more-names ≡ set names (cellOf x (k + 1)) (cellOf (v .row) (v .run)) → ValuesAre (vs ++ (v ∷ [])) more-values → Choosing sc d s a (x + 1) (xs ++ (its .y ∷ [])) (vs ++ (v ∷ [])) more-names more-values
-        choosing-more {more-names} put are = record {
-          setting = subst (λ (f : ℕ). Setting sc d a (s .names) f (xs ++ (its .y ∷ [])) (vs ++ (v ∷ [])) more-names) (sym (add-one x))
-              (subst (λ (l : List ℕ). Setting sc d a (s .names) (suc x) (xs ++ (its .y ∷ [])) (vs ++ (v ∷ [])) l) (sym (put ∙ ap (λ (u : ℕ). set names (cellOf x u) (cellOf (v .row) (v .run))) (add-one k)))
-              (setting-more sc (move .here .given .good) d k a (move .next .isActive) (s .names) from xs vs names (choosing .setting) x (its .y) (its .low) (its .from-on) (its .isAtom) (its .isVariable) (its .unset) (its .first) v b value));
-          takes = takes-more (choosing .takes) may-take;
-          are = are;
-        }
+        pub choosing-more : {more-names more-classes : List ℕ} {more-marks : List Bool} {more-values : Values} → more-names ≡ set names (cellOf x (k + 1)) (cellOf (v .row) (v .run)) → Refilled (rowsOf t) (r .count) (k + 1) more-names classes more-classes
+            → Settled (rowsOf t) (r .count) more-classes marks more-marks → ValuesAre (vs ++ (v ∷ [])) more-values → Choosing sc d s a (x + 1) (xs ++ (its .y ∷ [])) (vs ++ (v ∷ [])) more-names more-classes more-marks more-values
+        choosing-more {more-names} put refilled settled are =
+            let setting = subst (λ (f : ℕ). Setting sc d a (s .names) f (xs ++ (its .y ∷ [])) (vs ++ (v ∷ [])) more-names) (sym (add-one x))
+            (subst (λ (l : List ℕ). Setting sc d a (s .names) (suc x) (xs ++ (its .y ∷ [])) (vs ++ (v ∷ [])) l) (sym (put ∙ ap (λ (u : ℕ). set names (cellOf x u) (cellOf (v .row) (v .run))) (add-one k)))
+            (setting-more sc (move .here .given .good) d k a (move .next .isActive) (s .names) from xs vs names (choosing .setting) x (its .y) (its .low) (its .from-on) (its .isAtom) (its .isVariable) (its .unset) (its .first) v b value)) in
+            record { setting = setting; arrays = part-more (move .next) (choosing .setting) (choosing .arrays) (move .here .given .shape) (its .y) v setting refilled settled; takes = takes-more (choosing .takes) may-take; are = are }
 
     pub low : x < n
     low = omega (arith, its .low, ap length (move .here .given .rows), move .here .given .shape .count)

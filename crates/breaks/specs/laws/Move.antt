@@ -69,7 +69,7 @@ pub place-low : {file t : List ℕ} {n : ℕ} {r : Runs} {sc : Scenario} {d : St
 place-low {sc = sc} {d = d} {ms = ms} here = omega (arith, here .place, trace-bytes sc (here .given .good) ms d (here .allowed))
 
 module _ {file t : List ℕ} {n : ℕ} {r : Runs} {sc : Scenario} {d : State} {s : CodeState} {ms : List Move} {at k : ℕ} {e : RunEvent} {a : Active} (move : AtMove file t n r sc d s ms at k e a)
-    {vs : List Value} {names : List ℕ} {values : Values} (chosen : Chosen sc d a e vs names values) where
+    {vs : List Value} {names classes : List ℕ} {marks : List Bool} {values : Values} (chosen : Chosen sc d a e vs names classes marks values) where
   abbrev pub taken : Move
   taken = record { run = suc k; values = vs }
 

@@ -18,11 +18,12 @@ use Rattle.runs.specs.Runs.{EventRead}
 use Rattle.state.specs.declared.State.{State as CodeState}
 use Rattle.state.specs.State.{NextMove}
 use Rattle.state.specs.laws.Active.{run-ended, Coming, run-coming, coming-move, coming-due}
-use Rattle.state.specs.laws.Performed.{none-set}
+use Rattle.state.specs.laws.Performed.{none-ready}
 use Rattle.variables.specs.Variables.{unsetFrom}
 use Rattle.values.specs.Values.{Setting}
 use Rattle.values.specs.laws.Values.{setting-none, setting-all}
 use Rattle.values.specs.laws.Next.{nothing-set}
+use Rattle.values.specs.laws.Arrays.{part-none}
 use Rattle.breaks.specs.declared.Values.{Values}
 use Rattle.breaks.specs.declared.Walked.{Walked}
 use Rattle.breaks.specs.declared.Walked.the-variants.{Broken, Clean, Cut}
@@ -53,9 +54,10 @@ module _ {file t : List ℕ} {n : ℕ} {r : Runs} {sc : Scenario} {d : State} {s
       is-read : e .kind ≡ 1 → its .0 .event .kind ≡ read
       is-read kind = sym (Option·some-injective read (its .0 .event .kind) (rw kind at (reads .kind)))
 
-      pub choosing-none : e .kind ≡ 1 → {values : Values} → ValuesAre [] values → Choosing sc d s (its .0) 0 [] [] (s .names) values
+      pub choosing-none : e .kind ≡ 1 → {values : Values} → ValuesAre [] values → Choosing sc d s (its .0) 0 [] [] (s .names) (s .classes) (s .marks) values
       choosing-none kind are = record {
         setting = setting-none sc (here .given .good) d k (its .0) (at-move .next .isActive) (here .state) (is-read kind);
+        arrays = part-none (at-move .next);
         takes = takesNone;
         are = are;
       }
@@ -67,9 +69,9 @@ module _ {file t : List ℕ} {n : ℕ} {r : Runs} {sc : Scenario} {d : State} {s
           finds-same sc left (run-some sc depth d (suc k) (at-move .next .isActive) ∙ ap (λ (xs : List Atom). below sc depth (branches sc d (suc k) (its .0) [] xs)) split) finds
 
       -- any other event sets nothing
-      pub chosen-none : (e .kind ≡ 1 → ⊥) → {values : Values} → ValuesAre [] values → Chosen sc d (its .0) e [] (s .names) values
+      pub chosen-none : (e .kind ≡ 1 → ⊥) → {values : Values} → ValuesAre [] values → Chosen sc d (its .0) e [] (s .names) (s .classes) (s .marks) values
       chosen-none kind are = record {
-        sets = none-set (at-move .next);
+        ready = none-ready (at-move .next);
         takes = subst (λ (xs : List Atom). Takes (sc .rows) (length (sc .runs)) xs []) (sym (nothing-set (at-move .next) kind)) takesNone;
         only = λ z. refl;
         are = are;

@@ -1,45 +1,27 @@
 -- `was_read` answers as the definitions do. Assumes nothing.
 use native.Mathlib.Omega.{arith}
-use mathlib.Core.Path.{_≡_}
 use borrow.Author.Needs.{needs}
+use mathlib.Core.Path.{_≡_}
 use lib.ListN.{length}
-use Rattle.state.specs.laws.Performed.{own-unmarked, peer-unmarked, read-answers}
+use Rattle.state.specs.laws.Performed.{read-performed, own-unmarked, peer-unmarked, row-unmarked}
 use Rattle.state.proofs.was_read.Statement.{statement}
 use Rattle.state.proofs.was_read.Tie as tie
 
-refill-requires : tie.Need-refill-requires
-refill-requires c κs =
-    let s = c .before .before .before .before .before .before in
-    let size : length (s .args .s .classes) ≡ 480 = search needs in
-    let names : length (s .args .t2) ≡ 480 = search needs in
-    (s .pre .0, (size, (names, omega (arith, s .pre .1 .0 .isRun))))
-
 returns : tie.Need-returns
-returns c sc d a vs next sets kind =
-    let s = c .before .before .before .before .before .before .before .before .before .before .before .before .before .before in
-    let refill = c .before .before .before .before .before .before .before .refill in
-    let settle = c .before .before .before .before .settle in
-    let size : length (s .args .s .done) ≡ 4 = search needs in
-    read-answers next (s .pre .0) (s .pre .1 .0) vs (s .args .t2) sets kind (refill .last .0) (settle .result) (refill .ensures) (settle .ensures)
-    (c .before .before .advance .result) (c .before .before .advance .ensures) size (c .before .if1 .taken) (c .if2 .taken) (c .before .before .before .cell .ensures .0)
+returns c t n runs sc d s a vs shape due next same ready kind =
+    let size : length (c .before .before .before .before .before .before .before .args .done) ≡ 4 = search needs in
+    read-performed next shape due vs ready kind same size (c .before .before .before .if1 .taken) (c .before .before .if2 .taken) (c .before .before .before .before .cell .ensures .0) (c .before .if3 .taken) (c .moved-on .ensures)
 
 returns-2 : tie.Need-returns-2
-returns-2 c sc d a vs next sets kind =
-    let s = c .before .before .before .before .before .before .before .before .before .before .before .before .before .before in
-    let refill = c .before .before .before .before .before .before .before .refill in
-    let settle = c .before .before .before .before .settle in
-    peer-unmarked next (s .pre .0) (s .pre .1 .0) vs (s .args .t2) sets kind (refill .last .0) (settle .result) (refill .ensures) (settle .ensures) _ (c .if2 .left)
+returns-2 c t n runs sc d s a vs shape due next same ready kind = row-unmarked next shape due vs ready kind (c .refused .ensures) (c .before .before .before .before .cell .ensures .0) (c .before .if3 .left)
 
 returns-3 : tie.Need-returns-3
-returns-3 c sc d a vs next sets kind =
-    let s = c .before .before .before .before .before .before .before .before .before .before .before .before .before in
-    let refill = c .before .before .before .before .before .before .refill in
-    let settle = c .before .before .before .settle in
-    own-unmarked next (s .pre .0) (s .pre .1 .0) vs (s .args .t2) sets kind (refill .last .0) (settle .result) (refill .ensures) (settle .ensures) _ (c .if1 .left)
+returns-3 c t n runs sc d s a vs shape due next same ready kind = peer-unmarked next shape due vs ready kind (c .refused2 .ensures) (c .before .if2 .left)
+
+returns-4 : tie.Need-returns-4
+returns-4 c t n runs sc d s a vs shape due next same ready kind = own-unmarked next shape due vs ready kind (c .refused3 .ensures) (c .before .if1 .left)
 
 pub was-read-spec : {M : Type 1} → statement M
 was-read-spec =
     tie.close
-    (tie.spec
-    (λ c. search needs) (λ c. search needs) (λ c. search needs) refill-requires (λ c. search needs) (λ c κs. search needs) (λ c. search needs) (λ c κs. search needs) (λ c κs. search needs)
-    (λ c. search needs) (λ c. search needs) (λ c. search needs) returns returns-2 returns-3)
+    (tie.spec (λ c. search needs) (λ c κs. search needs) (λ c. search needs) (λ c. search needs) (λ c. search needs) (λ c κs. search needs) returns (λ c κs. search needs) returns-2 (λ c κs. search needs) returns-3 (λ c κs. search needs) returns-4)

@@ -26,7 +26,7 @@ use Rattle.runs.specs.Runs.{EventRead}
 use Rattle.state.specs.declared.State.{State as CodeState}
 use Rattle.state.specs.declared.Moved.{Moved}
 use Rattle.state.specs.Readings.{SetsOf, setsIn, setsOf, withSets, readings}
-use Rattle.state.specs.State.{Arrays, Due, LearnsCell, IsState, NextMove, Sets, Performed, isAllowed, notAllowed}
+use Rattle.state.specs.State.{Arrays, Due, LearnsCell, IsState, NextMove, Sets, Ready, movedTo, Performed, isAllowed, notAllowed}
 use Rattle.state.specs.laws.Readings.{with-itself, readings-grow-from}
 use Rattle.state.specs.laws.Grown.{grown-arrays}
 use Rattle.state.specs.laws.Moves.{newReadings, mine, paired-none, sent-known, unsent, claimed, read-allowed, read-refused, advanced-state}
@@ -75,16 +75,21 @@ module _ {t : List ℕ} {runs k : ℕ} {e : RunEvent} {sc : Scenario} {d : State
       → Arrays (sc .rows) (length (sc .runs)) (newReadings sc (next .good) d (suc k) a (next .isActive) []) known names classes marks
   same-arrays arrays = rw same-readings arrays
 
-  -- the state's own names are right with no new values
-  pub none-set : Sets sc d a [] (s .names)
-  none-set = record { size = next .isState .arrays .sized; named = same-arrays (next .isState .arrays) .named; valued = same-standing }
+  -- how far the runs have come then
+  advanced-done : {done : List ℕ} → done ≡ s .done → set done k (getD done k 0 + 1) ≡ set (s .done) (a .index) (getD (s .done) (a .index) 0 + 1)
+  advanced-done {done} same = (λ i. set (same i) k (getD (same i) k 0 + 1)) ∙ ap (λ (j : ℕ). set (s .done) j (getD (s .done) j 0 + 1)) (sym index)
+
+  -- the state's own arrays are right with no new values
+  pub none-ready : Ready sc d a [] (s .names) (s .classes) (s .marks)
+  none-ready = record { arrays = same-arrays (next .isState .arrays); valued = same-standing }
 
   -- a claim
-  pub claim-performed : (done : List ℕ) → done ≡ set (s .done) k (getD (s .done) k 0 + 1) → length (s .done) ≡ 4 → e .kind ≡ 2
-      → Performed sc d a [] (record { allowed = true; state = record { done = done; names = s .names; classes = s .classes; marks = s .marks } })
-  claim-performed done moved size kind =
-      isAllowed refl (claimed sc (next .good) d (suc k) a (next .isActive) [] (kind-claim _ (rw kind at (next .isEvent .kind))))
-      (advanced-state sc (next .good) d (suc k) a (next .isActive) [] (next .isState) (d .known) _ (rw index moved) size (same-arrays (next .isState .arrays)) same-standing)
+  pub claim-performed : {done : List ℕ} → done ≡ s .done → length done ≡ 4 → {names classes : List ℕ} {marks : List Bool} → Ready sc d a [] names classes marks → e .kind ≡ 2
+      → {moved : Moved} → moved ≡ movedTo done names classes marks k → Performed sc d a [] moved
+  claim-performed {done} same size ready kind moves =
+      rw moves
+      (isAllowed refl (claimed sc (next .good) d (suc k) a (next .isActive) [] (kind-claim _ (rw kind at (next .isEvent .kind))))
+      (advanced-state sc (next .good) d (suc k) a (next .isActive) [] (next .isState) (d .known) _ (advanced-done same) (omega (arith, ap length same, size)) (ready .arrays) (ready .valued)))
 
   module _ {n : ℕ} (shape : Shape t n runs) (due : Due n runs k (e .own) (e .peer) (e .row)) where
     rows-n : length (sc .rows) ≡ n
@@ -105,81 +110,78 @@ module _ {t : List ℕ} {runs k : ℕ} {e : RunEvent} {sc : Scenario} {d : State
     few : length (sc .runs) ≤ 4
     few = next .good .fewRuns
 
-    class-of : {c : ℕ} → c ≡ cellOf (e .row) (k + 1) → c < cellCount → getD (s .classes) c 0 ≡ getD (s .classes) (cellOf (e .row) (suc k)) absent
-    class-of {c} h l =
-        let p : c ≡ cellOf (e .row) (suc k) = omega arith in
-        getD-any (s .classes) c 0 absent (omega (arith, next .isState .arrays .classed .size)) ∙ ap (λ (x : ℕ). getD (s .classes) x absent) p
+    -- names that have grown, with classes and marks worked on from the state's own, are ready
+    pub grown-ready : (vs : List Value) (names : List ℕ) → Sets sc d a vs names → {classes : List ℕ} {marks : List Bool} → Refilled (rowsOf t) runs (k + 1) names (s .classes) classes → Settled (rowsOf t) runs classes (s .marks) marks
+        → Ready sc d a vs names classes marks
+    unfolding setAfter
+    grown-ready vs names sets refilled settled = record { arrays = grown-arrays shape (next .rows) (next .count) (grows (paired (toSet sc a) vs)) (next .isState .arrays) (sets .named) (sets .size) refilled settled; valued = sets .valued }
 
-    module _ {c : ℕ} (place : c ≡ cellOf (e .row) (k + 1)) (inside : c < cellCount) (kind : e .kind ≡ 0) where
+    abbrev new : List Value → Readings
+    new vs = newReadings sc (next .good) d (suc k) a (next .isActive) vs
+
+    class-of : (classes : List ℕ) → length classes ≡ cellCount → {c : ℕ} → c ≡ cellOf (e .row) (k + 1) → c < cellCount → getD classes c 0 ≡ getD classes (cellOf (e .row) (suc k)) absent
+    class-of classes size {c} h l =
+        let p : c ≡ cellOf (e .row) (suc k) = omega arith in
+        getD-any classes c 0 absent (omega (arith, size)) ∙ ap (λ (x : ℕ). getD classes x absent) p
+
+    module _ {names classes : List ℕ} {marks : List Bool} (ready : Ready sc d a [] names classes marks) {c : ℕ} (place : c ≡ cellOf (e .row) (k + 1)) (inside : c < cellCount) (kind : e .kind ≡ 0) where
       is-send : a .event .kind ≡ send
       is-send = kind-send _ (rw kind at (next .isEvent .kind))
 
       -- a send whose term has no value is not allowed
-      pub send-refused : getD (s .classes) c 0 ≡ absent → (s′ : CodeState) → Performed sc d a [] (record { allowed = false; state = s′ })
-      send-refused h s′ =
-          let none-here = classes-none (next .good .table) few (next .isState .arrays .classed) row-within (omega (arith, class-of place inside, h)) in
-          notAllowed refl (unsent sc (next .good) d (suc k) a (next .isActive) [] (next .isEvent) is-send (same-value (e .row) (suc k) ∙ none-here))
+      pub send-refused : getD classes c 0 ≡ absent → {moved : Moved} → moved .allowed ≡ false → Performed sc d a [] moved
+      send-refused h no-move =
+          let none-here = classes-none (next .good .table) few (ready .arrays .classed) row-within (omega (arith, class-of classes (ready .arrays .classed .size) place inside, h)) in
+          notAllowed no-move (unsent sc (next .good) d (suc k) a (next .isActive) [] (next .isEvent) is-send none-here)
 
       -- every other is, and its message is known
-      pub send-performed : (getD (s .classes) c 0 ≡ absent → ⊥) → (done : List ℕ) → done ≡ set (s .done) k (getD (s .done) k 0 + 1) → length (s .done) ≡ 4
-          → (term receiver sender : List Bool) → LearnsCell (rowsOf t) runs (s .classes) (e .row) (k + 1) (s .marks) term → LearnsCell (rowsOf t) runs (s .classes) (e .peer) 0 term receiver
-          → LearnsCell (rowsOf t) runs (s .classes) (e .own) 0 receiver sender
-          → Performed sc d a [] (record { allowed = true; state = record { done = done; names = s .names; classes = s .classes; marks = sender } })
-      send-performed h done moved size term receiver sender l1 l2 l3 =
-          let arrays = next .isState .arrays in
-          let v = classes-there (next .good .table) few (arrays .classed) row-within (λ z. h (class-of place inside ∙ z)) in
-          let w = sent-known sc (next .good) d (suc k) a (next .isActive) [] (next .isEvent) is-send (same-value (e .row) (suc k) ∙ v .1) in
-          let own : cellValue (readings sc (setsOf (d .progress))) (sc .rows) (e .own) 0 ≡ some (w .0) = w .3 in
-          let peer : cellValue (readings sc (setsOf (d .progress))) (sc .rows) (e .peer) 0 ≡ some (w .1) = w .4 in
-          let a1 = learnt (s .classes) (e .row) (suc k) (s .marks) term (rw add-one at l1) (readings sc (setsOf (d .progress))) (d .known) (v .0) (arrays .classed) (arrays .celled) (arrays .exact) (v .1) in
-          let a2 = learnt (s .classes) (e .peer) 0 term receiver l2 (readings sc (setsOf (d .progress))) (v .0 ∷ d .known) (w .1) (arrays .classed) (a1 .0) (a1 .1) peer in
-          let a3 = learnt (s .classes) (e .own) 0 receiver sender l3 (readings sc (setsOf (d .progress))) (w .1 ∷ v .0 ∷ d .known) (w .0) (arrays .classed) (a2 .0) (a2 .1) own in
-          isAllowed refl (w .2)
-          (advanced-state sc (next .good) d (suc k) a (next .isActive) [] (next .isState) (w .0 ∷ w .1 ∷ v .0 ∷ d .known) _ (rw index moved) size
-          (same-arrays (record { named = arrays .named; sized = arrays .sized; classed = arrays .classed; exact = a3 .1; celled = a3 .0 })) same-standing)
+      pub send-performed : (getD classes c 0 ≡ absent → ⊥) → {done : List ℕ} → done ≡ s .done → length done ≡ 4
+          → (term receiver sender : List Bool) → LearnsCell (rowsOf t) runs classes (e .row) (k + 1) marks term → LearnsCell (rowsOf t) runs classes (e .peer) 0 term receiver
+          → LearnsCell (rowsOf t) runs classes (e .own) 0 receiver sender
+          → {moved : Moved} → moved ≡ movedTo done names classes sender k → Performed sc d a [] moved
+      send-performed h same size term receiver sender l1 l2 l3 moves =
+          let arrays = ready .arrays in
+          let v = classes-there (next .good .table) few (arrays .classed) row-within (λ z. h (class-of classes (arrays .classed .size) place inside ∙ z)) in
+          let w = sent-known sc (next .good) d (suc k) a (next .isActive) [] (next .isEvent) is-send (v .1) in
+          let own : cellValue (new []) (sc .rows) (e .own) 0 ≡ some (w .0) = w .3 in
+          let peer : cellValue (new []) (sc .rows) (e .peer) 0 ≡ some (w .1) = w .4 in
+          let a1 = learnt classes (e .row) (suc k) marks term (rw add-one at l1) (new []) (d .known) (v .0) (arrays .classed) (arrays .celled) (arrays .exact) (v .1) in
+          let a2 = learnt classes (e .peer) 0 term receiver l2 (new []) (v .0 ∷ d .known) (w .1) (arrays .classed) (a1 .0) (a1 .1) peer in
+          let a3 = learnt classes (e .own) 0 receiver sender l3 (new []) (w .1 ∷ v .0 ∷ d .known) (w .0) (arrays .classed) (a2 .0) (a2 .1) own in
+          rw moves
+          (isAllowed refl (w .2)
+          (advanced-state sc (next .good) d (suc k) a (next .isActive) [] (next .isState) (w .0 ∷ w .1 ∷ v .0 ∷ d .known) _ (advanced-done same) (omega (arith, ap length same, size))
+          (record { named = arrays .named; sized = arrays .sized; classed = arrays .classed; exact = a3 .1; celled = a3 .0 }) (ready .valued)))
 
-    module _ (vs : List Value) (names : List ℕ) (sets : Sets sc d a vs names) (kind : e .kind ≡ 1)
-        (classes : List ℕ) (marks : List Bool) (refilled : Refilled (rowsOf t) runs (k + 1) names (s .classes) classes) (settled : Settled (rowsOf t) runs classes (s .marks) marks) where
-      abbrev new : Readings
-      new = newReadings sc (next .good) d (suc k) a (next .isActive) vs
-
+    module _ {names classes : List ℕ} {marks : List Bool} (vs : List Value) (ready : Ready sc d a vs names classes marks) (kind : e .kind ≡ 1) where
       is-read : a .event .kind ≡ read
       is-read = kind-read _ (rw kind at (next .isEvent .kind))
 
-      -- the arrays are right for the new readings
-      new-arrays : Arrays (sc .rows) (length (sc .runs)) new (d .known) names classes marks
-      unfolding setAfter
-      new-arrays = grown-arrays shape (next .rows) (next .count) (grows (paired (toSet sc a) vs)) (next .isState .arrays) (sets .named) (sets .size) refilled settled
-
       -- a read with new values is allowed exactly if three cells are marked then
-      pub read-performed : (done : List ℕ) → done ≡ set (s .done) k (getD (s .done) k 0 + 1) → length (s .done) ≡ 4 → Marked marks (e .own) 0 → Marked marks (e .peer) 0 → Marked marks (e .row) (suc k)
-          → Performed sc d a vs (record { allowed = true; state = record { done = done; names = names; classes = classes; marks = marks } })
-      read-performed done moved size mo mp mr =
-          isAllowed refl (read-allowed sc (next .good) d (suc k) a (next .isActive) vs (next .isEvent) marks (new-arrays .exact) is-read own-within peer-within row-within mo mp mr)
-          (advanced-state sc (next .good) d (suc k) a (next .isActive) vs (next .isState) (d .known) _ (rw index moved) size
-          new-arrays (sets .valued))
+      pub read-performed : {done : List ℕ} → done ≡ s .done → length done ≡ 4 → getD marks (e .own) false ≡ true → getD marks (e .peer) false ≡ true → {c : ℕ} → c ≡ cellOf (e .row) (k + 1) → getD marks c false ≡ true
+          → {moved : Moved} → moved ≡ movedTo done names classes marks k → Performed sc d a vs moved
+      read-performed same size mo mp {c} place mr moves =
+          let at : c ≡ cellOf (e .row) (suc k) = omega arith in
+          rw moves
+          (isAllowed refl (read-allowed sc (next .good) d (suc k) a (next .isActive) vs (next .isEvent) marks (ready .arrays .exact) is-read own-within peer-within row-within (rw zero-add mo) (rw zero-add mp) (rw (← at) mr))
+          (advanced-state sc (next .good) d (suc k) a (next .isActive) vs (next .isState) (d .known) _ (advanced-done same) (omega (arith, ap length same, size))
+          (ready .arrays) (ready .valued)))
 
-      pub read-not : (s′ : CodeState) → (Marked marks (e .own) 0 → Marked marks (e .peer) 0 → Marked marks (e .row) (suc k) → ⊥) → Performed sc d a vs (record { allowed = false; state = s′ })
-      read-not s′ no-marks =
-          notAllowed refl (read-refused sc (next .good) d (suc k) a (next .isActive) vs (next .isEvent) marks (new-arrays .exact) is-read own-within peer-within row-within no-marks)
+      read-not : {moved : Moved} → moved .allowed ≡ false → (Marked marks (e .own) 0 → Marked marks (e .peer) 0 → Marked marks (e .row) (suc k) → ⊥) → Performed sc d a vs moved
+      read-not no-move no-marks =
+          notAllowed no-move (read-refused sc (next .good) d (suc k) a (next .isActive) vs (next .isEvent) marks (ready .arrays .exact) is-read own-within peer-within row-within no-marks)
 
       -- the same by the marks that are looked at
-      pub own-unmarked : (s′ : CodeState) → getD marks (e .own) false ≡ false → Performed sc d a vs (record { allowed = false; state = s′ })
-      own-unmarked s′ h = read-not s′ (λ mo mp mr. true≢false (sym (rw zero-add at mo) ∙ h))
+      pub own-unmarked : {moved : Moved} → moved .allowed ≡ false → getD marks (e .own) false ≡ false → Performed sc d a vs moved
+      own-unmarked no-move h = read-not no-move (λ mo mp mr. true≢false (sym (rw zero-add at mo) ∙ h))
 
-      pub peer-unmarked : (s′ : CodeState) → getD marks (e .peer) false ≡ false → Performed sc d a vs (record { allowed = false; state = s′ })
-      peer-unmarked s′ h = read-not s′ (λ mo mp mr. true≢false (sym (rw zero-add at mp) ∙ h))
+      pub peer-unmarked : {moved : Moved} → moved .allowed ≡ false → getD marks (e .peer) false ≡ false → Performed sc d a vs moved
+      peer-unmarked no-move h = read-not no-move (λ mo mp mr. true≢false (sym (rw zero-add at mp) ∙ h))
 
-      pub read-answers : (done : List ℕ) → done ≡ set (s .done) k (getD (s .done) k 0 + 1) → length (s .done) ≡ 4 → getD marks (e .own) false ≡ true → getD marks (e .peer) false ≡ true
-          → {c : ℕ} → c ≡ cellOf (e .row) (k + 1) → Performed sc d a vs (record { allowed = getD marks c false; state = record { done = done; names = names; classes = classes; marks = marks } })
-      read-answers done moved size mo mp {c} place = go (getD marks c false) refl
-        where
-          at : c ≡ cellOf (e .row) (suc k)
-          at = omega arith
-
-          go : (b : Bool) → getD marks c false ≡ b → Performed sc d a vs (record { allowed = b; state = record { done = done; names = names; classes = classes; marks = marks } })
-          go true h = read-performed done moved size (rw zero-add mo) (rw zero-add mp) (rw (← at) h)
-          go false h = read-not _ (λ no np mr. true≢false (sym mr ∙ ap (λ (x : ℕ). getD marks x false) (sym at) ∙ h))
+      pub row-unmarked : {moved : Moved} → moved .allowed ≡ false → {c : ℕ} → c ≡ cellOf (e .row) (k + 1) → getD marks c false ≡ false → Performed sc d a vs moved
+      row-unmarked no-move {c} place h =
+          let at : c ≡ cellOf (e .row) (suc k) = omega arith in
+          read-not no-move (λ mo mp mr. true≢false (sym mr ∙ ap (λ (x : ℕ). getD marks x false) (sym at) ∙ h))
 
 -- an event of another kind is a claim
 pub other-kind : {t : List ℕ} {runs k : ℕ} {e : RunEvent} {sc : Scenario} {d : State} {s : CodeState} {a : Active} → NextMove t runs k e sc d s a → (e .kind ≡ 1 → ⊥) → (e .kind ≡ 0 → ⊥) → e .kind ≡ 2

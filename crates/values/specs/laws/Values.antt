@@ -141,11 +141,15 @@ module _ (sc : Scenario) (good : Guarantee sc) (d : State) (k : ℕ) (a : Active
       to-read = ap (λ (kind : EventKind). newVariables (sc .rows) (a .progress .values) kind (a .event .row)) kind
 
   -- all is set
+  pub all-set : (before : List ℕ) (from : ℕ) (xs : List Atom) (vs : List Value) (names : List ℕ) → Setting sc d a before from xs vs names
+      → unsetFrom (sc .rows) (a .progress .values) (a .event .row) from ≡ [] → partSets a xs vs ≡ setAfter sc a vs
+  unfolding setAfter
+  all-set before from xs vs names setting e = ap (λ (l : List Atom). a .progress .values ++ paired l vs) (sym (setting .split ∙ ap (λ (l : List Atom). xs ++ l) e ∙ append-nil xs))
+
   pub setting-all : (before : List ℕ) (from : ℕ) (xs : List Atom) (vs : List Value) (names : List ℕ) → Setting sc d a before from xs vs names
       → unsetFrom (sc .rows) (a .progress .values) (a .event .row) from ≡ [] → Sets sc d a vs names
-  unfolding setAfter
   setting-all before from xs vs names setting e =
-      let same : partSets a xs vs ≡ setAfter sc a vs = ap (λ (l : List Atom). a .progress .values ++ paired l vs) (sym (setting .split ∙ ap (λ (l : List Atom). xs ++ l) e ∙ append-nil xs)) in
+      let same = all-set before from xs vs names setting e in
       record {
         size = setting .size;
         named = subst (λ (l : List (Atom × Value)). NamesRight (sc .rows) (length (sc .runs)) (readings sc (withSets (a .index) l (setsOf (d .progress)))) names) same (setting .named);
