@@ -26,8 +26,8 @@ use Rattle.variables.specs.Variables.{unsetFrom, MayTake, takes, takesNot, Name
 use Rattle.values.specs.Values.{Setting}
 use Rattle.values.specs.laws.Values.{setting-none, setting-more, setting-all}
 use Rattle.values.specs.laws.Next.{nothing-set}
-use Rattle.replay.specs.declared.Choice.{Choice}
-use Rattle.replay.specs.Replay.{Suited, isSuited, notSuited}
+use Rattle.choices.specs.declared.Choice.{Choice}
+use Rattle.choices.specs.Choices.{Suited, isSuited, notSuited}
 
 -- the values in some bytes, from the first on
 values-next : (bytes : List ℕ) (i : ℕ) → i + 1 < length bytes → valuesIn (drop i bytes) ≡ record { row = getD bytes i 0; run = getD bytes (i + 1) 0 } ∷ valuesIn (drop (i + 2) bytes)

@@ -20,10 +20,10 @@ use Rattle.state.specs.declared.State.{State}
 use Rattle.state.specs.State.{NextMove}
 use Rattle.variables.specs.Variables.{Beneath, NextUnset, MayTake}
 use Rattle.values.specs.laws.Next.{no-more, another, variable-found}
-use Rattle.replay.specs.laws.Values.{Part, part-none, part-suits, part-long, part-short, part-not, part-more, value-fits, taken-value, no-value, may-carry, part-carry}
+use Rattle.choices.specs.laws.Values.{Part, part-none, part-suits, part-long, part-short, part-not, part-more, value-fits, taken-value, no-value, may-carry, part-carry}
 use borrow.Author.Tests.{not-true, not-false}
-use Rattle.replay.proofs.chosen.Statement.{statement}
-use Rattle.replay.proofs.chosen.Tie as tie
+use Rattle.choices.proofs.chosen.Statement.{statement}
+use Rattle.choices.proofs.chosen.Tie as tie
 
 abbrev Parted : List ℕ → ℕ → ℕ → ℕ → List ℕ → List ℕ → List ℕ → ℕ → ℕ → Type 0
 Parted t runs k row values names more from i =

@@ -17,10 +17,11 @@ use Rattle.runs.specs.declared.RunEvent.{RunEvent}
 use Rattle.state.specs.declared.State.{State as CodeState}
 use Rattle.state.specs.declared.Moved.{Moved}
 use Rattle.state.specs.State.{IsState, NextMove, Sets, Performed, isAllowed, notAllowed}
-use Rattle.replay.specs.declared.Choice.{Choice}
-use Rattle.replay.specs.declared.Stepped.{Stepped}
-use Rattle.replay.specs.Replay.{Suited, isSuited, notSuited, stepAfter, StepDone, isStep, noStep}
-use Rattle.replay.specs.laws.Values.{only-none}
+use Rattle.choices.specs.declared.Choice.{Choice}
+use Rattle.choices.specs.Choices.{Suited, isSuited, notSuited}
+use Rattle.choices.specs.laws.Values.{only-none}
+use Rattle.steps.specs.declared.Stepped.{Stepped}
+use Rattle.steps.specs.Steps.{stepAfter, StepDone, isStep, noStep}
 
 -- a step that is cut short
 first-short : (bytes : List ℕ) → length bytes < 2 → firstStep bytes ≡ none

@@ -2,9 +2,9 @@
 use native.Mathlib.Omega.{arith}
 use borrow.Author.Needs.{needs}
 use mathlib.Core.Path.{_≡_, refl}
-use Rattle.replay.specs.laws.Values.{none-suit, some-suit-not}
-use Rattle.replay.proofs.valued.Statement.{statement}
-use Rattle.replay.proofs.valued.Tie as tie
+use Rattle.choices.specs.laws.Values.{none-suit, some-suit-not}
+use Rattle.choices.proofs.valued.Statement.{statement}
+use Rattle.choices.proofs.valued.Tie as tie
 
 returns : tie.Need-returns
 returns c sc d a next = c .chosen .ensures _ sc d _ a next refl refl (c .before .if1 .taken)

@@ -10,9 +10,9 @@ use Rattle.semantics.specs.State as definitions
 use Rattle.semantics.specs.State.{Active, active}
 use Rattle.state.specs.State.{Given, IsState}
 use Rattle.state.specs.laws.Active.{active-zero, active-high, run-ended, Coming, run-coming, coming-move, coming-due}
-use Rattle.replay.specs.laws.Steps.{refuses-short, refuses-cut, refuses-inactive, refuses-unsuited, suited-sets, step-performed, suited-none}
-use Rattle.replay.proofs.step.Statement.{statement}
-use Rattle.replay.proofs.step.Tie as tie
+use Rattle.steps.specs.laws.Steps.{refuses-short, refuses-cut, refuses-inactive, refuses-unsuited, suited-sets, step-performed, suited-none}
+use Rattle.steps.proofs.step.Statement.{statement}
+use Rattle.steps.proofs.step.Tie as tie
 
 -- a run's number and its index
 run-number : {u : ℕ} → (u ≡ 0 → ⊥) → suc (u - 1) ≡ u
