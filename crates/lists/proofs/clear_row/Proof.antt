@@ -1,9 +1,9 @@
 -- `records::clear_row` meets its contract: kind by kind, the code tests what the definition asks. Assumes nothing.
 use native.Mathlib.Omega.{arith}
 use borrow.Author.Needs.{needs}
-use Rattle.records.specs.laws.Clear.{clear-low, clear-high, clear-one, clear-two, clear-not, left-lower, right-lower}
-use Rattle.records.proofs.clear_row.Statement.{statement}
-use Rattle.records.proofs.clear_row.Tie as tie
+use Rattle.lists.specs.laws.Clear.{clear-low, clear-high, clear-one, clear-two, clear-not, left-lower, right-lower}
+use Rattle.lists.proofs.clear_row.Statement.{statement}
+use Rattle.lists.proofs.clear_row.Tie as tie
 
 returns : tie.Need-returns
 returns c = rw (← c .before .before .kind-of .ensures .0) (clear-low _ _ _ _ _ (c .before .if1 .taken) (c .if2 .taken))

@@ -7,10 +7,10 @@ use lib.ListN.{length}
 use borrow.Author.Needs.{needs}
 use borrow.Author.Tests.{not-true, not-false}
 use Rattle.rows.specs.Rows.{placeAs}
-use Rattle.records.specs.Records.{hasValue, unfitFrom}
-use Rattle.records.specs.laws.Knowledge.{marked-absent, marked-not, marked-is, unfitLeft, unfit-all, unfit-none, unfit-low, unfit-here, unfit-later}
-use Rattle.records.proofs.unfit_row.Statement.{statement}
-use Rattle.records.proofs.unfit_row.Tie as tie
+use Rattle.lists.specs.Lists.{hasValue, unfitFrom}
+use Rattle.lists.specs.laws.Knowledge.{marked-absent, marked-not, marked-is, unfitLeft, unfit-all, unfit-none, unfit-low, unfit-here, unfit-later}
+use Rattle.lists.proofs.unfit_row.Statement.{statement}
+use Rattle.lists.proofs.unfit_row.Tie as tie
 
 abbrev Inv-loop : tie.InvT-loop
 Inv-loop b base n clear i₀ least₀ i least = (i ≤ length b) × (unfitFrom (hasValue n clear) base 0 b ≡ unfitLeft (hasValue n clear) base b least i)

@@ -20,7 +20,7 @@ use Rattle.rows.specs.Rows.{placeAs}
 use Rattle.rows.specs.declared.Place.{Place}
 use Rattle.rows.specs.declared.Place.the-variants.{At, Nowhere}
 use Rattle.semantics.specs.laws.Value.{value-within}
-use Rattle.records.specs.Records.{Valued, hasValue, unfitFrom}
+use Rattle.lists.specs.Lists.{Valued, hasValue, unfitFrom}
 
 -- a row that is absent has no value
 absent-value : (reading : Reading) (rows : List Row) (r : ℕ) → length rows ≤ r → false ≡ present (valueOf reading rows r)

@@ -3,10 +3,10 @@ use mathlib.Core.Path.{ap, _∙_}
 use borrow.Author.Needs.{needs}
 use Rattle.semantics.specs.Value.{withoutRun}
 use Rattle.rows.specs.Rows.{rowsOf, placeAs}
-use Rattle.records.specs.laws.Clear.{bars-run}
-use Rattle.records.specs.laws.Knowledge.{knowledge-found}
-use Rattle.records.proofs.bad_knowledge.Statement.{statement}
-use Rattle.records.proofs.bad_knowledge.Tie as tie
+use Rattle.lists.specs.laws.Clear.{bars-run}
+use Rattle.lists.specs.laws.Knowledge.{knowledge-found}
+use Rattle.lists.proofs.bad_knowledge.Statement.{statement}
+use Rattle.lists.proofs.bad_knowledge.Tie as tie
 
 returns : tie.Need-returns
 returns c = let r = c .before .before in

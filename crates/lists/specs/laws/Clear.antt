@@ -19,7 +19,7 @@ use Rattle.semantics.specs.laws.List.{getElem-there}
 use Rattle.semantics.specs.laws.Value.{rowValue, value-unfolds}
 use Rattle.rows.specs.Rows.{IsTable, rowsOf, Sized}
 use Rattle.rows.specs.laws.Decodes.{Decodes, isTrusted, isUntrusted, isGlobal, isIntruder, isRole, isAgentVariable, isFreshVariable, isLocal, isPk, isSk, isShared, isPair, isEncrypted, table-good, table-row}
-use Rattle.records.specs.Records.{Bars, Valued, clearBy, clearAt}
+use Rattle.lists.specs.Lists.{Bars, Valued, clearBy, clearAt}
 
 -- a number is not up to another exactly if it is above it
 not-leb : (a b : ℕ) → not (leb a b) ≡ ltb b a

@@ -4,9 +4,9 @@ use native.Mathlib.Omega.{arith}
 use mathlib.Core.Path.{_≡_, refl, _∙_}
 use lib.ListN.{length, length-set}
 use borrow.Author.Needs.{needs}
-use Rattle.records.specs.laws.Clear.{Cleared, cleared-more, cleared-all}
-use Rattle.records.proofs.clear_rows.Statement.{statement}
-use Rattle.records.proofs.clear_rows.Tie as tie
+use Rattle.lists.specs.laws.Clear.{Cleared, cleared-more, cleared-all}
+use Rattle.lists.proofs.clear_rows.Statement.{statement}
+use Rattle.lists.proofs.clear_rows.Tie as tie
 
 abbrev Inv-loop : tie.InvT-loop
 Inv-loop t n low high clear₀ r₀ clear r = (r ≤ n) × ((length clear ≡ 96) × Cleared t low high clear r)
