@@ -1,10 +1,10 @@
 -- `possible::follow` meets its contract: what a row needs is a cell of its kind, and its parts need the classes of that cell's parts. Assumes nothing.
 use mathlib.Core.Path.{refl, sym, _∙_}
-use Rattle.possible.specs.laws.Fits.{followed-row, followed-run, followed-kind, followed-parts}
+use Rattle.fits.specs.laws.Fits.{followed-row, followed-run, followed-kind, followed-parts}
 use native.Mathlib.Omega.{arith}
 use borrow.Author.Needs.{needs}
-use Rattle.possible.proofs.follow.Statement.{statement}
-use Rattle.possible.proofs.follow.Tie as tie
+use Rattle.fits.proofs.follow.Statement.{statement}
+use Rattle.fits.proofs.follow.Tie as tie
 
 returns-3 : tie.Need-returns-3
 returns-3 c =

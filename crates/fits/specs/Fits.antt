@@ -1,7 +1,7 @@
 -- What rows of a run need so that one of them gets the value of a class. Assumes nothing.
 use Prim.Native.Nat.{ℕ, _<_, _≤_}
 use mathlib.Core.Path.{_≡_}
-use mathlib.Core.Bool.{Bool, true, false}
+use mathlib.Core.Bool.{Bool, true}
 use mathlib.Core.List.{List}
 use lib.ListN.{length, getD}
 use Rattle.semantics.specs.Term.{Term}
@@ -11,7 +11,6 @@ use Rattle.classes.specs.Classes.{Classes, Grows}
 use Rattle.knowledge.specs.Marks.{Marked}
 use Rattle.knowledge.specs.Steps.{classAt, leftAt, Inside}
 use Rattle.knowledge.specs.laws.Values.{Has}
-use Rattle.possible.specs.Possible.{Possible}
 
 -- Old readings for which the classes are right, and new ones that grow from them in a run.
 pub record Setting (bytes : List ℕ) (n runs : ℕ) (classes : List ℕ) (u : ℕ) : Type 0 where
@@ -59,8 +58,3 @@ module _ (bytes : List ℕ) (n runs : ℕ) (classes : List ℕ) (u : ℕ) where
   -- a row can get the value of a marked cell that stands for its own value
   abbrev pub CanTake : List Bool → ℕ → ℕ → ℕ → Type 0
   CanTake marks r y w = Marked marks y w × (classAt classes y w ≡ cellOf y w) × CanGet r (cellOf y w)
-
--- tests of rows below 96 that each keep the promise
-pub record Tested (bytes : List ℕ) (runs : ℕ) (classes : List ℕ) (marks : List Bool) (u : ℕ) (can : List Bool) : Type 0 where
-  pub size : length can ≡ 96
-  pub each : (y : ℕ) → y < 96 → Possible (rowsOf bytes) runs classes marks u y (getD can y false)

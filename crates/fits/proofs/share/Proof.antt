@@ -1,10 +1,10 @@
 -- `possible::share` meets its contract: the first part is asked, then the second. Assumes nothing.
 use Rattle.cells.specs.laws.Cells.{left-small, second-small}
-use Rattle.possible.specs.laws.Fits.{shared-both, shared-refused}
+use Rattle.fits.specs.laws.Fits.{shared-both, shared-refused}
 use native.Mathlib.Omega.{arith}
 use borrow.Author.Needs.{needs}
-use Rattle.possible.proofs.share.Statement.{statement}
-use Rattle.possible.proofs.share.Tie as tie
+use Rattle.fits.proofs.share.Statement.{statement}
+use Rattle.fits.proofs.share.Tie as tie
 
 class-at-requires : tie.Need-class-at-requires
 class-at-requires c κs =

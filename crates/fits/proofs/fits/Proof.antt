@@ -2,11 +2,11 @@
 -- The measure is the row. Assumes nothing.
 use Prim.Native.Nat.{_≤_}
 use mathlib.Core.Path.{refl}
-use Rattle.possible.specs.laws.Fits.{Needs, needed-start, needs-more, needs-refused}
+use Rattle.fits.specs.laws.Fits.{Needs, needed-start, needs-more, needs-refused}
 use native.Mathlib.Omega.{arith}
 use borrow.Author.Needs.{needs}
-use Rattle.possible.proofs.fits.Statement.{statement}
-use Rattle.possible.proofs.fits.Tie as tie
+use Rattle.fits.proofs.fits.Statement.{statement}
+use Rattle.fits.proofs.fits.Tie as tie
 
 abbrev Inv-loop : tie.InvT-loop
 Inv-loop t n runs classes u r class need₀ q₀ need q = (q ≤ n) × Needs t n runs classes u r class need

@@ -1,8 +1,8 @@
 -- `possible::ask` meets its contract: what a row has or needs already is compared, and what it needs now is noted. Assumes nothing.
-use Rattle.possible.specs.laws.Fits.{asked-own, asked-had, asked-now}
+use Rattle.fits.specs.laws.Fits.{asked-own, asked-had, asked-now}
 use borrow.Author.Needs.{needs}
-use Rattle.possible.proofs.ask.Statement.{statement}
-use Rattle.possible.proofs.ask.Tie as tie
+use Rattle.fits.proofs.ask.Statement.{statement}
+use Rattle.fits.proofs.ask.Tie as tie
 
 returns : tie.Need-returns
 returns c =

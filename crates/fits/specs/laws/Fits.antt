@@ -19,7 +19,7 @@ use Rattle.classes.specs.laws.Kinds.{firstPart, secondPart, value-made}
 use Rattle.classes.specs.laws.Values.{cell-kept}
 use Rattle.knowledge.specs.Steps.{classAt, kindAt, leftAt, Inside}
 use Rattle.knowledge.specs.laws.Values.{Has, Standing, standsAtom, standsRow, has-value, stand, one-class}
-use Rattle.possible.specs.Fits.{Setting, ClassOf, Gets, Needed, Asked, Shared, Followed, CanGet, CanTake}
+use Rattle.fits.specs.Fits.{Setting, ClassOf, Gets, Needed, Asked, Shared, Followed, CanGet, CanTake}
 
 -- a row has one value
 one-term : {o : Option Term} {t s : Term} → o ≡ some t → o ≡ some s → t ≡ s
