@@ -5,9 +5,9 @@ use Prim.Native.Nat.{ℕ, _-_, _≤_}
 use mathlib.Core.Path.{_≡_}
 use lib.ListN.{length}
 use Rattle.rows.specs.Rows.{rowsOf}
-use Rattle.state.specs.laws.Start.{EnteredTo, entered-none, entered-more, entered-all}
-use Rattle.state.proofs.entered.Statement.{statement}
-use Rattle.state.proofs.entered.Tie as tie
+use Rattle.start.specs.laws.Start.{EnteredTo, entered-none, entered-more, entered-all}
+use Rattle.start.proofs.entered.Statement.{statement}
+use Rattle.start.proofs.entered.Tie as tie
 
 abbrev Inv-loop : tie.InvT-loop
 Inv-loop t n u agents more₀ r₀ more r = (r ≤ n) × EnteredTo (rowsOf t) u agents more₀ r more

@@ -12,7 +12,7 @@ use lib.ListN.{length, getD, getElem?, set}
 use lib.Seq.{getD-set-same, getD-set-other}
 use Rattle.semantics.specs.Basic.{andThen}
 use Rattle.semantics.specs.Term.{VariableType, agentType, freshType, Atom, trusted, untrusted, global, intruder, role, variable, local, Term, atom}
-use Rattle.semantics.specs.Table.{Row, atomic}
+use Rattle.semantics.specs.Table.{Row, atomic, pkOf, skOf, sharedOf, pairOf, encryptedOf}
 use Rattle.semantics.specs.Value.{withoutRun}
 use Rattle.semantics.specs.Runs.{atomOf, atomAt, isAgent}
 use Rattle.semantics.specs.State.{Value, inRun, termOf, readingIn, assigned}
@@ -23,8 +23,27 @@ use Rattle.cells.specs.Cells.{cellOf, cellCount, absent, Shape, Within, Canonic
 use Rattle.cells.specs.laws.Cells.{row-there, row-decodes}
 use Rattle.classes.specs.Classes.{Named, unnamed, named}
 use Rattle.knowledge.specs.Steps.{kindAt, leftAt}
-use Rattle.state.specs.Start.{firstReading, AreAgents, FirstName, Entered}
-use Rattle.state.specs.laws.Moves.{agent-atom, agent-term}
+use Rattle.start.specs.Start.{firstReading, AreAgents, FirstName, Entered}
+
+-- the row of an agent
+pub agent-atom : (o : Option Row) → T (isAgent (atomOf o)) → (b : Atom) × (o ≡ some (atomic b)) × (inRun 0 b ≡ b) × (withoutRun b ≡ some (atom b)) × Canonical b 0
+agent-atom none h = absurd h
+agent-atom (some (atomic (trusted n))) h = (trusted n, refl, refl, refl, refl)
+agent-atom (some (atomic (untrusted n))) h = (untrusted n, refl, refl, refl, refl)
+agent-atom (some (atomic (global n))) h = absurd h
+agent-atom (some (atomic (intruder n))) h = absurd h
+agent-atom (some (atomic (role i))) h = absurd h
+agent-atom (some (atomic (variable n t))) h = absurd h
+agent-atom (some (atomic (local n u))) h = absurd h
+agent-atom (some (pkOf a)) h = absurd h
+agent-atom (some (skOf a)) h = absurd h
+agent-atom (some (sharedOf a b)) h = absurd h
+agent-atom (some (pairOf l r)) h = absurd h
+agent-atom (some (encryptedOf l r)) h = absurd h
+
+pub agent-term : (rows : List Row) (r : ℕ) (b : Atom) → getElem? rows r ≡ some (atomic b) → inRun 0 b ≡ b → termOf rows (record { row = r; run = 0 }) ≡ some (atom b)
+unfolding termOf
+agent-term rows r b e f = rw (e, f) refl
 
 -- what the atom of a row is, by its kind and left byte
 data AtomIs (l : ℕ) (a : Atom) : ℕ → Type 0 where

@@ -4,9 +4,9 @@ use borrow.Author.Needs.{needs}
 use Prim.Native.Nat.{ℕ, _-_, _≤_}
 use mathlib.Core.Path.{_≡_, sym, _∙_}
 use mathlib.Core.Logic.{⊎-elim}
-use Rattle.state.specs.laws.Start.{IntrudersTo, intruders-none, intruders-set, intruders-skip, intruders-all}
-use Rattle.state.proofs.intruder_marks.Statement.{statement}
-use Rattle.state.proofs.intruder_marks.Tie as tie
+use Rattle.start.specs.laws.Start.{IntrudersTo, intruders-none, intruders-set, intruders-skip, intruders-all}
+use Rattle.start.proofs.intruder_marks.Statement.{statement}
+use Rattle.start.proofs.intruder_marks.Tie as tie
 
 abbrev Inv-loop : tie.InvT-loop
 Inv-loop t n marks₀ r₀ marks r = (r ≤ n) × IntrudersTo t n r marks

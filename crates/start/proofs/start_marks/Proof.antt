@@ -4,10 +4,10 @@ use borrow.Author.Needs.{needs}
 use Prim.Native.Nat.{ℕ, _-_, _≤_}
 use lib.ListN.{length, take}
 use Rattle.role_level.specs.laws.Loops.{at-mem}
-use Rattle.state.specs.Start.{StartMarks}
-use Rattle.state.specs.laws.Start.{listed-more, listed-all}
-use Rattle.state.proofs.start_marks.Statement.{statement}
-use Rattle.state.proofs.start_marks.Tie as tie
+use Rattle.start.specs.Start.{StartMarks}
+use Rattle.start.specs.laws.Start.{listed-more, listed-all}
+use Rattle.start.proofs.start_marks.Statement.{statement}
+use Rattle.start.proofs.start_marks.Tie as tie
 
 abbrev Inv-loop : tie.InvT-loop
 Inv-loop t n list marks₀ i₀ marks i = (i ≤ length list) × StartMarks t n (take i list) marks

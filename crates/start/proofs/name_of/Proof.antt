@@ -3,9 +3,9 @@ use native.Mathlib.Omega.{arith}
 use borrow.Author.Needs.{needs}
 use mathlib.Core.Path.{_≡_, sym, _∙_, subst}
 use Prim.Native.Nat.{ℕ}
-use Rattle.state.specs.laws.Names.{name-itself, name-without-run, name-agent, name-no-agent, name-local, name-none}
-use Rattle.state.proofs.name_of.Statement.{statement}
-use Rattle.state.proofs.name_of.Tie as tie
+use Rattle.start.specs.laws.Names.{name-itself, name-without-run, name-agent, name-no-agent, name-local, name-none}
+use Rattle.start.proofs.name_of.Statement.{statement}
+use Rattle.start.proofs.name_of.Tie as tie
 
 returns : tie.Need-returns
 returns c =
