@@ -1,4 +1,4 @@
--- What the test of a partial choice promises, what rows need, and the laws of that.
+-- What the test of a partial choice promises, and the laws of that.
 pub mod Possible
-pub mod Fits
+pub mod Tests
 pub mod laws

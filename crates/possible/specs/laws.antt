@@ -1,4 +1,3 @@
 -- The laws of rows that can still be derivable, with their proofs.
-pub mod Fits
 pub mod Known
 pub mod Tests

@@ -6,102 +6,11 @@ ghost use lib.ListN.{length, getD};
 ghost use Rattle.rows.specs.Rows.{rowsOf};
 ghost use Rattle.cells.specs.Cells.{Shape, cellCount};
 ghost use Rattle.knowledge.specs.Steps.{kindAt, Inside};
+ghost use Rattle.fits.specs.Fits.{CanTake};
 ghost use Rattle.possible.specs.Possible.{Possible};
-ghost use Rattle.possible.specs.Fits.{Asked, Shared, Followed, CanGet, CanTake, Tested};
+ghost use Rattle.possible.specs.Tests.{Tested};
 use cells::Cells;
 use cells::cell;
-
-// Notes that row q of run u needs a class, unless it has or needs another already.
-fn ask(need: &mut [u16; 96], classes: &[u16], u: usize, q: usize, class: u16) -> bool
-    requires { ⌜ (length (now classes) ≡ cellCount) × ((q < 96) × (u ≤ 4)) ⌝ }
-    ensures { λ r. ⌜ Asked (now (classes .entry)) u (now (need .entry)) (now (need .exit)) q class r ⌝ }
-{
-    let own = knowledge::class_at(classes, q, u);
-    if own < Cells::ABSENT {
-        return own == class;
-    }
-    if need[q] < Cells::ABSENT {
-        return need[q] == class;
-    }
-    need[q] = class;
-    true
-}
-
-// Notes that the parts of row q in run u need the classes of the parts of row y in run w.
-fn share(
-    need: &mut [u16; 96],
-    t: &[u8],
-    n: usize,
-    runs: usize,
-    classes: &[u16],
-    u: usize,
-    q: usize,
-    y: usize,
-    w: usize,
-) -> bool
-    requires { ⌜ Shape (now t) n runs × ((length (now classes) ≡ cellCount) × ((u ≤ runs) × ((q < n) × ((8 ≤ kindAt (now t) q) × ((y < n) × ((8 ≤ kindAt (now t) y) × (w ≤ runs))))))) ⌝ }
-    ensures { λ r. ⌜ Shared (now (t .entry)) n runs (now (classes .entry)) u (now (need .entry)) (now (need .exit)) q y w r ⌝ }
-{
-    let first = knowledge::class_at(classes, rows::left_of(t, y), w);
-    let second = knowledge::class_at(classes, cells::second_of(t, y), w);
-    if ask(need, classes, u, rows::left_of(t, q), first) {
-        return ask(need, classes, u, cells::second_of(t, q), second);
-    }
-    false
-}
-
-// Passes on to the parts of row q what the row needs in run u: false where it cannot get that.
-fn follow(
-    need: &mut [u16; 96],
-    t: &[u8],
-    n: usize,
-    runs: usize,
-    classes: &[u16],
-    u: usize,
-    q: usize,
-) -> bool
-    requires { ⌜ Shape (now t) n runs × ((length (now classes) ≡ cellCount) × ((u ≤ runs) × (q < n))) ⌝ }
-    ensures { λ r. ⌜ Followed (now (t .entry)) n runs (now (classes .entry)) u (now (need .entry)) (now (need .exit)) r ⌝ }
-{
-    let class = need[q];
-    if Cells::ABSENT <= class {
-        return true;
-    }
-    let kind = rows::kind_of(t, q);
-    if kind < 8 {
-        return true;
-    }
-    let y = class as usize % 96;
-    if n <= y {
-        return false;
-    }
-    let w = class as usize / 96;
-    if runs < w {
-        return false;
-    }
-    if rows::kind_of(t, y) != kind {
-        return false;
-    }
-    share(need, t, n, runs, classes, u, q, y, w)
-}
-
-// Whether row r of run u can still get the value of a class: one pass from the row down.
-fn fits(t: &[u8], n: usize, runs: usize, classes: &[u16], u: usize, r: usize, class: u16) -> bool
-    requires { ⌜ Shape (now t) n runs × ((length (now classes) ≡ cellCount) × ((u ≤ runs) × (r < n))) ⌝ }
-    ensures { λ b. ⌜ (CanGet (now (t .entry)) n runs (now (classes .entry)) u r class → b ≡ true) ⌝ }
-{
-    let mut need = [Cells::ABSENT; 96];
-    need[r] = class;
-    let mut q = r + 1;
-    while 0 < q {
-        q -= 1;
-        if follow(&mut need, t, n, runs, classes, u, q) {
-            continue;
-        }
-        return false;
-    }
-    true
-}
 
 // Whether row r of run u can still get the value of row y in run w, if that cell is marked and stands for its own value.
 fn fits_cell(
@@ -122,7 +31,7 @@ fn fits_cell(
     if marks[c] {
         let class = classes[c];
         if class as usize == c {
-            return fits(t, n, runs, classes, u, r, class);
+            return fits::fits(t, n, runs, classes, u, r, class);
         }
     }
     false

@@ -1,15 +1,16 @@
-// Role records, run records and the knowledge list: refusals 6, 8 and 9.
+// Role records and run records: refusals 6 and 8.
 ghost use mathlib.Core.Path.{_≡_};
 ghost use mathlib.Core.List.{List};
 ghost use Prim.Native.Nat.{ℕ, _+_, _<_, _≤_};
 ghost use lib.ListN.{length};
 ghost use Rattle.semantics.specs.Basic.{every};
 ghost use Rattle.semantics.specs.Table.{Row};
-ghost use Rattle.semantics.specs.Value.{Reading, withoutVariables};
+ghost use Rattle.semantics.specs.Value.{withoutVariables};
 ghost use Rattle.semantics.specs.Roles.{roleLength, roleRecords, rolesPresent, knowledgeFits, knowledgeIn, eventFits, eventsIn, goodRole, badRole, absentRoleFrom};
-ghost use Rattle.semantics.specs.Runs.{runLength, runRecords, atomAt, isAgent, goodRun, badRun, badKnowledgeFrom};
+ghost use Rattle.semantics.specs.Runs.{runLength, runRecords, atomAt, isAgent, goodRun, badRun};
 ghost use Rattle.rows.specs.Rows.{placeAs, rowsOf, Sized};
-ghost use Rattle.records.specs.Records.{Bars, Valued, clearAt, hasValue, unfitFrom, partAt, recordAt, eventAt, agentsIn};
+ghost use Rattle.lists.specs.Lists.{Valued};
+ghost use Rattle.records.specs.Records.{partAt, recordAt, eventAt, agentsIn};
 use rows::Place;
 use table::Table;
 
@@ -20,66 +21,6 @@ impl Scenario {
     pub const MOST_RUNS: usize = 4;
 
     pub const MOST_EVENTS: usize = 8;
-}
-
-// Whether a row has a value if atoms of the kinds from low to high have none, given which of the rows below it have one.
-fn clear_row(t: &[u8], n: usize, clear: &[bool], r: usize, low: usize, high: usize) -> bool
-    requires { ⌜ Sized (now t) n × ((r < n) × (length (now clear) ≡ 96)) ⌝ }
-    ensures { λ b. ⌜ b ≡ clearAt low high (now (t .entry)) (now (clear .entry)) r ⌝ }
-{
-    let kind = rows::kind_of(t, r);
-    if kind < 8 {
-        if kind < low {
-            return true;
-        }
-        return high < kind;
-    }
-    if clear[rows::left_of(t, r)] {
-        if kind < 10 {
-            return true;
-        }
-        return clear[rows::right_of(t, r)];
-    }
-    false
-}
-
-// Which rows have a value if atoms of the kinds from low to high have none.
-pub fn clear_rows(t: &[u8], n: usize, low: usize, high: usize) -> [bool; 96]
-    requires { ⌜ Sized (now t) n ⌝ }
-    ensures { λ r. ⌜ ((reading : Reading) → Bars low high reading → Valued (rowsOf (now (t .entry))) reading r) ⌝ }
-{
-    let mut clear = [false; 96];
-    let mut r = 0;
-    while r < n {
-        let b = clear_row(t, n, &clear, r, low, high);
-        clear[r] = b;
-        r += 1;
-    }
-    clear
-}
-
-// The place of the first of some rows, in bytes that begin at a place, that is absent, has no value or is not above the one before it.
-fn unfit_row(b: &[u8], base: usize, n: usize, clear: &[bool]) -> Place
-    requires { ⌜ (n ≤ 96) × ((length (now clear) ≡ 96) × (base ≤ 65536)) ⌝ }
-    ensures { λ p. ⌜ p ≡ placeAs (unfitFrom (hasValue n (now (clear .entry))) base 0 (now (b .entry))) ⌝ }
-{
-    let mut i = 0;
-    let mut least = 0;
-    while i < b.len() {
-        let r = rows::wide(b[i]);
-        if r < least {
-            return Place::At(base + i);
-        }
-        if n <= r {
-            return Place::At(base + i);
-        }
-        if !clear[r] {
-            return Place::At(base + i);
-        }
-        least = r + 1;
-        i += 1;
-    }
-    Place::Nowhere
 }
 
 // The length of the role record at the front, by its own counts.
@@ -117,7 +58,7 @@ fn knowledge_fits(s: &[u8], n: usize, clear: &[bool]) -> bool
     ensures { λ r. ⌜ ((rows : List Row) → n ≡ length rows → Valued rows withoutVariables (now (clear .entry)) → r ≡ knowledgeFits rows (knowledgeIn (now (s .entry)))) ⌝ }
 {
     let end = 1 + rows::wide(s[0]);
-    let unfit = unfit_row(&s[1..end], 0, n, clear);
+    let unfit = lists::unfit_row(&s[1..end], 0, n, clear);
     match unfit {
         Place::At(_) => false,
         Place::Nowhere => true,
@@ -183,7 +124,7 @@ pub fn bad_role(b: &[u8], base: usize, t: &[u8], n: usize) -> Place
     requires { ⌜ Sized (now t) n × (base ≤ 65536) ⌝ }
     ensures { λ p. ⌜ p ≡ placeAs (badRole (rowsOf (now (t .entry))) (roleRecords (partAt base (now (b .entry))))) ⌝ }
 {
-    let clear = clear_rows(t, n, 6, 6);
+    let clear = lists::clear_rows(t, n, 6, 6);
     let roles = roles_present(b);
     let mut i = 0;
     let mut at = 0;
@@ -273,13 +214,4 @@ pub fn bad_run(b: &[u8], base: usize, t: &[u8], n: usize, roles: usize) -> Place
         i += 1;
     }
     Place::Nowhere
-}
-
-// Refusal 9: the place of the first knowledge byte against its rule, in a block that begins at a place.
-pub fn bad_knowledge(b: &[u8], base: usize, t: &[u8], n: usize) -> Place
-    requires { ⌜ Sized (now t) n × (base ≤ 65536) ⌝ }
-    ensures { λ p. ⌜ p ≡ placeAs (badKnowledgeFrom (rowsOf (now (t .entry))) base 0 (now (b .entry))) ⌝ }
-{
-    let clear = clear_rows(t, n, 5, 7);
-    unfit_row(b, base, n, &clear)
 }

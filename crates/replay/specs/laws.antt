@@ -1,4 +1,2 @@
 -- The laws of Replay, with their proofs.
-pub mod Values
-pub mod Steps
 pub mod Follow

@@ -111,7 +111,7 @@ fn judged_runs(file: &[u8], n: usize) -> Opened
             place: at,
         },
         Place::Nowhere => {
-            let place = records::bad_knowledge(knowledge, frame::start_of(file, 3), terms, n);
+            let place = lists::bad_knowledge(knowledge, frame::start_of(file, 3), terms, n);
             match place {
                 Place::At(at) => Opened::Refused {
                     number: 9,

@@ -4,7 +4,6 @@ pub mod Learn
 pub mod Grown
 pub mod Moves
 pub mod Performed
-pub mod Names
 pub mod Start
 pub mod Active
 pub mod Given

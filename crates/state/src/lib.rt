@@ -13,8 +13,7 @@ ghost use Rattle.cells.specs.Cells.{Shape, cellCount};
 ghost use Rattle.classes.specs.Classes.{Refilled};
 ghost use Rattle.knowledge.specs.Marks.{Settled};
 ghost use Rattle.runs.specs.Runs.{RunsAt};
-ghost use Rattle.role_level.specs.RoleLevel.{ListedBelow};
-ghost use Rattle.state.specs.Start.{AreAgents, FirstName, Entered, StartMarks, Agents};
+ghost use Rattle.state.specs.Start.{Agents};
 ghost use Rattle.state.specs.State.{Given, IsState, LearnsCell, Due, NextMove, Ready, movedTo, Performed};
 use cells::Cells;
 use cells::cell;
@@ -218,76 +217,6 @@ pub fn perform(
     moved_on(done, names, classes, marks, k)
 }
 
-// The name of row r in run u, for the agents of that run and before any variable is set.
-fn name_of(t: &[u8], n: usize, r: usize, u: usize, agents: &[u8]) -> u16
-    requires { ⌜ Shape (now t) n 0 × ((r < n) × ((u ≤ 4) × AreAgents (rowsOf (now t)) (now agents))) ⌝ }
-    ensures { λ name. ⌜ FirstName (rowsOf (now (t .entry))) u (now (agents .entry)) r name ⌝ }
-{
-    let kind = rows::kind_of(t, r);
-    if kind < 5 {
-        return r as u16;
-    }
-    if u == 0 {
-        return Cells::ABSENT;
-    }
-    if kind == 5 {
-        let i = rows::left_of(t, r);
-        if i < agents.len() {
-            return rows::wide(agents[i]) as u16;
-        }
-        return Cells::ABSENT;
-    }
-    if kind == 7 {
-        return cell(r, u) as u16;
-    }
-    Cells::ABSENT
-}
-
-// The names with those of run u filled in.
-fn entered(names: [u16; 480], t: &[u8], n: usize, u: usize, agents: &[u8]) -> [u16; 480]
-    requires { ⌜ Shape (now t) n 0 × ((u ≤ 4) × AreAgents (rowsOf (now t)) (now agents)) ⌝ }
-    ensures { λ more. ⌜ Entered (rowsOf (now (t .entry))) u (now (agents .entry)) names more ⌝ }
-{
-    let mut more = names;
-    let mut r = 0;
-    while r < n {
-        let name = name_of(t, n, r, u, agents);
-        more[cell(r, u)] = name;
-        r += 1;
-    }
-    more
-}
-
-// The marks of the intruder constants.
-fn intruder_marks(t: &[u8], n: usize) -> [bool; 480]
-    requires { ⌜ Shape (now t) n 0 ⌝ }
-    ensures { λ marks. ⌜ StartMarks (now (t .entry)) n [] marks ⌝ }
-{
-    let mut marks = [false; 480];
-    let mut r = 0;
-    while r < n {
-        if rows::kind_of(t, r) == 4 {
-            marks[r] = true;
-        }
-        r += 1;
-    }
-    marks
-}
-
-// The marks of the intruder constants and of the listed rows.
-fn start_marks(t: &[u8], n: usize, list: &[u8]) -> [bool; 480]
-    requires { ⌜ Shape (now t) n 0 × ListedBelow n (now list) ⌝ }
-    ensures { λ marks. ⌜ StartMarks (now (t .entry)) n (now (list .entry)) marks ⌝ }
-{
-    let mut marks = intruder_marks(t, n);
-    let mut i = 0;
-    while i < list.len() {
-        marks[rows::wide(list[i])] = true;
-        i += 1;
-    }
-    marks
-}
-
 // The agents of run u as the file has them, and none for run 0.
 fn agents_of(file: &[u8], r: Runs, u: usize) -> &[u8]
     requires { ⌜ ((sc : Scenario) × (RunsAt (now file) sc r × ((u ≤ r .count) × (length (now file) ≤ 4096)))) ⌝ }
@@ -320,12 +249,12 @@ impl State {
         let mut u = 0;
         while u <= runs {
             let agents = agents_of(file, r, u);
-            let more = entered(names, t, n, u, agents);
+            let more = start::entered(names, t, n, u, agents);
             names = more;
             classes::refill(&mut classes, t, n, runs, &names, u);
             u += 1;
         }
-        let marks = knowledge::settle(start_marks(t, n, list), t, n, runs, &classes);
+        let marks = knowledge::settle(start::start_marks(t, n, list), t, n, runs, &classes);
         State {
             done: [State::NONE_DONE; 4],
             names,

@@ -1,370 +1,15 @@
-// Well-formed events: Readable and WF over the marks at role level; refusal 7.
+// Well-formed events: WF over the marks at role level; refusal 7.
 ghost use mathlib.Core.Path.{_≡_};
-ghost use mathlib.Core.Bool.{true};
 ghost use mathlib.Core.Option.{none};
-ghost use Prim.Native.Nat.{_+_, _*_, _<_, _≤_};
-ghost use lib.ListN.{length};
+ghost use Prim.Native.Nat.{_<_, _≤_};
 ghost use Rattle.semantics.specs.Roles.{roleRecords, rolesFrom, badRole};
 ghost use Rattle.semantics.specs.WellFormed.{illFormed};
 ghost use Rattle.rows.specs.Rows.{rowsOf, placeAs};
-ghost use Rattle.cells.specs.Cells.{cellCount, Shape};
+ghost use Rattle.cells.specs.Cells.{Shape};
 ghost use Rattle.role_level.specs.RoleLevel.{RoleClasses};
-ghost use Rattle.wellformed.specs.WellFormed.{RowMarked, NameKnown, InverseKnown, Learns, WellFormedEvent, EventLearns, GoodRecord, IllRole};
-ghost use Rattle.wellformed.specs.Sure.{SureRows, Gains, Opens, InBoth, Shared, Added, SlotStands, KeptFor, SlotFilled, Stored, Notes, Answers};
+ghost use Rattle.wellformed.specs.WellFormed.{WellFormedEvent, EventLearns, GoodRecord, IllRole};
 ghost use Rattle.records.specs.Records.{partAt};
 use rows::Place;
-
-// Whether there is a row with the given kind and left byte that is marked.
-fn row_marked(marks: &[bool], t: &[u8], n: usize, kind: usize, left: usize) -> bool
-    requires { ⌜ Shape (now t) n 0 × (length (now marks) ≡ cellCount) ⌝ }
-    ensures { λ r. ⌜ RowMarked (now (t .entry)) n (now (marks .entry)) kind left r ⌝ }
-{
-    let mut x = 0;
-    while x < n {
-        if marks[x] {
-            if rows::kind_of(t, x) == kind {
-                if rows::left_of(t, x) == left {
-                    return true;
-                }
-            }
-        }
-        x += 1;
-    }
-    false
-}
-
-// Whether the name of role i is derivable.
-fn name_known(marks: &[bool], t: &[u8], n: usize, i: usize) -> bool
-    requires { ⌜ Shape (now t) n 0 × (length (now marks) ≡ cellCount) ⌝ }
-    ensures { λ r. ⌜ NameKnown (rowsOf (now (t .entry))) (now (marks .entry)) i r ⌝ }
-{
-    row_marked(marks, t, n, 5, i)
-}
-
-// Whether the inverse of the term of row k is derivable: the other key of that agent, or the term itself.
-fn inverse_known(marks: &[bool], t: &[u8], n: usize, k: usize) -> bool
-    requires { ⌜ Shape (now t) n 0 × ((length (now marks) ≡ cellCount) × (k < n)) ⌝ }
-    ensures { λ r. ⌜ InverseKnown (rowsOf (now (t .entry))) (now (marks .entry)) k r × Opens (rowsOf (now (t .entry))) (now (marks .entry)) k r ⌝ }
-{
-    let kind = rows::kind_of(t, k);
-    if kind == 8 {
-        return row_marked(marks, t, n, 9, rows::left_of(t, k));
-    }
-    if kind == 9 {
-        return row_marked(marks, t, n, 8, rows::left_of(t, k));
-    }
-    marks[k]
-}
-
-// The marks when the term of row x is known too.
-fn learned(marks: [bool; 480], t: &[u8], n: usize, classes: &[u16], x: usize) -> [bool; 480]
-    requires { ⌜ Shape (now t) n 0 × (RoleClasses (rowsOf (now t)) (now classes) × (x < n)) ⌝ }
-    ensures { λ r. ⌜ Learns (rowsOf (now (t .entry))) x marks r × Gains (rowsOf (now (t .entry))) x marks r ⌝ }
-{
-    if marks[x] {
-        return marks;
-    }
-    let mut more = marks;
-    more[x] = true;
-    knowledge::settle(more, t, n, 0, classes)
-}
-
-// Whether row x is marked in both.
-fn in_both(one: &[bool], other: &[bool], x: usize) -> bool
-    requires { ⌜ (x < 480) × ((length (now one) ≡ cellCount) × (length (now other) ≡ cellCount)) ⌝ }
-    ensures { λ r. ⌜ InBoth (now (one .entry)) (now (other .entry)) x r ⌝ }
-{
-    if one[x] {
-        return other[x];
-    }
-    false
-}
-
-// The rows that are marked in both.
-fn shared(one: &[bool], other: &[bool], n: usize) -> [bool; 480]
-    requires { ⌜ (n ≤ 96) × ((length (now one) ≡ cellCount) × (length (now other) ≡ cellCount)) ⌝ }
-    ensures { λ both. ⌜ Shared n (now (one .entry)) (now (other .entry)) both ⌝ }
-{
-    let mut both = [false; 480];
-    let mut x = 0;
-    while x < n {
-        both[x] = in_both(one, other, x);
-        x += 1;
-    }
-    both
-}
-
-// Marks with one more, if it was found.
-fn added(marks: [bool; 480], x: usize, found: bool) -> [bool; 480]
-    requires { ⌜ x < 96 ⌝ }
-    ensures { λ more. ⌜ Added x found marks more ⌝ }
-{
-    if found {
-        let mut more = marks;
-        more[x] = true;
-        return more;
-    }
-    marks
-}
-
-// Whether some row is marked in both.
-fn meets(one: &[bool], other: &[bool], n: usize) -> bool
-    requires { ⌜ (n ≤ 96) × ((length (now one) ≡ cellCount) × (length (now other) ≡ cellCount)) ⌝ }
-{
-    let mut x = 0;
-    while x < n {
-        if in_both(one, other, x) {
-            return true;
-        }
-        x += 1;
-    }
-    false
-}
-
-// The row beneath the encryptions of row x; row 0, an atom, where row x is marked or is no encryption.
-fn content_of(marks: &[bool], t: &[u8], n: usize, x: usize) -> usize
-    requires { ⌜ Shape (now t) n 0 × ((length (now marks) ≡ cellCount) × (x < n)) ⌝ }
-    ensures { λ r. ⌜ r ≤ x ⌝ }
-{
-    if marks[x] {
-        return 0;
-    }
-    if rows::kind_of(t, x) != 12 {
-        return 0;
-    }
-    let mut y = rows::left_of(t, x);
-    while rows::kind_of(t, y) == 12 {
-        y = rows::left_of(t, y);
-    }
-    y
-}
-
-// Goes down from row x the way that was not readable before, and marks the rows on it and what is known on it besides. The first
-// 96 notes, one for each row, say where it goes: to the first or the second part of a pair, 1 or 2, with the other part known; or
-// that it ends at an encryption that does not open, 3. The row at its end, or 96 if it may be readable.
-fn follow(
-    more: &mut [bool],
-    way: &mut [bool],
-    sure: &[bool],
-    t: &[u8],
-    n: usize,
-    notes: &[u8],
-    x: usize,
-) -> usize
-    requires { ⌜ (length (now more) ≡ cellCount) × ((length (now way) ≡ cellCount) × (Shape (now t) n 0 × ((length (now sure) ≡ cellCount) × ((length (now notes) ≡ 12544) × (x < n))))) ⌝ }
-{
-    if more[x] {
-        return 96;
-    }
-    if sure[x] {
-        return 96;
-    }
-    way[x] = true;
-    let kind = rows::kind_of(t, x);
-    if kind == 11 {
-        let l = rows::left_of(t, x);
-        let s = rows::right_of(t, x);
-        if notes[x] == 1 {
-            more[s] = true;
-            return follow(&mut more[..], &mut way[..], sure, t, n, notes, l);
-        }
-        if notes[x] == 2 {
-            more[l] = true;
-            return follow(&mut more[..], &mut way[..], sure, t, n, notes, s);
-        }
-        return 96;
-    }
-    if kind == 12 {
-        if notes[x] != 3 {
-            return follow(
-                &mut more[..],
-                &mut way[..],
-                sure,
-                t,
-                n,
-                notes,
-                rows::left_of(t, x),
-            );
-        }
-    }
-    x
-}
-
-// Whether a quick answer is given up: a variable aside, the way that was not readable before is not by now.
-fn gives_up(
-    marks: [bool; 480],
-    sure: &[bool],
-    t: &[u8],
-    n: usize,
-    classes: &[u16],
-    notes: &[u8],
-    quick: bool,
-    x: usize,
-) -> bool
-    requires { ⌜ Shape (now t) n 0 × (RoleClasses (rowsOf (now t)) (now classes) × ((length (now sure) ≡ cellCount) × ((length (now notes) ≡ 12544) × (x < n)))) ⌝ }
-    ensures { λ r. ⌜ (r ≡ true → quick ≡ true) ⌝ }
-{
-    if quick {
-        let mut more = marks;
-        let mut way = [false; 480];
-        let end = follow(&mut more, &mut way, sure, t, n, notes, x);
-        if n <= end {
-            return false;
-        }
-        let known = knowledge::settle(more, t, n, 0, classes);
-        if meets(&known, &way, n) {
-            return false;
-        }
-        if rows::kind_of(t, end) == 12 {
-            return !inverse_known(&known, t, n, rows::right_of(t, end));
-        }
-        return rows::kind_of(t, end) != 6;
-    }
-    false
-}
-
-// Whether all marks that are kept in a slot stand.
-fn covers(marks: &[bool], notes: &[u8], n: usize, slot: usize) -> bool
-    requires { ⌜ (n ≤ 96) × ((slot < 128) × ((length (now marks) ≡ cellCount) × (length (now notes) ≡ 12544))) ⌝ }
-    ensures { λ r. ⌜ (r ≡ true → SlotStands n (now (marks .entry)) (now (notes .entry)) slot) ⌝ }
-{
-    let mut x = 0;
-    while x < n {
-        if notes[256 + slot * 96 + x] == 1 {
-            if !marks[x] {
-                return false;
-            }
-        }
-        x += 1;
-    }
-    true
-}
-
-// Whether row x was found readable with marks that stand.
-fn is_kept(marks: &[bool], notes: &[u8], n: usize, x: usize) -> bool
-    requires { ⌜ (n ≤ 96) × ((length (now marks) ≡ cellCount) × (length (now notes) ≡ 12544)) ⌝ }
-    ensures { λ r. ⌜ (r ≡ true → KeptFor n (now (marks .entry)) (now (notes .entry)) x) ⌝ }
-{
-    let mut slot = 0;
-    while slot < 128 {
-        if rows::wide(notes[96 + slot]) == x {
-            if covers(marks, notes, n, slot) {
-                return true;
-            }
-        }
-        slot += 1;
-    }
-    false
-}
-
-// A mark as a byte.
-fn byte_of(mark: bool) -> u8
-    ensures { λ r. ⌜ (mark ≡ true → r ≡ 1) ⌝ }
-{
-    if mark {
-        return 1;
-    }
-    0
-}
-
-// Puts marks into a slot.
-fn fill_slot(marks: &[bool], notes: &mut [u8], n: usize, slot: usize)
-    requires { ⌜ (n ≤ 96) × ((slot < 128) × ((length (now marks) ≡ cellCount) × (length (now notes) ≡ 12544))) ⌝ }
-    ensures { λ _. ⌜ SlotFilled n (now (marks .entry)) slot (now (notes .entry)) (now (notes .exit)) ⌝ }
-{
-    let mut x = 0;
-    while x < n {
-        notes[256 + slot * 96 + x] = byte_of(marks[x]);
-        x += 1;
-    }
-}
-
-// Keeps the marks with which row x is readable, in place of the oldest that are kept.
-fn keep(marks: &[bool], notes: &mut [u8], n: usize, x: usize)
-    requires { ⌜ (n ≤ 96) × ((x < n) × ((length (now marks) ≡ cellCount) × (length (now notes) ≡ 12544))) ⌝ }
-    ensures { λ _. ⌜ Stored n (now (marks .entry)) x (now (notes .entry)) (now (notes .exit)) ⌝ }
-{
-    let slot = rows::wide(notes[224]) % 128;
-    fill_slot(marks, &mut notes[..], n, slot);
-    notes[96 + slot] = x as u8;
-    notes[224] = (slot + 1) as u8;
-}
-
-// Whether the term of row x is readable: derivable, a variable, a pair of which each part is readable with the other known,
-// or an encryption whose key's inverse is derivable and whose content is readable. A row is sure if it is readable with these
-// marks or more. Before a pair is read, what is beneath its parts is tried with what both ways have in common: where that is
-// readable, it is not read twice. A quick answer, which only tries, may be no though the term is readable.
-fn is_readable(
-    marks: [bool; 480],
-    sure: [bool; 480],
-    t: &[u8],
-    n: usize,
-    classes: &[u16],
-    notes: &mut [u8],
-    quick: bool,
-    x: usize,
-) -> bool
-    requires { ⌜ Shape (now t) n 0 × (RoleClasses (rowsOf (now t)) (now classes) × (SureRows (rowsOf (now t)) marks sure × (Notes (rowsOf (now t)) (now notes) × (x < n)))) ⌝ }
-    ensures { λ r. ⌜ Answers (rowsOf (now (t .entry))) marks x quick r × Notes (rowsOf (now (t .entry))) (now (notes .exit)) ⌝ }
-{
-    if marks[x] {
-        return true;
-    }
-    if sure[x] {
-        return true;
-    }
-    let kind = rows::kind_of(t, x);
-    if kind == 6 {
-        return true;
-    }
-    if kind == 11 {
-        if is_kept(&marks, &notes[..], n, x) {
-            return true;
-        }
-        if gives_up(marks, &sure, t, n, classes, &notes[..], quick, x) {
-            return false;
-        }
-        let l = rows::left_of(t, x);
-        let s = rows::right_of(t, x);
-        let with_second = learned(marks, t, n, classes, s);
-        let with_first = learned(marks, t, n, classes, l);
-        let both = shared(&with_second, &with_first, n);
-        let c = content_of(&with_second, t, n, l);
-        let found = is_readable(both, sure, t, n, classes, &mut notes[..], true, c);
-        let more = added(sure, c, found);
-        let d = content_of(&with_first, t, n, s);
-        let found_too = is_readable(both, more, t, n, classes, &mut notes[..], true, d);
-        let most = added(more, d, found_too);
-        if !is_readable(with_second, most, t, n, classes, &mut notes[..], quick, l) {
-            notes[x] = 1;
-            return false;
-        }
-        if !is_readable(with_first, most, t, n, classes, &mut notes[..], quick, s) {
-            notes[x] = 2;
-            return false;
-        }
-        keep(&marks, &mut notes[..], n, x);
-        return true;
-    }
-    if kind == 12 {
-        if inverse_known(&marks, t, n, rows::right_of(t, x)) {
-            notes[x] = 0;
-            return is_readable(
-                marks,
-                sure,
-                t,
-                n,
-                classes,
-                &mut notes[..],
-                quick,
-                rows::left_of(t, x),
-            );
-        }
-        notes[x] = 3;
-        return false;
-    }
-    false
-}
 
 // Whether an event of role `own` is well formed.
 fn is_well_formed(
@@ -380,17 +25,17 @@ fn is_well_formed(
     requires { ⌜ Shape (now t) n 0 × (RoleClasses (rowsOf (now t)) (now classes) × (x < n)) ⌝ }
     ensures { λ r. ⌜ WellFormedEvent (rowsOf (now (t .entry))) marks own kind peer x r ⌝ }
 {
-    if !name_known(&marks, t, n, own) {
+    if !role_marks::name_known(&marks, t, n, own) {
         return false;
     }
     if kind != 2 {
-        if !name_known(&marks, t, n, peer) {
+        if !role_marks::name_known(&marks, t, n, peer) {
             return false;
         }
     }
     if kind == 1 {
         let mut notes = [0u8; 12544];
-        return is_readable(marks, [false; 480], t, n, classes, &mut notes, false, x);
+        return readable::is_readable(marks, [false; 480], t, n, classes, &mut notes, false, x);
     }
     marks[x]
 }
@@ -408,7 +53,7 @@ fn event_learned(
     ensures { λ r. ⌜ EventLearns (rowsOf (now (t .entry))) event x marks r ⌝ }
 {
     if event == 1 {
-        return learned(marks, t, n, classes, x);
+        return role_marks::learned(marks, t, n, classes, x);
     }
     marks
 }

@@ -1,5 +1,5 @@
 -- `possible::fits_cell` meets its contract: only a marked cell that stands for its own value is looked at. Assumes nothing.
-use Rattle.possible.specs.laws.Fits.{take-fits, take-other, take-unmarked}
+use Rattle.fits.specs.laws.Fits.{take-fits, take-other, take-unmarked}
 use native.Mathlib.Omega.{arith}
 use borrow.Author.Needs.{needs}
 use Rattle.possible.proofs.fits_cell.Statement.{statement}

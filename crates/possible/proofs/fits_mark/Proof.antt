@@ -5,7 +5,7 @@ use mathlib.Core.Path.{refl, sym, _∙_}
 use mathlib.Core.Logic.{⊎-elim}
 use mathlib.Core.Bool.{false≢true}
 use Rattle.cells.specs.laws.Cells.{none-more}
-use Rattle.possible.specs.laws.Fits.{TakesIn}
+use Rattle.fits.specs.laws.Fits.{TakesIn}
 use native.Mathlib.Omega.{arith}
 use borrow.Author.Needs.{needs}
 use Rattle.possible.proofs.fits_mark.Statement.{statement}

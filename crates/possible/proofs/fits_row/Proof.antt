@@ -4,7 +4,7 @@ use Prim.Native.Nat.{ℕ, _+_, _-_, _≤_, _<_}
 use mathlib.Core.Path.{sym, _∙_}
 use mathlib.Core.Bool.{false≢true}
 use Rattle.cells.specs.laws.Cells.{none-more}
-use Rattle.possible.specs.Fits.{CanTake}
+use Rattle.fits.specs.Fits.{CanTake}
 use native.Mathlib.Omega.{arith}
 use borrow.Author.Needs.{needs}
 use Rattle.possible.proofs.fits_row.Statement.{statement}

@@ -3,7 +3,7 @@
 use Prim.Native.Nat.{_+_, _-_, _≤_}
 use mathlib.Core.Logic.{⊎-elim}
 use Rattle.cells.specs.laws.Shape.{shape-sized}
-use Rattle.possible.specs.Fits.{Tested}
+use Rattle.possible.specs.Tests.{Tested}
 use Rattle.possible.specs.laws.Tests.{tested-start, tested-set}
 use native.Mathlib.Omega.{arith}
 use borrow.Author.Needs.{needs}

@@ -14,7 +14,7 @@ use Rattle.classes.specs.laws.Kinds.{kindOf, firstPart, secondPart, value-made}
 use Rattle.knowledge.specs.Marks.{Exact, Celled}
 use Rattle.knowledge.specs.Steps.{classAt, kindAt, leftAt, Inside}
 use Rattle.knowledge.specs.laws.Values.{Has, Standing, standsAtom, standsRow, stand, one-class, inside}
-use Rattle.possible.specs.Fits.{Setting, CanTake}
+use Rattle.fits.specs.Fits.{Setting, CanTake}
 
 -- What is derivable: the value of a cell, or a pair or an encryption of what is derivable.
 data Known (bytes : List ℕ) (n runs : ℕ) (old : Readings) (known : List Term) : Term → Type 0 where

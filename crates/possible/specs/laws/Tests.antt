@@ -20,7 +20,8 @@ use Rattle.knowledge.specs.Marks.{Exact, Celled}
 use Rattle.knowledge.specs.Steps.{classAt, kindAt, leftAt, Inside}
 use Rattle.knowledge.specs.laws.Values.{Has, has-value, inside}
 use Rattle.possible.specs.Possible.{Possible}
-use Rattle.possible.specs.Fits.{Setting, CanTake, Tested}
+use Rattle.fits.specs.Fits.{Setting, CanTake}
+use Rattle.possible.specs.Tests.{Tested}
 use Rattle.possible.specs.laws.Known.{Way, byMark, byParts, way}
 
 -- no kind is higher than that of an encryption

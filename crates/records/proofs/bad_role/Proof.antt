@@ -11,7 +11,7 @@ use Rattle.semantics.specs.Frame.{firstBad}
 use Rattle.semantics.specs.Roles.{roleLength, roleRecords, goodRole, badRole}
 use Rattle.rows.specs.Rows.{rowsOf, placeAs}
 use Rattle.records.specs.Records.{partAt, recordAt}
-use Rattle.records.specs.laws.Clear.{bars-variables}
+use Rattle.lists.specs.laws.Clear.{bars-variables}
 use Rattle.records.specs.laws.Records.{recordsLeft, rest-whole, bad-here, bad-later, bad-none}
 use Rattle.records.specs.laws.Roles.{role-bytes, roles-all}
 use Rattle.records.proofs.bad_role.Statement.{statement}

@@ -1,7 +1,7 @@
 -- `records::knowledge_fits` meets its contract: no row is unfit exactly if the knowledge fits. Assumes nothing.
 use mathlib.Core.Path.{sym, ap, _∙_}
 use borrow.Author.Needs.{needs}
-use Rattle.records.specs.laws.Knowledge.{nowhere, knowledge-fits}
+use Rattle.lists.specs.laws.Knowledge.{nowhere, knowledge-fits}
 use Rattle.records.proofs.knowledge_fits.Statement.{statement}
 use Rattle.records.proofs.knowledge_fits.Tie as tie
 

@@ -14,7 +14,7 @@ use Rattle.semantics.specs.Table.{Row}
 use Rattle.semantics.specs.Roles.{namesPresent, absentRoleFrom}
 use Rattle.rows.specs.Rows.{rowsOf, Sized}
 use Rattle.rows.specs.laws.Decodes.{Decodes, isTrusted, isUntrusted, isGlobal, isIntruder, isRole, isAgentVariable, isFreshVariable, isLocal, isPk, isSk, isShared, isPair, isEncrypted}
-use Rattle.records.specs.laws.Clear.{row-here}
+use Rattle.lists.specs.laws.Clear.{row-here}
 
 -- a row names an absent role by its kind and its left byte
 decodes-names : (roles : ℕ) {k l r : ℕ} {row : Row} → Decodes k l r row → namesPresent roles row ≡ (not (eqb k 5) || ltb l roles)

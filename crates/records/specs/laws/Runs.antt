@@ -18,7 +18,7 @@ use Rattle.semantics.specs.laws.List.{getElem-below}
 use Rattle.rows.specs.Rows.{rowsOf, Sized}
 use Rattle.rows.specs.laws.Decodes.{Decodes, isTrusted, isUntrusted, isGlobal, isIntruder, isRole, isAgentVariable, isFreshVariable, isLocal, isPk, isSk, isShared, isPair, isEncrypted}
 use Rattle.records.specs.Records.{partAt, recordAt, agentsIn}
-use Rattle.records.specs.laws.Clear.{row-here}
+use Rattle.lists.specs.laws.Clear.{row-here}
 use Rattle.records.specs.laws.Records.{leb-taken, recordsLeft, left-all}
 
 -- every run record has bytes

@@ -24,9 +24,10 @@ use Rattle.scenario.specs.Opened.{openedAs}
 use Rattle.scenario.specs.declared.Opened.the-variants as opening
 use Rattle.state.specs.State.{IsState}
 use Rattle.state.specs.declared.State.{State as CodeState}
-use Rattle.replay.specs.declared.Stepped.{Stepped}
+use Rattle.steps.specs.declared.Stepped.{Stepped}
+use Rattle.steps.specs.Steps.{stepAfter, StepDone, isStep, noStep}
 use Rattle.replay.specs.declared.Replayed.the-variants.{Refused, Broken, NoClaim}
-use Rattle.replay.specs.Replay.{stepAfter, StepDone, isStep, noStep, followedOf, replayedAs}
+use Rattle.replay.specs.Replay.{followedOf, replayedAs}
 
 -- nothing is left
 at-end : (fuel : ℕ) (sc : Scenario) (at : ℕ) (d : State) (bytes : List ℕ) → length bytes ≡ 0 → replayedFrom fuel sc at d bytes ≡ accepted d

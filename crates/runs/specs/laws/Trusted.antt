@@ -17,7 +17,7 @@ use Rattle.semantics.specs.Verdict.{allTrusted}
 use Rattle.semantics.specs.laws.List.{mem-getElem, getElem-below, getElem-there}
 use Rattle.rows.specs.Rows.{rowsOf, Sized}
 use Rattle.rows.specs.laws.Decodes.{Decodes, isTrusted as isTrustedRow, isUntrusted, isGlobal, isIntruder, isRole, isAgentVariable, isFreshVariable, isLocal, isPk, isSk, isShared, isPair, isEncrypted}
-use Rattle.records.specs.laws.Clear.{row-here}
+use Rattle.lists.specs.laws.Clear.{row-here}
 use Rattle.runs.specs.Runs.{RunsAt, AgentsAt}
 use Rattle.runs.specs.declared.Runs.{Runs}
 

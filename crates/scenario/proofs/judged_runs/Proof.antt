@@ -8,7 +8,7 @@ use Rattle.scenario.proofs.judged_runs.Reads as reads
 use Rattle.scenario.proofs.judged_runs.Lts as lts
 use Rattle.frame.proofs.block_of.Reads as block-of-reads
 use Rattle.frame.proofs.start_of.Reads as start-of-reads
-use Rattle.records.proofs.bad_knowledge.Reads as bad-knowledge-reads
+use Rattle.lists.proofs.bad_knowledge.Reads as bad-knowledge-reads
 use Rattle.records.proofs.bad_run.Reads as bad-run-reads
 use Rattle.records.proofs.roles_present.Reads as roles-present-reads
 use Rattle.scenario.proofs.parts_of.Reads as parts-of-reads

@@ -4,59 +4,39 @@ use native.Mathlib.Decide.{ℕ-discrete}
 use native.Mathlib.Numerals.{add-one}
 use native.Mathlib.Omega.{arith}
 use mathlib.Core.Path.{_≡_, refl, sym, ap, _∙_, subst}
-use mathlib.Core.Logic.{_↔_, ⊎-elim}
+use mathlib.Core.Logic.{_↔_}
 use mathlib.Core.Bool.{Bool, true, false, _&&_}
-use mathlib.Core.List.{List, [], _∷_, _++_, append-nil}
-use mathlib.Core.Option.{Option, none, some, Option·some-injective, Option·none-ne-some}
+use mathlib.Core.List.{List, [], _∷_}
+use mathlib.Core.Option.{Option, none, some, Option·some-injective}
 use lib.Dec.{T}
 use lib.ListN.{length, getD, getElem?, set, length-set}
 use lib.Seq.{getD-set-same, getD-set-other}
 use Rattle.semantics.specs.Basic.{andThen, mapped, provided}
-use Rattle.semantics.specs.Term.{Atom, trusted, untrusted, global, intruder, role, variable, local, Term, atom}
+use Rattle.semantics.specs.Term.{Atom, role, Term, atom}
 use Rattle.semantics.specs.Inference.{Derives, derivable}
-use Rattle.semantics.specs.Table.{Row, atomic, pkOf, skOf, sharedOf, pairOf, encryptedOf}
+use Rattle.semantics.specs.Table.{Row}
 use Rattle.semantics.specs.Value.{Reading, valueOf, withoutRun}
-use Rattle.semantics.specs.Roles.{EventKind, send, read, claim, eventKinds, Event}
-use Rattle.semantics.specs.Runs.{Run, atomOf, atomAt, isAgent}
+use Rattle.semantics.specs.Roles.{EventKind, send, read, claim, Event}
+use Rattle.semantics.specs.Runs.{Run, atomAt, isAgent}
 use Rattle.semantics.specs.Scenario.{Scenario}
 use Rattle.semantics.specs.Guarantee.{Guarantee, GoodTable}
-use Rattle.semantics.specs.State.{Value, Progress, State, Active, active, assigned, termOf, inRun, readingIn, newVariables, paired}
-use Rattle.semantics.specs.Moves.{Message, message, knownAfter, toSet, setAfter, messageAfter, advanced, performed}
+use Rattle.semantics.specs.State.{Value, Progress, State, Active, active, termOf, readingIn, paired}
+use Rattle.semantics.specs.Moves.{Message, message, knownAfter, setAfter, messageAfter, advanced, performed}
 use Rattle.semantics.specs.laws.Test.{all-three}
 use Rattle.semantics.specs.laws.List.{getElem-below}
 use Rattle.semantics.specs.laws.Reached.{Standing}
 use Rattle.semantics.specs.laws.Value.{value-unfolds}
 use Rattle.semantics.specs.laws.Inference.{derivable-exact}
 use Rattle.semantics.specs.laws.Moves.{ActiveIn, active-in}
-use Rattle.cells.specs.Cells.{cellOf, Within, Readings, cellValue, Canonical}
-use Rattle.classes.specs.Classes.{Classes, NamesRight}
+use Rattle.cells.specs.Cells.{Within, Readings, cellValue}
 use Rattle.knowledge.specs.Marks.{Marked, Derivable, Exact}
 use Rattle.runs.specs.Runs.{EventRead}
+use Rattle.start.specs.laws.Names.{agent-atom, agent-term}
 use Rattle.state.specs.declared.State.{State as CodeState}
-use Rattle.state.specs.Readings.{SetsOf, setsIn, setsOf, withSets, readings}
+use Rattle.state.specs.Readings.{SetsOf, setsOf, withSets, readings}
 use Rattle.state.specs.State.{Arrays, IsState}
-use Rattle.state.specs.laws.Readings.{set-same, set-other, with-same, with-other, with-itself, sets-advanced, reading-run}
+use Rattle.state.specs.laws.Readings.{set-same, set-other, with-same, with-other, sets-advanced, reading-run}
 use Rattle.state.specs.laws.Learn.{marked-derives}
-
--- the row of an agent
-pub agent-atom : (o : Option Row) → T (isAgent (atomOf o)) → (b : Atom) × (o ≡ some (atomic b)) × (inRun 0 b ≡ b) × (withoutRun b ≡ some (atom b)) × Canonical b 0
-agent-atom none h = absurd h
-agent-atom (some (atomic (trusted n))) h = (trusted n, refl, refl, refl, refl)
-agent-atom (some (atomic (untrusted n))) h = (untrusted n, refl, refl, refl, refl)
-agent-atom (some (atomic (global n))) h = absurd h
-agent-atom (some (atomic (intruder n))) h = absurd h
-agent-atom (some (atomic (role i))) h = absurd h
-agent-atom (some (atomic (variable n t))) h = absurd h
-agent-atom (some (atomic (local n u))) h = absurd h
-agent-atom (some (pkOf a)) h = absurd h
-agent-atom (some (skOf a)) h = absurd h
-agent-atom (some (sharedOf a b)) h = absurd h
-agent-atom (some (pairOf l r)) h = absurd h
-agent-atom (some (encryptedOf l r)) h = absurd h
-
-pub agent-term : (rows : List Row) (r : ℕ) (b : Atom) → getElem? rows r ≡ some (atomic b) → inRun 0 b ≡ b → termOf rows (record { row = r; run = 0 }) ≡ some (atom b)
-unfolding termOf
-agent-term rows r b e f = rw (e, f) refl
 
 -- an agent's row has its agent without a run, and so has a role name for which it stands
 pub agent-value : (rows : List Row) → GoodTable rows → (u : ℕ) (run : Run) (sets : List (Atom × Value)) (i r : ℕ) → getElem? (run .agents) i ≡ some r → T (isAgent (atomAt rows r))

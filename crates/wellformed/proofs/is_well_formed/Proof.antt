@@ -5,8 +5,8 @@ use borrow.Author.Tests.{not-true, not-false}
 use borrow.Author.Needs.{needs}
 use Rattle.rows.specs.Rows.{rowsOf}
 use Rattle.wellformed.specs.laws.WellFormed.{own-unknown, peer-unknown, peer-found, was-read, was-other}
-use Rattle.wellformed.specs.laws.Sure.{sure-none, answer-reads}
-use Rattle.wellformed.specs.laws.Kept.{notes-none}
+use Rattle.role_marks.specs.laws.Sure.{sure-none, answer-reads}
+use Rattle.role_marks.specs.laws.Kept.{notes-none}
 use Rattle.wellformed.proofs.is_well_formed.Statement.{statement}
 use Rattle.wellformed.proofs.is_well_formed.Tie as tie
 

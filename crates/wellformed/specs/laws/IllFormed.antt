@@ -28,8 +28,9 @@ use Rattle.records.specs.Records.{partAt, recordAt, eventAt}
 use Rattle.records.specs.laws.Events.{eventsLeft, left-events-all, left-events-cons, left-events-none}
 use Rattle.records.specs.laws.Records.{recordsLeft, left-none, left-all, left-cons}
 use Rattle.records.specs.laws.Roles.{role-bytes, own-rows, own-eventsIn, role-good, roles-all}
-use Rattle.wellformed.specs.WellFormed.{Covered, Learns, WellFormedEvent, EventLearns, IsEvent, GoodRecord, illRole, IllRole}
-use Rattle.wellformed.specs.laws.Marks.{has-term}
+use Rattle.wellformed.specs.WellFormed.{WellFormedEvent, EventLearns, IsEvent, GoodRecord, illRole, IllRole}
+use Rattle.role_marks.specs.Marks.{Covered, Learns}
+use Rattle.role_marks.specs.laws.Marks.{has-term}
 use Rattle.wellformed.specs.laws.WellFormed.{EventIs, isSend, isRead, isClaim, event-is}
 
 -- a read adds its term to what is known, no other event does

@@ -1,0 +1,2 @@
+-- The laws of new values, with their proofs.
+pub mod Values

@@ -1,0 +1,2 @@
+-- The laws of needs, with their proofs.
+pub mod Fits

@@ -1,0 +1,57 @@
+-- Which rows have a value, and the first of a rising list that has none, as the code answers them. Assumes nothing.
+use Prim.Native.Nat.{ℕ, suc, _+_, _*_, _<_}
+use mathlib.Core.Path.{_≡_}
+use mathlib.Core.Bool.{Bool, true, false, _&&_, not}
+use mathlib.Core.List.{List, [], _∷_}
+use mathlib.Core.Option.{Option, none, some}
+use lib.Dec.{ltb, leb}
+use lib.ListN.{length, getD}
+use Rattle.semantics.specs.Basic.{present}
+use Rattle.semantics.specs.Term.{Atom, trusted, untrusted, global, intruder, role, variable, local}
+use Rattle.semantics.specs.Table.{Row}
+use Rattle.semantics.specs.Value.{Reading, valueOf}
+
+-- the kind byte of an atom's row
+abbrev pub atomKind : Atom → ℕ
+atomKind (trusted n) = 1
+atomKind (untrusted n) = 2
+atomKind (global n) = 3
+atomKind (intruder n) = 4
+atomKind (role i) = 5
+atomKind (variable n t) = 6
+atomKind (local n u) = 7
+
+-- a reading in which just the atoms with kinds from low to high stand for nothing
+abbrev pub Bars : ℕ → ℕ → Reading → Type 0
+Bars low high reading = (a : Atom) → present (reading a) ≡ not (leb low (atomKind a) && leb (atomKind a) high)
+
+-- which rows have a value under a reading
+pub record Valued (rows : List Row) (reading : Reading) (clear : List Bool) : Type 0 where
+  pub size : length clear ≡ 96
+  pub each : (r : ℕ) → r < length rows → getD clear r false ≡ present (valueOf reading rows r)
+
+-- one of two tests, by a third
+abbrev pub either : Bool → Bool → Bool → Bool
+either true a b = a
+either false a b = b
+
+-- whether a row of a kind has a value if atoms of the kinds from low to high have none, from whether its two parts have one
+unfoldable pub clearBy : ℕ → ℕ → ℕ → Bool → Bool → Bool
+clearBy low high kind left right = either (ltb kind 8) (not (leb low kind && leb kind high)) (either (ltb kind 10) left (left && right))
+
+-- the same of a row of a table, from which of the rows below it have a value
+abbrev pub clearAt : ℕ → ℕ → List ℕ → List Bool → ℕ → Bool
+clearAt low high t clear r = clearBy low high (getD t (3 * r) 0) (getD clear (getD t (3 * r + 1) 0) false) (getD clear (getD t (3 * r + 2) 0) false)
+
+-- whether a row is one of n and has a value
+abbrev pub hasValue : ℕ → List Bool → ℕ → Bool
+hasValue n clear r = ltb r n && getD clear r false
+
+-- the place of the first byte that fails a test or is below a number, which rises above each byte passed
+unfoldable pub unfitFrom : (ℕ → Bool) → ℕ → ℕ → List ℕ → Option ℕ
+unfitFrom fits at least [] = none
+unfitFrom fits at least (r ∷ bytes) =
+    elim (leb least r && fits r) [
+      | true ↦ unfitFrom fits (suc at) (suc r) bytes
+      | false ↦ some at
+    ]

@@ -1,0 +1,3 @@
+-- The laws of lists of rows, with their proofs.
+pub mod Clear
+pub mod Knowledge

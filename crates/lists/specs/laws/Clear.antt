@@ -1,0 +1,183 @@
+-- Which rows have a value: by their kinds and by the rows that they refer to. Assumes nothing.
+use Prim.Native.Nat.{ℕ, _+_, _*_, _≤_, _<_}
+use native.Mathlib.Omega.{arith}
+use native.Mathlib.Decide.{ℕ-discrete}
+use mathlib.Core.Path.{_≡_, refl, sym, ap, _∙_}
+use mathlib.Core.Bool.{Bool, true, false, _&&_, not}
+use mathlib.Core.Option.{Option, none, some}
+use mathlib.Core.List.{List, List·Memᴰ, List·Memᴰ·head as here, List·Memᴰ·tail as later}
+use lib.Dec.{ltb, leb}
+use lib.ListN.{length, getD, getElem?, set}
+use lib.Seq.{getD-set-same, getD-set-other}
+use borrow.Author.Tests.{ltb-false, leb-true, leb-false, lt-ltb, le-ltb, lt-leb, le-leb}
+use Rattle.semantics.specs.Basic.{present, mapped, mapped₂}
+use Rattle.semantics.specs.Term.{Term, trusted, untrusted, global, intruder, role, variable, local, agentType, freshType, pk, sk, pair, encrypted, sharedKey}
+use Rattle.semantics.specs.Table.{Row}
+use Rattle.semantics.specs.Value.{Reading, valueOf, withoutVariables, withoutRun}
+use Rattle.semantics.specs.Guarantee.{refersTo}
+use Rattle.semantics.specs.laws.List.{getElem-there}
+use Rattle.semantics.specs.laws.Value.{rowValue, value-unfolds}
+use Rattle.rows.specs.Rows.{IsTable, rowsOf, Sized}
+use Rattle.rows.specs.laws.Decodes.{Decodes, isTrusted, isUntrusted, isGlobal, isIntruder, isRole, isAgentVariable, isFreshVariable, isLocal, isPk, isSk, isShared, isPair, isEncrypted, table-good, table-row}
+use Rattle.lists.specs.Lists.{Bars, Valued, clearBy, clearAt}
+
+-- a number is not up to another exactly if it is above it
+not-leb : (a b : ℕ) → not (leb a b) ≡ ltb b a
+not-leb a b = go (leb a b) refl
+  where
+    go : (d : Bool) → leb a b ≡ d → not d ≡ ltb b a
+    go true e = sym (le-ltb b a (leb-true a b e))
+    go false e = sym (lt-ltb b a (leb-false a b e))
+
+-- what is made of one value, and of two, is there exactly if they are
+mapped-present : {A B : Type 0} (f : A → B) (o : Option A) → present (mapped f o) ≡ present o
+mapped-present f none = refl
+mapped-present f (some a) = refl
+
+mapped₂-present : {A B C : Type 0} (f : A → B → C) (o : Option A) (p : Option B) → present (mapped₂ f o p) ≡ (present o && present p)
+mapped₂-present f none p = refl
+mapped₂-present f (some a) none = refl
+mapped₂-present f (some a) (some b) = refl
+
+module _ (low high : ℕ) (reading : Reading) (bars : Bars low high reading) where
+  -- a row has a value by its kind and by whether its parts have one
+  decodes-clear : (value : ℕ → Option Term) {k l r : ℕ} {row : Row} → Decodes k l r row
+      → present (rowValue reading value row) ≡ clearBy low high k (present (value l)) (present (value r))
+  unfolding clearBy
+  decodes-clear value (isTrusted {n}) = bars (trusted n)
+  decodes-clear value (isUntrusted {n}) = bars (untrusted n)
+  decodes-clear value (isGlobal {n}) = bars (global n)
+  decodes-clear value (isIntruder {n}) = bars (intruder n)
+  decodes-clear value (isRole {i} h) = bars (role i)
+  decodes-clear value (isAgentVariable {n}) = bars (variable n agentType)
+  decodes-clear value (isFreshVariable {n}) = bars (variable n freshType)
+  decodes-clear value (isLocal {n}) = bars (local n 0)
+  decodes-clear value (isPk {a}) = mapped-present pk (value a)
+  decodes-clear value (isSk {a}) = mapped-present sk (value a)
+  decodes-clear value (isShared {a} {b}) = mapped₂-present sharedKey (value a) (value b)
+  decodes-clear value (isPair {l} {r}) = mapped₂-present pair (value l) (value r)
+  decodes-clear value (isEncrypted {l} {r}) = mapped₂-present encrypted (value l) (value r)
+
+-- a row of a kind from 8 on refers to its left row, and one of a kind from 10 on to its right row
+abbrev Refers : ℕ → ℕ → ℕ → List ℕ → Type 0
+Refers k l r rows = (8 ≤ k → List·Memᴰ l rows) × (10 ≤ k → List·Memᴰ r rows)
+
+refers-none : (k l r : ℕ) (rows : List ℕ) → k < 8 → Refers k l r rows
+refers-none k l r rows h = (λ m. absurd (omega arith), λ m. absurd (omega arith))
+
+decodes-refers : {k l r : ℕ} {row : Row} → Decodes k l r row → Refers k l r (refersTo row)
+decodes-refers isTrusted = refers-none _ _ _ _ (omega arith)
+decodes-refers isUntrusted = refers-none _ _ _ _ (omega arith)
+decodes-refers isGlobal = refers-none _ _ _ _ (omega arith)
+decodes-refers isIntruder = refers-none _ _ _ _ (omega arith)
+decodes-refers (isRole i) = refers-none _ _ _ _ (omega arith)
+decodes-refers isAgentVariable = refers-none _ _ _ _ (omega arith)
+decodes-refers isFreshVariable = refers-none _ _ _ _ (omega arith)
+decodes-refers isLocal = refers-none _ _ _ _ (omega arith)
+decodes-refers isPk = (λ m. here refl, λ m. absurd (omega arith))
+decodes-refers isSk = (λ m. here refl, λ m. absurd (omega arith))
+decodes-refers isShared = (λ m. here refl, λ m. later (here refl))
+decodes-refers isPair = (λ m. here refl, λ m. later (here refl))
+decodes-refers isEncrypted = (λ m. here refl, λ m. later (here refl))
+
+module _ (low high kind : ℕ) (left right : Bool) where
+  -- an atom has a value if its kind is below low, or not up to high
+  pub clear-low : kind < 8 → kind < low → true ≡ clearBy low high kind left right
+  unfolding clearBy
+  clear-low h l = sym (rw (lt-ltb kind 8 h, lt-leb low kind l))
+
+  pub clear-high : kind < 8 → low ≤ kind → ltb high kind ≡ clearBy low high kind left right
+  unfolding clearBy
+  clear-high h l = sym (rw (lt-ltb kind 8 h, le-leb low kind l) (not-leb kind high))
+
+  -- another row has one if its one part has, or both
+  pub clear-one : 8 ≤ kind → kind < 10 → left ≡ true → true ≡ clearBy low high kind left right
+  unfolding clearBy
+  clear-one h l e = sym (rw (le-ltb kind 8 h, lt-ltb kind 10 l) e)
+
+  pub clear-two : 10 ≤ kind → left ≡ true → right ≡ clearBy low high kind left right
+  unfolding clearBy
+  clear-two h e = sym (rw (le-ltb kind 8 (omega arith), le-ltb kind 10 h, e))
+
+  pub clear-not : 8 ≤ kind → left ≡ false → false ≡ clearBy low high kind left right
+  unfolding clearBy
+  clear-not h e = go (ltb kind 10) refl
+    where
+      go : (b : Bool) → ltb kind 10 ≡ b → false ≡ clearBy low high kind left right
+      go true f = sym (rw (le-ltb kind 8 h, f) e)
+      go false f = sym (rw (le-ltb kind 8 h, f, e))
+
+  -- only what a kind asks for counts
+  clear-same : {left′ right′ : Bool} → (8 ≤ kind → left ≡ left′) → (10 ≤ kind → right ≡ right′) → clearBy low high kind left right ≡ clearBy low high kind left′ right′
+  unfolding clearBy
+  clear-same {left′} {right′} l r = go (ltb kind 8) refl (ltb kind 10) refl
+    where
+      go : (b : Bool) → ltb kind 8 ≡ b → (d : Bool) → ltb kind 10 ≡ d → clearBy low high kind left right ≡ clearBy low high kind left′ right′
+      go true e d f = rw e
+      go false e true f = rw (e, f) (l (ltb-false kind 8 e))
+      go false e false f = rw (e, f, l (ltb-false kind 8 e), r (ltb-false kind 10 f))
+
+module _ (t : List ℕ) (table : IsTable t) (i : ℕ) (within : i < length (rowsOf t)) where
+  -- a row and what its bytes say
+  pub row-here : (row : Row) × (getElem? (rowsOf t) i ≡ some row) × Decodes (getD t (3 * i) 0) (getD t (3 * i + 1) 0) (getD t (3 * i + 2) 0) row
+  row-here = let w = getElem-there (rowsOf t) i within in (w .0, w .1, table-row t table i (w .0) (w .1) within)
+
+  -- the rows that it refers to are below it
+  pub left-lower : 8 ≤ getD t (3 * i) 0 → getD t (3 * i + 1) 0 < i
+  left-lower h = table-good t table .lower i (row-here .0) (row-here .1) (getD t (3 * i + 1) 0) (decodes-refers (row-here .2) .0 h)
+
+  pub right-lower : 10 ≤ getD t (3 * i) 0 → getD t (3 * i + 2) 0 < i
+  right-lower h = table-good t table .lower i (row-here .0) (row-here .1) (getD t (3 * i + 2) 0) (decodes-refers (row-here .2) .1 h)
+
+-- the rows below one with a number are those marked that have a value, under each reading in which just the kinds from low to high stand for nothing
+abbrev pub Cleared : List ℕ → ℕ → ℕ → List Bool → ℕ → Type 0
+Cleared t low high clear r = (reading : Reading) → Bars low high reading → (q : ℕ) → q < r → getD clear q false ≡ present (valueOf reading (rowsOf t) q)
+
+-- one row more
+pub cleared-more : (t : List ℕ) (n low high : ℕ) (clear : List Bool) (r : ℕ) → Sized t n → r < n → length clear ≡ 96 → Cleared t low high clear r
+    → {b : Bool} → b ≡ clearAt low high t clear r → Cleared t low high (set clear r b) (r + 1)
+cleared-more t n low high clear r s l size cleared {b} e reading bars q m = go (ℕ-discrete q r)
+  where
+    within : r < length (rowsOf t)
+    within = omega (arith, s .count)
+
+    value : present (valueOf reading (rowsOf t) r) ≡ b
+    value =
+        let w = row-here t (s .table) r within in
+        ap present (value-unfolds (table-good t (s .table)) reading r (w .1))
+        ∙ decodes-clear low high reading bars (valueOf reading (rowsOf t)) (w .2)
+        ∙ clear-same low high (getD t (3 * r) 0) _ _
+        (λ h. sym (cleared reading bars (getD t (3 * r + 1) 0) (left-lower t (s .table) r within h)))
+        (λ h. sym (cleared reading bars (getD t (3 * r + 2) 0) (right-lower t (s .table) r within h)))
+        ∙ sym e
+
+    go : Dec (q ≡ r) → getD (set clear r b) q false ≡ present (valueOf reading (rowsOf t) q)
+    go (yes f) = rw f (getD-set-same clear r b false (omega (arith, s .few)) ∙ sym value)
+    go (no f) = getD-set-other clear r q b false f ∙ cleared reading bars q (omega arith)
+
+-- and all rows
+pub cleared-all : (t : List ℕ) (n low high : ℕ) (clear : List Bool) (r : ℕ) → Sized t n → n ≤ r → length clear ≡ 96 → Cleared t low high clear r
+    → (reading : Reading) → Bars low high reading → Valued (rowsOf t) reading clear
+cleared-all t n low high clear r s l size cleared reading bars = record {
+  size = size;
+  each = λ q m. cleared reading bars q (omega (arith, s .count));
+}
+
+-- without variables just kind 6 stands for nothing, without a run kinds 5 to 7
+pub bars-variables : Bars 6 6 withoutVariables
+bars-variables (trusted n) = refl
+bars-variables (untrusted n) = refl
+bars-variables (global n) = refl
+bars-variables (intruder n) = refl
+bars-variables (role i) = refl
+bars-variables (variable n t) = refl
+bars-variables (local n u) = refl
+
+pub bars-run : Bars 5 7 withoutRun
+bars-run (trusted n) = refl
+bars-run (untrusted n) = refl
+bars-run (global n) = refl
+bars-run (intruder n) = refl
+bars-run (role i) = refl
+bars-run (variable n t) = refl
+bars-run (local n u) = refl

@@ -1,0 +1,24 @@
+-- One step of a trace as the code answers it. Assumes nothing.
+use Prim.Native.Nat.{ℕ}
+use mathlib.Core.Path.{_≡_}
+use mathlib.Core.Bool.{true, false}
+use mathlib.Core.List.{List}
+use mathlib.Core.Option.{Option, none, some}
+use Rattle.semantics.specs.Scenario.{Scenario}
+use Rattle.semantics.specs.State as definitions
+use Rattle.semantics.specs.Moves.{Move}
+use Rattle.semantics.specs.Replay.{after, firstStep}
+use Rattle.state.specs.State.{IsState}
+use Rattle.steps.specs.declared.Stepped.{Stepped}
+
+-- what the first step of some bytes does to a state
+abbrev pub stepAfter : Scenario → definitions.State → Option (Move × ℕ) → Option (definitions.State × ℕ)
+stepAfter sc d none = none
+stepAfter sc d (some step) = elim (after sc d (step .0)) [ none ↦ none | some d′ ↦ some (d′, step .1) ]
+
+-- a step that is allowed, with how many bytes it takes, or one that is not
+pub data StepDone (sc : Scenario) (d : definitions.State) (bytes : List ℕ) (stepped : Stepped) : Type 0 where
+  isStep :
+      {d′ : definitions.State} → stepped .allowed ≡ true → stepAfter sc d (firstStep bytes) ≡ some (d′, stepped .length) → IsState sc d′ (stepped .state)
+      → StepDone sc d bytes stepped
+  noStep : stepped .allowed ≡ false → stepAfter sc d (firstStep bytes) ≡ none → StepDone sc d bytes stepped

@@ -1,0 +1,2 @@
+-- The laws of a step, with their proofs.
+pub mod Steps

@@ -1,0 +1,145 @@
+-- One step of a trace: its bytes, and the state after it. Assumes nothing.
+use Prim.Native.Nat.{ℕ, zero, suc, _+_, _*_, _-_, _<_, _≤_}
+use native.Mathlib.Omega.{arith}
+use mathlib.Core.Path.{_≡_, refl, sym, ap, _∙_, subst}
+use mathlib.Core.Bool.{Bool, true, false, true≢false}
+use mathlib.Core.List.{List, [], _∷_}
+use mathlib.Core.Option.{Option, none, some, Option·some-injective, Option·none-ne-some}
+use borrow.Author.Tests.{le-leb, lt-leb}
+use lib.Dec.{leb}
+use lib.ListN.{length, getD, getElem?, take, drop, length-drop}
+use Rattle.semantics.specs.Basic.{andThen, provided}
+use Rattle.semantics.specs.Scenario.{Scenario}
+use Rattle.semantics.specs.State.{Value, State, Active, active}
+use Rattle.semantics.specs.Moves.{Move, toSet, performed}
+use Rattle.semantics.specs.Replay.{suits, after, valuesIn, firstStep}
+use Rattle.runs.specs.declared.RunEvent.{RunEvent}
+use Rattle.state.specs.declared.State.{State as CodeState}
+use Rattle.state.specs.declared.Moved.{Moved}
+use Rattle.state.specs.State.{IsState, NextMove, Sets, Performed, isAllowed, notAllowed}
+use Rattle.choices.specs.declared.Choice.{Choice}
+use Rattle.choices.specs.Choices.{Suited, isSuited, notSuited}
+use Rattle.choices.specs.laws.Values.{only-none}
+use Rattle.steps.specs.declared.Stepped.{Stepped}
+use Rattle.steps.specs.Steps.{stepAfter, StepDone, isStep, noStep}
+
+-- a step that is cut short
+first-short : (bytes : List ℕ) → length bytes < 2 → firstStep bytes ≡ none
+unfolding firstStep
+first-short [] l = refl
+first-short (u ∷ []) l = refl
+first-short (u ∷ c ∷ bytes) l = absurd (omega arith)
+
+first-cut : (bytes : List ℕ) → 2 ≤ length bytes → length bytes < 2 + 2 * getD bytes 1 0 → firstStep bytes ≡ none
+unfolding firstStep
+first-cut [] l h = absurd (omega arith)
+first-cut (u ∷ []) l h = absurd (omega arith)
+first-cut (u ∷ c ∷ bytes) l h = rw (lt-leb (2 * c) (length bytes) (omega arith)) refl
+
+-- a whole one
+first-whole : (bytes : List ℕ) → 2 ≤ length bytes → 2 + 2 * getD bytes 1 0 ≤ length bytes
+    → firstStep bytes ≡ some (record { run = getD bytes 0 0; values = valuesIn (take (2 * getD bytes 1 0) (drop 2 bytes)) }, 2 + 2 * getD bytes 1 0)
+unfolding firstStep
+first-whole [] l h = absurd (omega arith)
+first-whole (u ∷ []) l h = absurd (omega arith)
+first-whole (u ∷ c ∷ bytes) l h = rw (le-leb (2 * c) (length bytes) (omega arith)) refl
+
+-- the state after a move of a run without an event to come, and of every other
+after-none : (sc : Scenario) (d : State) (m : Move) → active sc d (m .run) ≡ none → after sc d m ≡ none
+unfolding after
+after-none sc d m e = rw e refl
+
+abbrev tested : Option State → Bool → Option State
+tested o b = elim b [ true ↦ o | false ↦ none ]
+
+by-active : (sc : Scenario) (d : State) (m : Move) (a : Active) → active sc d (m .run) ≡ some a → after sc d m ≡ tested (performed sc d a (m .values)) (suits (sc .rows) (length (sc .runs)) (toSet sc a) (m .values))
+unfolding after
+by-active sc d m a e = ap (λ (o : Option Active). andThen o (λ (b : Active). tested (performed sc d b (m .values)) (suits (sc .rows) (length (sc .runs)) (toSet sc b) (m .values)))) e
+
+after-unsuited : (sc : Scenario) (d : State) (m : Move) (a : Active) → active sc d (m .run) ≡ some a → suits (sc .rows) (length (sc .runs)) (toSet sc a) (m .values) ≡ false → after sc d m ≡ none
+after-unsuited sc d m a e h = by-active sc d m a e ∙ by-test (suits (sc .rows) (length (sc .runs)) (toSet sc a) (m .values)) h
+  where
+    by-test : (b : Bool) → b ≡ false → tested (performed sc d a (m .values)) b ≡ none
+    by-test true q = absurd (true≢false q)
+    by-test false q = refl
+
+after-suited : (sc : Scenario) (d : State) (m : Move) (a : Active) → active sc d (m .run) ≡ some a → suits (sc .rows) (length (sc .runs)) (toSet sc a) (m .values) ≡ true → after sc d m ≡ performed sc d a (m .values)
+after-suited sc d m a e h = by-active sc d m a e ∙ by-test (suits (sc .rows) (length (sc .runs)) (toSet sc a) (m .values)) h
+  where
+    by-test : (b : Bool) → b ≡ true → tested (performed sc d a (m .values)) b ≡ performed sc d a (m .values)
+    by-test true q = refl
+    by-test false q = absurd (true≢false (sym q))
+
+module _ (sc : Scenario) (d : State) (bytes : List ℕ) (s : CodeState) where
+  abbrev pub Refuses : Type 0
+  Refuses = StepDone sc d bytes (record { allowed = false; length = 0; state = s })
+
+  pub refuses-short : length bytes < 2 → Refuses
+  refuses-short l = noStep refl (ap (stepAfter sc d) (first-short bytes l))
+
+  module _ (two : 2 ≤ length bytes) {count end : ℕ} (counts : count ≡ getD bytes 1 0) (ends : end ≡ 2 + 2 * count) where
+    pub refuses-cut : length bytes < end → Refuses
+    refuses-cut l = noStep refl (ap (stepAfter sc d) (first-cut bytes two (omega arith)))
+
+    module _ (whole : end ≤ length bytes) {u : ℕ} (run : u ≡ getD bytes 0 0) where
+      abbrev move : Move
+      move = record { run = getD bytes 0 0; values = valuesIn (take (2 * getD bytes 1 0) (drop 2 bytes)) }
+
+      is-whole : firstStep bytes ≡ some (move, 2 + 2 * getD bytes 1 0)
+      is-whole = first-whole bytes two (omega arith)
+
+      not-after : after sc d move ≡ none → stepAfter sc d (firstStep bytes) ≡ none
+      not-after e = ap (stepAfter sc d) is-whole ∙ go (after sc d move) e
+        where
+          go : (o : Option State) → o ≡ none → _≡_ {A = Option (State × ℕ)} (elim o [ none ↦ none | some d′ ↦ some (d′, 2 + 2 * getD bytes 1 0) ]) none
+          go none h = refl
+          go (some d′) h = absurd (Option·none-ne-some d′ (sym h))
+
+      is-after : {d′ : State} → after sc d move ≡ some d′ → stepAfter sc d (firstStep bytes) ≡ some (d′, end)
+      is-after {d′} e = ap (stepAfter sc d) is-whole ∙ go (after sc d move) e
+        where
+          go : (o : Option State) → o ≡ some d′ → _≡_ {A = Option (State × ℕ)} (elim o [ none ↦ none | some d″ ↦ some (d″, 2 + 2 * getD bytes 1 0) ]) (some (d′, end))
+          go none h = absurd (Option·none-ne-some d′ h)
+          go (some d″) h = λ i. some (Option·some-injective d″ d′ h i, size i)
+            where
+              size : 2 + 2 * getD bytes 1 0 ≡ end
+              size = omega arith
+
+      pub refuses-inactive : active sc d u ≡ none → Refuses
+      refuses-inactive e = noStep refl (not-after (after-none sc d move (ap (active sc d) (sym run) ∙ e)))
+
+      module _ {a : Active} (isActive : active sc d u ≡ some a) (values : List ℕ) (part : values ≡ take (end - 2) (drop 2 bytes)) (choice : Choice) (suited : Suited sc d a (valuesIn values) choice) where
+        same-values : valuesIn values ≡ move .values
+        same-values = let size : end - 2 ≡ 2 * getD bytes 1 0 = omega arith in ap valuesIn (part ∙ ap (λ (m : ℕ). take m (drop 2 bytes)) size)
+
+        active-here : active sc d (move .run) ≡ some a
+        active-here = ap (active sc d) (sym run) ∙ isActive
+
+        pub refuses-unsuited : choice .suits ≡ false → Refuses
+        refuses-unsuited h = go suited
+          where
+            go : Suited sc d a (valuesIn values) choice → Refuses
+            go (isSuited e f g) = absurd (true≢false (sym e ∙ h))
+            go (notSuited e f) = noStep refl (not-after (after-unsuited sc d move a active-here (ap (suits (sc .rows) (length (sc .runs)) (toSet sc a)) (sym same-values) ∙ f)))
+
+        pub suited-sets : choice .suits ≡ true → (suits (sc .rows) (length (sc .runs)) (toSet sc a) (valuesIn values) ≡ true) × Sets sc d a (valuesIn values) (choice .names)
+        suited-sets h = go suited
+          where
+            go : Suited sc d a (valuesIn values) choice → (suits (sc .rows) (length (sc .runs)) (toSet sc a) (valuesIn values) ≡ true) × Sets sc d a (valuesIn values) (choice .names)
+            go (isSuited e f g) = (f, g)
+            go (notSuited e f) = absurd (true≢false (sym h ∙ e))
+
+        pub step-performed : choice .suits ≡ true → (moved : Moved) → Performed sc d a (valuesIn values) moved → StepDone sc d bytes (record { allowed = moved .allowed; length = end; state = moved .state })
+        step-performed h moved did = go did
+          where
+            done : after sc d move ≡ performed sc d a (valuesIn values)
+            done = after-suited sc d move a active-here (ap (suits (sc .rows) (length (sc .runs)) (toSet sc a)) (sym same-values) ∙ suited-sets h .0) ∙ ap (performed sc d a) (sym same-values)
+
+            go : Performed sc d a (valuesIn values) moved → StepDone sc d bytes (record { allowed = moved .allowed; length = end; state = moved .state })
+            go (isAllowed e f g) = isStep e (is-after (done ∙ f)) g
+            go (notAllowed e f) = noStep e (not-after (done ∙ f))
+
+-- values that suit an event that is no read are none
+pub suited-none : {t : List ℕ} {runs k : ℕ} {e : RunEvent} {sc : Scenario} {d : State} {s : CodeState} {a : Active} → NextMove t runs k e sc d s a → (values : List ℕ)
+    → suits (sc .rows) (length (sc .runs)) (toSet sc a) (valuesIn values) ≡ true → (e .kind ≡ 1 → ⊥) → valuesIn values ≡ []
+suited-none next values h kind = only-none next kind values (valuesIn values) h
