@@ -1,5 +1,4 @@
 -- Search's answer as the code gives it: the refusal, or the verdict. Assumes nothing.
-use mathlib.Core.Path.{_≡_}
 use lib.ListN.{length}
 use Rattle.semantics.specs.Answer.{Answer, refused, accepted}
 use Rattle.semantics.specs.Verdict.{Verdict, brokenAt, held, stopped, traceBytes}

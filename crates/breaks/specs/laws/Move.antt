@@ -38,7 +38,7 @@ use Rattle.breaks.specs.laws.Bytes.{over-length, over-over}
 use Rattle.breaks.specs.laws.Walk.{finds-nil, finds-same}
 
 -- the bytes of values, of a trace with one more move, and of a trace in two parts
-value-bytes : (vs : List Value) → length (valueBytes vs) ≡ 2 * length vs
+pub value-bytes : (vs : List Value) → length (valueBytes vs) ≡ 2 * length vs
 value-bytes [] = refl
 value-bytes (v ∷ vs) = let h = value-bytes vs in omega arith
 
