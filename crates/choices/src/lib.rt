@@ -62,7 +62,7 @@ fn chosen(
                 names: more,
             };
         }
-        let next = values::put(&more, x, k + 1, r, w);
+        let next = values::put(more, x, k + 1, r, w);
         more = next;
         from = x + 1;
         i += 2;

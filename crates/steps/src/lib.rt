@@ -64,7 +64,7 @@ pub fn step(file: &[u8], t: &[u8], n: usize, r: Runs, s: State, trace: &[u8]) ->
         let own = s.classes;
         let marks = s.marks;
         let done = s.done;
-        let grown = state::with_names(&own, marks, &names, t, n, r.count, u);
+        let grown = state::with_names(&own, marks, &names, t, n, r.count, k + 1);
         let classes = grown.classes;
         let more = grown.marks;
         let moved = state::perform(done, &names, &classes, more, t, n, r.count, k, e);

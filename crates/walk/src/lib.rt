@@ -211,7 +211,8 @@ fn walk_values(
                 return Walked::Clean(count);
             }
             NextValue::Value { row: y, run: w } => {
-                let more = values::put(names, x, k + 1, y, w);
+                let own_names = state::copied(names);
+                let more = values::put(own_names, x, k + 1, y, w);
                 let grown = state::with_names(classes, marks, &more, t, n, r.count, k + 1);
                 let more_classes = grown.classes;
                 let more_marks = grown.marks;

@@ -83,6 +83,9 @@ module _ {t : List ℕ} {runs k : ℕ} {e : RunEvent} {sc : Scenario} {d : State
   pub none-ready : Ready sc d a [] (s .names) (s .classes) (s .marks)
   none-ready = record { arrays = same-arrays (next .isState .arrays); valued = same-standing }
 
+  pub none-set : Sets sc d a [] (s .names)
+  none-set = record { size = none-ready .arrays .sized; named = none-ready .arrays .named; valued = same-standing }
+
   -- a claim
   pub claim-performed : {done : List ℕ} → done ≡ s .done → length done ≡ 4 → {names classes : List ℕ} {marks : List Bool} → Ready sc d a [] names classes marks → e .kind ≡ 2
       → {moved : Moved} → moved ≡ movedTo done names classes marks k → Performed sc d a [] moved

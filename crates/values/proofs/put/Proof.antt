@@ -6,7 +6,7 @@ use Rattle.values.proofs.put.Statement.{statement}
 use Rattle.values.proofs.put.Tie as tie
 
 returns : tie.Need-returns
-returns c = rw (c .before .before .copied .ensures, c .before .cell .ensures .0, c .cell2 .ensures .0) refl
+returns c = rw (c .before .cell .ensures .0, c .cell2 .ensures .0) refl
 
 pub put-spec : {M : Type 1} → statement M
-put-spec = tie.close (tie.spec (λ c κs. search needs) (λ c κs. search needs) (λ c. search needs) (λ c κs. search needs) (λ c. search needs) (λ c. search needs) returns)
+put-spec = tie.close (tie.spec (λ c κs. search needs) (λ c. search needs) (λ c κs. search needs) (λ c. search needs) (λ c. search needs) returns)
