@@ -34,12 +34,6 @@ pub struct Moved {
     pub state: State,
 }
 
-// Classes and marks with new values of a run.
-pub struct Grown {
-    pub classes: [u16; 480],
-    pub marks: [bool; 480],
-}
-
 // The marks when the value of row r in run u is known too.
 fn learn(
     marks: [bool; 480],
@@ -86,26 +80,21 @@ pub fn copied(cells: &[u16]) -> [u16; 480]
     own
 }
 
-// The classes and marks once the names of run u have grown.
+// The marks once the names of run u have grown; the classes are filled anew.
 pub fn with_names(
-    classes: &[u16],
+    classes: &mut [u16],
     marks: [bool; 480],
     names: &[u16],
     t: &[u8],
     n: usize,
     runs: usize,
     u: usize,
-) -> Grown
+) -> [bool; 480]
     requires { ⌜ Shape (now t) n runs × ((length (now classes) ≡ cellCount) × ((length (now names) ≡ cellCount) × (u ≤ runs))) ⌝ }
-    ensures { λ g. ⌜ Refilled (rowsOf (now (t .entry))) runs u (now (names .entry)) (now (classes .entry)) (g .classes) × Settled (rowsOf (now (t .entry))) runs (g .classes) marks (g .marks) ⌝ }
+    ensures { λ more. ⌜ Refilled (rowsOf (now (t .entry))) runs u (now (names .entry)) (now (classes .entry)) (now (classes .exit)) × Settled (rowsOf (now (t .entry))) runs (now (classes .exit)) marks more ⌝ }
 {
-    let mut more = copied(classes);
-    classes::refill(&mut more, t, n, runs, names, u);
-    let settled = knowledge::settle(marks, t, n, runs, &more);
-    Grown {
-        classes: more,
-        marks: settled,
-    }
+    classes::refill(&mut classes[..], t, n, runs, names, u);
+    knowledge::settle(marks, t, n, runs, &classes[..])
 }
 
 // The answer of a move that is not allowed; the state in it is none.

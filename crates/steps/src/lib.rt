@@ -61,12 +61,10 @@ pub fn step(file: &[u8], t: &[u8], n: usize, r: Runs, s: State, trace: &[u8]) ->
     let choice = choices::valued(s, t, n, r.count, k, e, &trace[2..end]);
     if choice.suits {
         let names = choice.names;
-        let own = s.classes;
         let marks = s.marks;
         let done = s.done;
-        let grown = state::with_names(&own, marks, &names, t, n, r.count, k + 1);
-        let classes = grown.classes;
-        let more = grown.marks;
+        let mut classes = s.classes;
+        let more = state::with_names(&mut classes, marks, &names, t, n, r.count, k + 1);
         let moved = state::perform(done, &names, &classes, more, t, n, r.count, k, e);
         let after = moved.state;
         return Stepped {

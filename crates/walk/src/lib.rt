@@ -213,9 +213,16 @@ fn walk_values(
             NextValue::Value { row: y, run: w } => {
                 let own_names = state::copied(names);
                 let more = values::put(own_names, x, k + 1, y, w);
-                let grown = state::with_names(classes, marks, &more, t, n, r.count, k + 1);
-                let more_classes = grown.classes;
-                let more_marks = grown.marks;
+                let mut more_classes = state::copied(classes);
+                let more_marks = state::with_names(
+                    &mut more_classes,
+                    marks,
+                    &more,
+                    t,
+                    n,
+                    r.count,
+                    k + 1,
+                );
                 let found = walk_values(
                     trace,
                     file,

@@ -501,50 +501,37 @@ walk-values-put-requires t c κs =
     let low = of-values.value-low move kind choosing view more found told in
     (omega (arith, of-values.low move kind choosing view more, move .here .given .shape .few), (omega (arith, move .here .given .runs .few, move .due .isRun), (omega (arith, low .0, move .here .given .shape .few), low .1)))
 
+walk-values-copied-requires-2 : (t : ℕ) → walk-values-lts.Need-copied-requires-2 (walk-values-env t) (walk-values-at t) walk-values.Post walk-values-Inv-loop walk-values-μ-loop
+walk-values-copied-requires-2 t c κs = c .before .before .before .before .before .before .before .before .before .before .before .before .before .before .before .before .before .before .pre .1 .0 .choosing .arrays .classed .size
+
 walk-values-add-with-names : (t : ℕ) → walk-values-lts.Need-add-with-names (walk-values-env t) (walk-values-at t) walk-values.Post walk-values-Inv-loop walk-values-μ-loop
-walk-values-add-with-names t c = let m = c .before .before .before .before .before .before .before .before .before .before .before .before .before .before .before .before .before .before .before .pre .1 .0 in record { fits = omega (arith, m .move .here .given .runs .few, m .move .due .isRun) }
+walk-values-add-with-names t c = let m = c .before .before .before .before .before .before .before .before .before .before .before .before .before .before .before .before .before .before .before .before .before .pre .1 .0 in record { fits = omega (arith, m .move .here .given .runs .few, m .move .due .isRun) }
 
 walk-values-with-names-requires : (t : ℕ) → walk-values-lts.Need-with-names-requires (walk-values-env t) (walk-values-at t) walk-values.Post walk-values-Inv-loop walk-values-μ-loop
 walk-values-with-names-requires t c κs =
-    let s = c .before .before .before .before .before .before .before .before .before .before .before .before .before .before .before .before .before .before .before in
+    let s = c .before .before .before .before .before .before .before .before .before .before .before .before .before .before .before .before .before .before .before .before .before in
     let m = s .pre .1 .0 in
     let move = m .move in
     let choosing = m .choosing in
-    let size = ap length (c .before .put .ensures) ∙ length-set (c .before .before .copied .result) _ _ ∙ ap length (c .before .before .copied .ensures) ∙ choosing .arrays .sized in
-    (move .here .given .shape, (choosing .arrays .classed .size, (size, omega (arith, move .due .isRun))))
+    let size = ap length (c .before .before .before .put .ensures) ∙ length-set (c .before .before .before .before .copied .result) _ _ ∙ ap length (c .before .before .before .before .copied .ensures) ∙ choosing .arrays .sized in
+    (move .here .given .shape, (ap length (c .before .before .copied2 .ensures) ∙ choosing .arrays .classed .size, (size, omega (arith, move .due .isRun))))
 
 walk-values-add-walk-values : (t : ℕ) → walk-values-lts.Need-add-walk-values (walk-values-env t) (walk-values-at t) walk-values.Post walk-values-Inv-loop walk-values-μ-loop
 walk-values-add-walk-values t c =
-    let s = c .before .before .before .before .before .before .before .before .before .before .before .before .before .before .before .before .before .before .before .before .before .before .before .before .before in
+    let s = c .before .before .before .before .before .before .before .before .before .before .before .before .before .before .before .before .before .before .before .before .before .before .before .before .before .before in
     let m = s .pre .1 .0 in
     let move = m .move in
     let choosing = m .choosing in
     let kind = s .pre .1 .1 .1 .1 .1 .1 in
-    let view = rw (m .isOwn) at (c .before .before .before .before .before .before .before .before .before .before .before .before .before .before .before .before .before .next-unset .ensures (s .args .e .row) (s .pre .1 .1 .0)) in
-    let more = c .before .before .before .before .before .before .before .before .before .before .before .before .before .before .before .before .if1 .left in
-    let l = c .before .before .before .before .before .before .before .before .before .before .before .before .before .loop in
+    let view = rw (m .isOwn) at (c .before .before .before .before .before .before .before .before .before .before .before .before .before .before .before .before .before .before .next-unset .ensures (s .args .e .row) (s .pre .1 .1 .0)) in
+    let more = c .before .before .before .before .before .before .before .before .before .before .before .before .before .before .before .before .before .if1 .left in
+    let l = c .before .before .before .before .before .before .before .before .before .before .before .before .before .before .loop in
     let var = of-values.var move kind choosing view more in
-    let found = c .before .before .before .before .before .before .before .before .before .before .before .before .next-value .ensures (var .0) (var .1) (of-values.atom-read move kind choosing view more) in
+    let found = c .before .before .before .before .before .before .before .before .before .before .before .before .before .next-value .ensures (var .0) (var .1) (of-values.atom-read move kind choosing view more) in
     record { fits = omega (arith, of-values.low move kind choosing view more, move .here .given .shape .few) }
 
 walk-values-with-value-requires : (t : ℕ) → walk-values-lts.Need-with-value-requires (walk-values-env t) (walk-values-at t) walk-values.Post walk-values-Inv-loop walk-values-μ-loop
 walk-values-with-value-requires t c κs =
-    let s = c .before .before .before .before .before .before .before .before .before .before .before .before .before .before .before .before .before .before .before .before .before .before .before .before .before in
-    let m = s .pre .1 .0 in
-    let move = m .move in
-    let choosing = m .choosing in
-    let kind = s .pre .1 .1 .1 .1 .1 .1 in
-    let view = rw (m .isOwn) at (c .before .before .before .before .before .before .before .before .before .before .before .before .before .before .before .before .before .next-unset .ensures (s .args .e .row) (s .pre .1 .1 .0)) in
-    let more = c .before .before .before .before .before .before .before .before .before .before .before .before .before .before .before .before .if1 .left in
-    let l = c .before .before .before .before .before .before .before .before .before .before .before .before .before .loop in
-    let var = of-values.var move kind choosing view more in
-    let found = c .before .before .before .before .before .before .before .before .before .before .before .before .next-value .ensures (var .0) (var .1) (of-values.atom-read move kind choosing view more) in
-    let told = c .before .before .before .before .before .before .before .before .before .before .next .given .1 in
-    let low = of-values.value-low move kind choosing view more found told in
-    (of-values.few-values move kind choosing view more, (omega (arith, low .0, move .here .given .shape .few), omega (arith, low .1)))
-
-walk-values-walk-values-requires : (t : ℕ) → walk-values-lts.Need-walk-values-requires (walk-values-env t) (walk-values-at t) walk-values.Post walk-values-Inv-loop walk-values-μ-loop
-walk-values-walk-values-requires t c κs =
     let s = c .before .before .before .before .before .before .before .before .before .before .before .before .before .before .before .before .before .before .before .before .before .before .before .before .before .before in
     let m = s .pre .1 .0 in
     let move = m .move in
@@ -556,11 +543,27 @@ walk-values-walk-values-requires t c κs =
     let var = of-values.var move kind choosing view more in
     let found = c .before .before .before .before .before .before .before .before .before .before .before .before .before .next-value .ensures (var .0) (var .1) (of-values.atom-read move kind choosing view more) in
     let told = c .before .before .before .before .before .before .before .before .before .before .before .next .given .1 in
+    let low = of-values.value-low move kind choosing view more found told in
+    (of-values.few-values move kind choosing view more, (omega (arith, low .0, move .here .given .shape .few), omega (arith, low .1)))
+
+walk-values-walk-values-requires : (t : ℕ) → walk-values-lts.Need-walk-values-requires (walk-values-env t) (walk-values-at t) walk-values.Post walk-values-Inv-loop walk-values-μ-loop
+walk-values-walk-values-requires t c κs =
+    let s = c .before .before .before .before .before .before .before .before .before .before .before .before .before .before .before .before .before .before .before .before .before .before .before .before .before .before .before in
+    let m = s .pre .1 .0 in
+    let move = m .move in
+    let choosing = m .choosing in
+    let kind = s .pre .1 .1 .1 .1 .1 .1 in
+    let view = rw (m .isOwn) at (c .before .before .before .before .before .before .before .before .before .before .before .before .before .before .before .before .before .before .before .next-unset .ensures (s .args .e .row) (s .pre .1 .1 .0)) in
+    let more = c .before .before .before .before .before .before .before .before .before .before .before .before .before .before .before .before .before .before .if1 .left in
+    let l = c .before .before .before .before .before .before .before .before .before .before .before .before .before .before .before .loop in
+    let var = of-values.var move kind choosing view more in
+    let found = c .before .before .before .before .before .before .before .before .before .before .before .before .before .before .next-value .ensures (var .0) (var .1) (of-values.atom-read move kind choosing view more) in
+    let told = c .before .before .before .before .before .before .before .before .before .before .before .before .next .given .1 in
     let next = of-values.value-next move kind choosing view more found told in
     let trying = l .inv .3 (m .sc) (m .d) (m .s) (m .ms) (m .a) (m .xs) (m .vs) move kind (m .isDone) (m .isOwn) choosing view more in
     let passed = of-values.trying-next move kind choosing view more trying _ (next .atom) (next .names) (next .isNext) in
-    let grown = c .before .before .before .before .before .before .with-names .ensures in
-    let longer = of-values.choosing-more move kind choosing view more trying _ (next .atom) (next .names) (next .isNext) (rw (c .before .before .before .before .before .before .before .before .before .copied .ensures) at (c .before .before .before .before .before .before .before .before .put .ensures)) (grown .0) (grown .1) (c .with-value .ensures (m .vs) (choosing .are)) in
+    let grown = c .before .before .before .before .before .with-names .ensures in
+    let longer = of-values.choosing-more move kind choosing view more trying _ (next .atom) (next .names) (next .isNext) (rw (c .before .before .before .before .before .before .before .before .before .before .copied .ensures) at (c .before .before .before .before .before .before .before .before .before .put .ensures)) (rw (c .before .before .before .before .before .before .before .before .copied2 .ensures) at (grown .0)) (grown .1) (c .with-value .ensures (m .vs) (choosing .are)) in
     let low = of-values.low move kind choosing view more in (
       omega (arith, s .pre .0, low, of-values.its move kind choosing view more .from-on),
       (
@@ -571,137 +574,137 @@ walk-values-walk-values-requires t c κs =
 
 walk-values-later-requires : (t : ℕ) → walk-values-lts.Need-later-requires (walk-values-env t) (walk-values-at t) walk-values.Post walk-values-Inv-loop walk-values-μ-loop
 walk-values-later-requires t c κs =
-    let s = c .before .before .before .before .before .before .before .before .before .before .before .before .before .before .before .before .before .before .before .before .before .before .before .before .before .before .before .before .before .before .before .before in
+    let s = c .before .before .before .before .before .before .before .before .before .before .before .before .before .before .before .before .before .before .before .before .before .before .before .before .before .before .before .before .before .before .before .before .before in
     let m = s .pre .1 .0 in
     let move = m .move in
     let choosing = m .choosing in
     let kind = s .pre .1 .1 .1 .1 .1 .1 in
-    let view = rw (m .isOwn) at (c .before .before .before .before .before .before .before .before .before .before .before .before .before .before .before .before .before .before .before .before .before .before .before .before .next-unset .ensures (s .args .e .row) (s .pre .1 .1 .0)) in
-    let more = c .before .before .before .before .before .before .before .before .before .before .before .before .before .before .before .before .before .before .before .before .before .before .before .if1 .left in
-    let l = c .before .before .before .before .before .before .before .before .before .before .before .before .before .before .before .before .before .before .before .before .loop in
-    let var = of-values.var move kind choosing view more in
-    let found = c .before .before .before .before .before .before .before .before .before .before .before .before .before .before .before .before .before .before .before .next-value .ensures (var .0) (var .1) (of-values.atom-read move kind choosing view more) in
-    let told = c .before .before .before .before .before .before .before .before .before .before .before .before .before .before .before .before .before .next .given .1 in
-    let next = of-values.value-next move kind choosing view more found told in
-    let trying = l .inv .3 (m .sc) (m .d) (m .s) (m .ms) (m .a) (m .xs) (m .vs) move kind (m .isDone) (m .isOwn) choosing view more in
-    let passed = of-values.trying-next move kind choosing view more trying _ (next .atom) (next .names) (next .isNext) in
-    let grown = c .before .before .before .before .before .before .before .before .before .before .before .before .with-names .ensures in
-    let longer = of-values.choosing-more move kind choosing view more trying _ (next .atom) (next .names) (next .isNext) (rw (c .before .before .before .before .before .before .before .before .before .before .before .before .before .before .before .copied .ensures) at (c .before .before .before .before .before .before .before .before .before .before .before .before .before .before .put .ensures)) (grown .0) (grown .1) (c .before .before .before .before .before .before .with-value .ensures (m .vs) (choosing .are)) in
-    let finds = c .before .before .before .before .before .walk-values .ensures (m .sc) (m .d) (m .s) (m .ms) (m .a) _ _ move (m .isDone) (m .isOwn) longer in
-    (omega (arith, broken-place (m .sc) _ _ finds (c .before .found .given .1), s .pre .1 .1 .1 .1 .0), omega (arith, l .inv .1, s .pre .1 .1 .1 .1 .0))
-
-walk-values-same-length-3 : (t : ℕ) → walk-values-lts.Need-same-length-3 (walk-values-env t) (walk-values-at t) walk-values.Post walk-values-Inv-loop walk-values-μ-loop
-walk-values-same-length-3 t c = omega (arith, c .before .before .before .before .before .trace2 .given, ap length (c .before .before .before .before .before .before .before .before .before .before .before .before .before .before .before .before .before .before .before .before .before .loop .inv .0))
-
-walk-values-returns-4 : (t : ℕ) → walk-values-lts.Need-returns-4 (walk-values-env t) (walk-values-at t) walk-values.Post walk-values-Inv-loop walk-values-μ-loop
-walk-values-returns-4 t c sc d s′ ms a xs vs move same isOwn choosing =
-    let s = c .before .before .before .before .before .before .before .before .before .before .before .before .before .before .before .before .before .before .before .before .before .before .before .before .before .before .before .before .before .before .before .before .before in
-    let kind = s .pre .1 .1 .1 .1 .1 .1 in
-    let view = rw isOwn at (c .before .before .before .before .before .before .before .before .before .before .before .before .before .before .before .before .before .before .before .before .before .before .before .before .before .next-unset .ensures (s .args .e .row) (s .pre .1 .1 .0)) in
+    let view = rw (m .isOwn) at (c .before .before .before .before .before .before .before .before .before .before .before .before .before .before .before .before .before .before .before .before .before .before .before .before .before .next-unset .ensures (s .args .e .row) (s .pre .1 .1 .0)) in
     let more = c .before .before .before .before .before .before .before .before .before .before .before .before .before .before .before .before .before .before .before .before .before .before .before .before .if1 .left in
     let l = c .before .before .before .before .before .before .before .before .before .before .before .before .before .before .before .before .before .before .before .before .before .loop in
     let var = of-values.var move kind choosing view more in
     let found = c .before .before .before .before .before .before .before .before .before .before .before .before .before .before .before .before .before .before .before .before .next-value .ensures (var .0) (var .1) (of-values.atom-read move kind choosing view more) in
     let told = c .before .before .before .before .before .before .before .before .before .before .before .before .before .before .before .before .before .before .next .given .1 in
     let next = of-values.value-next move kind choosing view more found told in
+    let trying = l .inv .3 (m .sc) (m .d) (m .s) (m .ms) (m .a) (m .xs) (m .vs) move kind (m .isDone) (m .isOwn) choosing view more in
+    let passed = of-values.trying-next move kind choosing view more trying _ (next .atom) (next .names) (next .isNext) in
+    let grown = c .before .before .before .before .before .before .before .before .before .before .before .with-names .ensures in
+    let longer = of-values.choosing-more move kind choosing view more trying _ (next .atom) (next .names) (next .isNext) (rw (c .before .before .before .before .before .before .before .before .before .before .before .before .before .before .before .before .copied .ensures) at (c .before .before .before .before .before .before .before .before .before .before .before .before .before .before .before .put .ensures)) (rw (c .before .before .before .before .before .before .before .before .before .before .before .before .before .before .copied2 .ensures) at (grown .0)) (grown .1) (c .before .before .before .before .before .before .with-value .ensures (m .vs) (choosing .are)) in
+    let finds = c .before .before .before .before .before .walk-values .ensures (m .sc) (m .d) (m .s) (m .ms) (m .a) _ _ move (m .isDone) (m .isOwn) longer in
+    (omega (arith, broken-place (m .sc) _ _ finds (c .before .found .given .1), s .pre .1 .1 .1 .1 .0), omega (arith, l .inv .1, s .pre .1 .1 .1 .1 .0))
+
+walk-values-same-length-3 : (t : ℕ) → walk-values-lts.Need-same-length-3 (walk-values-env t) (walk-values-at t) walk-values.Post walk-values-Inv-loop walk-values-μ-loop
+walk-values-same-length-3 t c = omega (arith, c .before .before .before .before .before .trace2 .given, ap length (c .before .before .before .before .before .before .before .before .before .before .before .before .before .before .before .before .before .before .before .before .before .before .loop .inv .0))
+
+walk-values-returns-4 : (t : ℕ) → walk-values-lts.Need-returns-4 (walk-values-env t) (walk-values-at t) walk-values.Post walk-values-Inv-loop walk-values-μ-loop
+walk-values-returns-4 t c sc d s′ ms a xs vs move same isOwn choosing =
+    let s = c .before .before .before .before .before .before .before .before .before .before .before .before .before .before .before .before .before .before .before .before .before .before .before .before .before .before .before .before .before .before .before .before .before .before in
+    let kind = s .pre .1 .1 .1 .1 .1 .1 in
+    let view = rw isOwn at (c .before .before .before .before .before .before .before .before .before .before .before .before .before .before .before .before .before .before .before .before .before .before .before .before .before .before .next-unset .ensures (s .args .e .row) (s .pre .1 .1 .0)) in
+    let more = c .before .before .before .before .before .before .before .before .before .before .before .before .before .before .before .before .before .before .before .before .before .before .before .before .before .if1 .left in
+    let l = c .before .before .before .before .before .before .before .before .before .before .before .before .before .before .before .before .before .before .before .before .before .before .loop in
+    let var = of-values.var move kind choosing view more in
+    let found = c .before .before .before .before .before .before .before .before .before .before .before .before .before .before .before .before .before .before .before .before .before .next-value .ensures (var .0) (var .1) (of-values.atom-read move kind choosing view more) in
+    let told = c .before .before .before .before .before .before .before .before .before .before .before .before .before .before .before .before .before .before .before .next .given .1 in
+    let next = of-values.value-next move kind choosing view more found told in
     let trying = l .inv .3 sc d s′ ms a xs vs move kind same isOwn choosing view more in
     let passed = of-values.trying-next move kind choosing view more trying _ (next .atom) (next .names) (next .isNext) in
-    let grown = c .before .before .before .before .before .before .before .before .before .before .before .before .before .with-names .ensures in
-    let longer = of-values.choosing-more move kind choosing view more trying _ (next .atom) (next .names) (next .isNext) (rw (c .before .before .before .before .before .before .before .before .before .before .before .before .before .before .before .before .copied .ensures) at (c .before .before .before .before .before .before .before .before .before .before .before .before .before .before .before .put .ensures)) (grown .0) (grown .1) (c .before .before .before .before .before .before .before .with-value .ensures vs (choosing .are)) in
+    let grown = c .before .before .before .before .before .before .before .before .before .before .before .before .with-names .ensures in
+    let longer = of-values.choosing-more move kind choosing view more trying _ (next .atom) (next .names) (next .isNext) (rw (c .before .before .before .before .before .before .before .before .before .before .before .before .before .before .before .before .before .copied .ensures) at (c .before .before .before .before .before .before .before .before .before .before .before .before .before .before .before .before .put .ensures)) (rw (c .before .before .before .before .before .before .before .before .before .before .before .before .before .before .before .copied2 .ensures) at (grown .0)) (grown .1) (c .before .before .before .before .before .before .before .with-value .ensures vs (choosing .are)) in
     let finds = c .before .before .before .before .before .before .walk-values .ensures sc d s′ ms a _ _ move same isOwn longer in
     rw (c .later .ensures) (rw (← l .inv .0) (passed-broken sc (s .args .left) _ _ _ _ passed finds (c .before .before .found .given .1)))
 
 walk-values-add-count : (t : ℕ) → walk-values-lts.Need-add-count (walk-values-env t) (walk-values-at t) walk-values.Post walk-values-Inv-loop walk-values-μ-loop
 walk-values-add-count t c =
-    let s = c .before .before .before .before .before .before .before .before .before .before .before .before .before .before .before .before .before .before .before .before .before .before .before .before .before .before .before .before .before .before .before .before in
+    let s = c .before .before .before .before .before .before .before .before .before .before .before .before .before .before .before .before .before .before .before .before .before .before .before .before .before .before .before .before .before .before .before .before .before in
     let m = s .pre .1 .0 in
     let move = m .move in
     let choosing = m .choosing in
     let kind = s .pre .1 .1 .1 .1 .1 .1 in
-    let view = rw (m .isOwn) at (c .before .before .before .before .before .before .before .before .before .before .before .before .before .before .before .before .before .before .before .before .before .before .before .before .next-unset .ensures (s .args .e .row) (s .pre .1 .1 .0)) in
+    let view = rw (m .isOwn) at (c .before .before .before .before .before .before .before .before .before .before .before .before .before .before .before .before .before .before .before .before .before .before .before .before .before .next-unset .ensures (s .args .e .row) (s .pre .1 .1 .0)) in
+    let more = c .before .before .before .before .before .before .before .before .before .before .before .before .before .before .before .before .before .before .before .before .before .before .before .before .if1 .left in
+    let l = c .before .before .before .before .before .before .before .before .before .before .before .before .before .before .before .before .before .before .before .before .before .loop in
+    let var = of-values.var move kind choosing view more in
+    let found = c .before .before .before .before .before .before .before .before .before .before .before .before .before .before .before .before .before .before .before .before .next-value .ensures (var .0) (var .1) (of-values.atom-read move kind choosing view more) in
+    let told = c .before .before .before .before .before .before .before .before .before .before .before .before .before .before .before .before .before .before .next .given .1 in
+    let next = of-values.value-next move kind choosing view more found told in
+    let trying = l .inv .3 (m .sc) (m .d) (m .s) (m .ms) (m .a) (m .xs) (m .vs) move kind (m .isDone) (m .isOwn) choosing view more in
+    let passed = of-values.trying-next move kind choosing view more trying _ (next .atom) (next .names) (next .isNext) in
+    let grown = c .before .before .before .before .before .before .before .before .before .before .before .with-names .ensures in
+    let longer = of-values.choosing-more move kind choosing view more trying _ (next .atom) (next .names) (next .isNext) (rw (c .before .before .before .before .before .before .before .before .before .before .before .before .before .before .before .before .copied .ensures) at (c .before .before .before .before .before .before .before .before .before .before .before .before .before .before .before .put .ensures)) (rw (c .before .before .before .before .before .before .before .before .before .before .before .before .before .before .copied2 .ensures) at (grown .0)) (grown .1) (c .before .before .before .before .before .before .with-value .ensures (m .vs) (choosing .are)) in
+    let finds = c .before .before .before .before .before .walk-values .ensures (m .sc) (m .d) (m .s) (m .ms) (m .a) _ _ move (m .isDone) (m .isOwn) longer in
+    record { fits = omega (arith, passed-more (m .sc) (s .args .left) _ _ _ _ passed finds (c .before .found2 .given .1) .2, s .pre .1 .1 .1 .1 .0) }
+
+walk-values-same-length-4 : (t : ℕ) → walk-values-lts.Need-same-length-4 (walk-values-env t) (walk-values-at t) walk-values.Post walk-values-Inv-loop walk-values-μ-loop
+walk-values-same-length-4 t c = omega (arith, c .before .before .before .trace2 .given, ap length (c .before .before .before .before .before .before .before .before .before .before .before .before .before .before .before .before .before .before .before .before .loop .inv .0))
+
+walk-values-returns-5 : (t : ℕ) → walk-values-lts.Need-returns-5 (walk-values-env t) (walk-values-at t) walk-values.Post walk-values-Inv-loop walk-values-μ-loop
+walk-values-returns-5 t c sc d s′ ms a xs vs move same isOwn choosing =
+    let s = c .before .before .before .before .before .before .before .before .before .before .before .before .before .before .before .before .before .before .before .before .before .before .before .before .before .before .before .before .before .before .before .before in
+    let kind = s .pre .1 .1 .1 .1 .1 .1 in
+    let view = rw isOwn at (c .before .before .before .before .before .before .before .before .before .before .before .before .before .before .before .before .before .before .before .before .before .before .before .before .next-unset .ensures (s .args .e .row) (s .pre .1 .1 .0)) in
     let more = c .before .before .before .before .before .before .before .before .before .before .before .before .before .before .before .before .before .before .before .before .before .before .before .if1 .left in
     let l = c .before .before .before .before .before .before .before .before .before .before .before .before .before .before .before .before .before .before .before .before .loop in
     let var = of-values.var move kind choosing view more in
     let found = c .before .before .before .before .before .before .before .before .before .before .before .before .before .before .before .before .before .before .before .next-value .ensures (var .0) (var .1) (of-values.atom-read move kind choosing view more) in
     let told = c .before .before .before .before .before .before .before .before .before .before .before .before .before .before .before .before .before .next .given .1 in
     let next = of-values.value-next move kind choosing view more found told in
-    let trying = l .inv .3 (m .sc) (m .d) (m .s) (m .ms) (m .a) (m .xs) (m .vs) move kind (m .isDone) (m .isOwn) choosing view more in
-    let passed = of-values.trying-next move kind choosing view more trying _ (next .atom) (next .names) (next .isNext) in
-    let grown = c .before .before .before .before .before .before .before .before .before .before .before .before .with-names .ensures in
-    let longer = of-values.choosing-more move kind choosing view more trying _ (next .atom) (next .names) (next .isNext) (rw (c .before .before .before .before .before .before .before .before .before .before .before .before .before .before .before .copied .ensures) at (c .before .before .before .before .before .before .before .before .before .before .before .before .before .before .put .ensures)) (grown .0) (grown .1) (c .before .before .before .before .before .before .with-value .ensures (m .vs) (choosing .are)) in
-    let finds = c .before .before .before .before .before .walk-values .ensures (m .sc) (m .d) (m .s) (m .ms) (m .a) _ _ move (m .isDone) (m .isOwn) longer in
-    record { fits = omega (arith, passed-more (m .sc) (s .args .left) _ _ _ _ passed finds (c .before .found2 .given .1) .2, s .pre .1 .1 .1 .1 .0) }
-
-walk-values-same-length-4 : (t : ℕ) → walk-values-lts.Need-same-length-4 (walk-values-env t) (walk-values-at t) walk-values.Post walk-values-Inv-loop walk-values-μ-loop
-walk-values-same-length-4 t c = omega (arith, c .before .before .before .trace2 .given, ap length (c .before .before .before .before .before .before .before .before .before .before .before .before .before .before .before .before .before .before .before .loop .inv .0))
-
-walk-values-returns-5 : (t : ℕ) → walk-values-lts.Need-returns-5 (walk-values-env t) (walk-values-at t) walk-values.Post walk-values-Inv-loop walk-values-μ-loop
-walk-values-returns-5 t c sc d s′ ms a xs vs move same isOwn choosing =
-    let s = c .before .before .before .before .before .before .before .before .before .before .before .before .before .before .before .before .before .before .before .before .before .before .before .before .before .before .before .before .before .before .before in
-    let kind = s .pre .1 .1 .1 .1 .1 .1 in
-    let view = rw isOwn at (c .before .before .before .before .before .before .before .before .before .before .before .before .before .before .before .before .before .before .before .before .before .before .before .next-unset .ensures (s .args .e .row) (s .pre .1 .1 .0)) in
-    let more = c .before .before .before .before .before .before .before .before .before .before .before .before .before .before .before .before .before .before .before .before .before .before .if1 .left in
-    let l = c .before .before .before .before .before .before .before .before .before .before .before .before .before .before .before .before .before .before .before .loop in
-    let var = of-values.var move kind choosing view more in
-    let found = c .before .before .before .before .before .before .before .before .before .before .before .before .before .before .before .before .before .before .next-value .ensures (var .0) (var .1) (of-values.atom-read move kind choosing view more) in
-    let told = c .before .before .before .before .before .before .before .before .before .before .before .before .before .before .before .before .next .given .1 in
-    let next = of-values.value-next move kind choosing view more found told in
     let trying = l .inv .3 sc d s′ ms a xs vs move kind same isOwn choosing view more in
     let passed = of-values.trying-next move kind choosing view more trying _ (next .atom) (next .names) (next .isNext) in
-    let grown = c .before .before .before .before .before .before .before .before .before .before .before .with-names .ensures in
-    let longer = of-values.choosing-more move kind choosing view more trying _ (next .atom) (next .names) (next .isNext) (rw (c .before .before .before .before .before .before .before .before .before .before .before .before .before .before .copied .ensures) at (c .before .before .before .before .before .before .before .before .before .before .before .before .before .put .ensures)) (grown .0) (grown .1) (c .before .before .before .before .before .with-value .ensures vs (choosing .are)) in
+    let grown = c .before .before .before .before .before .before .before .before .before .before .with-names .ensures in
+    let longer = of-values.choosing-more move kind choosing view more trying _ (next .atom) (next .names) (next .isNext) (rw (c .before .before .before .before .before .before .before .before .before .before .before .before .before .before .before .copied .ensures) at (c .before .before .before .before .before .before .before .before .before .before .before .before .before .before .put .ensures)) (rw (c .before .before .before .before .before .before .before .before .before .before .before .before .before .copied2 .ensures) at (grown .0)) (grown .1) (c .before .before .before .before .before .with-value .ensures vs (choosing .are)) in
     let finds = c .before .before .before .before .walk-values .ensures sc d s′ ms a _ _ move same isOwn longer in
     rw (← l .inv .0) (passed-cut sc (s .args .left) _ _ _ _ passed finds (c .enum-told2 .given .1))
 
 walk-values-add-run : (t : ℕ) → walk-values-lts.Need-add-run (walk-values-env t) (walk-values-at t) walk-values.Post walk-values-Inv-loop walk-values-μ-loop
 walk-values-add-run t c =
-    let s = c .before .before .before .before .before .before .before .before .before .before .before .before .before .before .before .before .before .before .before .before .before .before .before .before .before .before .before .before .before .before .before .before in
+    let s = c .before .before .before .before .before .before .before .before .before .before .before .before .before .before .before .before .before .before .before .before .before .before .before .before .before .before .before .before .before .before .before .before .before in
     let m = s .pre .1 .0 in
     let move = m .move in
     let choosing = m .choosing in
     let kind = s .pre .1 .1 .1 .1 .1 .1 in
-    let view = rw (m .isOwn) at (c .before .before .before .before .before .before .before .before .before .before .before .before .before .before .before .before .before .before .before .before .before .before .before .before .next-unset .ensures (s .args .e .row) (s .pre .1 .1 .0)) in
-    let more = c .before .before .before .before .before .before .before .before .before .before .before .before .before .before .before .before .before .before .before .before .before .before .before .if1 .left in
-    let l = c .before .before .before .before .before .before .before .before .before .before .before .before .before .before .before .before .before .before .before .before .loop in
+    let view = rw (m .isOwn) at (c .before .before .before .before .before .before .before .before .before .before .before .before .before .before .before .before .before .before .before .before .before .before .before .before .before .next-unset .ensures (s .args .e .row) (s .pre .1 .1 .0)) in
+    let more = c .before .before .before .before .before .before .before .before .before .before .before .before .before .before .before .before .before .before .before .before .before .before .before .before .if1 .left in
+    let l = c .before .before .before .before .before .before .before .before .before .before .before .before .before .before .before .before .before .before .before .before .before .loop in
     let var = of-values.var move kind choosing view more in
-    let found = c .before .before .before .before .before .before .before .before .before .before .before .before .before .before .before .before .before .before .before .next-value .ensures (var .0) (var .1) (of-values.atom-read move kind choosing view more) in
-    let told = c .before .before .before .before .before .before .before .before .before .before .before .before .before .before .before .before .before .next .given .1 in
+    let found = c .before .before .before .before .before .before .before .before .before .before .before .before .before .before .before .before .before .before .before .before .next-value .ensures (var .0) (var .1) (of-values.atom-read move kind choosing view more) in
+    let told = c .before .before .before .before .before .before .before .before .before .before .before .before .before .before .before .before .before .before .next .given .1 in
     record { fits = omega (arith, of-values.value-low move kind choosing view more found told .1) }
 
 walk-values-loop-less : (t : ℕ) → walk-values-lts.Need-loop-less (walk-values-env t) (walk-values-at t) walk-values.Post walk-values-Inv-loop walk-values-μ-loop
 walk-values-loop-less t c =
-    let s = c .before .before .before .before .before .before .before .before .before .before .before .before .before .before .before .before .before .before .before .before .before .before .before .before .before .before .before .before .before .before .before .before in
+    let s = c .before .before .before .before .before .before .before .before .before .before .before .before .before .before .before .before .before .before .before .before .before .before .before .before .before .before .before .before .before .before .before .before .before in
     let m = s .pre .1 .0 in
     let move = m .move in
     let choosing = m .choosing in
     let kind = s .pre .1 .1 .1 .1 .1 .1 in
-    let view = rw (m .isOwn) at (c .before .before .before .before .before .before .before .before .before .before .before .before .before .before .before .before .before .before .before .before .before .before .before .before .next-unset .ensures (s .args .e .row) (s .pre .1 .1 .0)) in
-    let more = c .before .before .before .before .before .before .before .before .before .before .before .before .before .before .before .before .before .before .before .before .before .before .before .if1 .left in
-    let l = c .before .before .before .before .before .before .before .before .before .before .before .before .before .before .before .before .before .before .before .before .loop in
+    let view = rw (m .isOwn) at (c .before .before .before .before .before .before .before .before .before .before .before .before .before .before .before .before .before .before .before .before .before .before .before .before .before .next-unset .ensures (s .args .e .row) (s .pre .1 .1 .0)) in
+    let more = c .before .before .before .before .before .before .before .before .before .before .before .before .before .before .before .before .before .before .before .before .before .before .before .before .if1 .left in
+    let l = c .before .before .before .before .before .before .before .before .before .before .before .before .before .before .before .before .before .before .before .before .before .loop in
     let var = of-values.var move kind choosing view more in
-    let found = c .before .before .before .before .before .before .before .before .before .before .before .before .before .before .before .before .before .before .before .next-value .ensures (var .0) (var .1) (of-values.atom-read move kind choosing view more) in
-    let told = c .before .before .before .before .before .before .before .before .before .before .before .before .before .before .before .before .before .next .given .1 in
+    let found = c .before .before .before .before .before .before .before .before .before .before .before .before .before .before .before .before .before .before .before .before .next-value .ensures (var .0) (var .1) (of-values.atom-read move kind choosing view more) in
+    let told = c .before .before .before .before .before .before .before .before .before .before .before .before .before .before .before .before .before .before .next .given .1 in
     let low = of-values.value-low move kind choosing view more found told in
     value-falls (s .args .n) _ _ _ _ (of-values.value-next move kind choosing view more found told .notBefore) (low .0) (low .1)
 
 walk-values-loop-again : (t : ℕ) → walk-values-lts.Need-loop-again (walk-values-env t) (walk-values-at t) walk-values.Post walk-values-Inv-loop walk-values-μ-loop
 walk-values-loop-again t c =
-    let s = c .before .before .before .before .before .before .before .before .before .before .before .before .before .before .before .before .before .before .before .before .before .before .before .before .before .before .before .before .before .before .before .before in
+    let s = c .before .before .before .before .before .before .before .before .before .before .before .before .before .before .before .before .before .before .before .before .before .before .before .before .before .before .before .before .before .before .before .before .before in
     let m = s .pre .1 .0 in
     let move = m .move in
     let choosing = m .choosing in
     let kind = s .pre .1 .1 .1 .1 .1 .1 in
-    let view = rw (m .isOwn) at (c .before .before .before .before .before .before .before .before .before .before .before .before .before .before .before .before .before .before .before .before .before .before .before .before .next-unset .ensures (s .args .e .row) (s .pre .1 .1 .0)) in
-    let more = c .before .before .before .before .before .before .before .before .before .before .before .before .before .before .before .before .before .before .before .before .before .before .before .if1 .left in
-    let l = c .before .before .before .before .before .before .before .before .before .before .before .before .before .before .before .before .before .before .before .before .loop in
+    let view = rw (m .isOwn) at (c .before .before .before .before .before .before .before .before .before .before .before .before .before .before .before .before .before .before .before .before .before .before .before .before .before .next-unset .ensures (s .args .e .row) (s .pre .1 .1 .0)) in
+    let more = c .before .before .before .before .before .before .before .before .before .before .before .before .before .before .before .before .before .before .before .before .before .before .before .before .if1 .left in
+    let l = c .before .before .before .before .before .before .before .before .before .before .before .before .before .before .before .before .before .before .before .before .before .loop in
     let var = of-values.var move kind choosing view more in
-    let found = c .before .before .before .before .before .before .before .before .before .before .before .before .before .before .before .before .before .before .before .next-value .ensures (var .0) (var .1) (of-values.atom-read move kind choosing view more) in
-    let told = c .before .before .before .before .before .before .before .before .before .before .before .before .before .before .before .before .before .next .given .1 in
+    let found = c .before .before .before .before .before .before .before .before .before .before .before .before .before .before .before .before .before .before .before .before .next-value .ensures (var .0) (var .1) (of-values.atom-read move kind choosing view more) in
+    let told = c .before .before .before .before .before .before .before .before .before .before .before .before .before .before .before .before .before .before .next .given .1 in
     let next = of-values.value-next move kind choosing view more found told in
     let trying = l .inv .3 (m .sc) (m .d) (m .s) (m .ms) (m .a) (m .xs) (m .vs) move kind (m .isDone) (m .isOwn) choosing view more in
     let passed = of-values.trying-next move kind choosing view more trying _ (next .atom) (next .names) (next .isNext) in
-    let grown = c .before .before .before .before .before .before .before .before .before .before .before .before .with-names .ensures in
-    let longer = of-values.choosing-more move kind choosing view more trying _ (next .atom) (next .names) (next .isNext) (rw (c .before .before .before .before .before .before .before .before .before .before .before .before .before .before .before .copied .ensures) at (c .before .before .before .before .before .before .before .before .before .before .before .before .before .before .put .ensures)) (grown .0) (grown .1) (c .before .before .before .before .before .before .with-value .ensures (m .vs) (choosing .are)) in
+    let grown = c .before .before .before .before .before .before .before .before .before .before .before .with-names .ensures in
+    let longer = of-values.choosing-more move kind choosing view more trying _ (next .atom) (next .names) (next .isNext) (rw (c .before .before .before .before .before .before .before .before .before .before .before .before .before .before .before .before .copied .ensures) at (c .before .before .before .before .before .before .before .before .before .before .before .before .before .before .before .put .ensures)) (rw (c .before .before .before .before .before .before .before .before .before .before .before .before .before .before .copied2 .ensures) at (grown .0)) (grown .1) (c .before .before .before .before .before .before .with-value .ensures (m .vs) (choosing .are)) in
     let finds = c .before .before .before .before .before .walk-values .ensures (m .sc) (m .d) (m .s) (m .ms) (m .a) _ _ move (m .isDone) (m .isOwn) longer in
     let own = passed-more (m .sc) (s .args .left) _ _ _ _ passed finds (c .before .found2 .given .1) in (
       own .1 ∙ l .inv .0,
@@ -709,12 +712,12 @@ walk-values-loop-again t c =
       omega (arith, of-values.value-low move kind choosing view more found told .0),
       λ sc d s′ ms a xs vs move kind same isOwn choosing view more.
           let var = of-values.var move kind choosing view more in
-          let found = c .before .before .before .before .before .before .before .before .before .before .before .before .before .before .before .before .before .before .before .next-value .ensures (var .0) (var .1) (of-values.atom-read move kind choosing view more) in
+          let found = c .before .before .before .before .before .before .before .before .before .before .before .before .before .before .before .before .before .before .before .before .next-value .ensures (var .0) (var .1) (of-values.atom-read move kind choosing view more) in
           let next = of-values.value-next move kind choosing view more found told in
           let trying = l .inv .3 sc d s′ ms a xs vs move kind same isOwn choosing view more in
           let passed = of-values.trying-next move kind choosing view more trying _ (next .atom) (next .names) (next .isNext) in
-          let grown = c .before .before .before .before .before .before .before .before .before .before .before .before .with-names .ensures in
-          let longer = of-values.choosing-more move kind choosing view more trying _ (next .atom) (next .names) (next .isNext) (rw (c .before .before .before .before .before .before .before .before .before .before .before .before .before .before .before .copied .ensures) at (c .before .before .before .before .before .before .before .before .before .before .before .before .before .before .put .ensures)) (grown .0) (grown .1) (c .before .before .before .before .before .before .with-value .ensures vs (choosing .are)) in
+          let grown = c .before .before .before .before .before .before .before .before .before .before .before .with-names .ensures in
+          let longer = of-values.choosing-more move kind choosing view more trying _ (next .atom) (next .names) (next .isNext) (rw (c .before .before .before .before .before .before .before .before .before .before .before .before .before .before .before .before .copied .ensures) at (c .before .before .before .before .before .before .before .before .before .before .before .before .before .before .before .put .ensures)) (rw (c .before .before .before .before .before .before .before .before .before .before .before .before .before .before .copied2 .ensures) at (grown .0)) (grown .1) (c .before .before .before .before .before .before .with-value .ensures vs (choosing .are)) in
           of-values.trying-more move kind choosing view more trying _ (next .atom) (next .names) (next .isNext) (passed-more sc (s .args .left) _ _ _ _ passed (c .before .before .before .before .before .walk-values .ensures sc d s′ ms a _ _ move same isOwn longer) (c .before .found2 .given .1) .0),
     )
 
@@ -813,6 +816,8 @@ pub +walk+walk-move+walk-run+walk-values-spec : {M : Type 1} → statement M
     (walk-values-copied-requires t)
     (walk-values-add-put t)
     (walk-values-put-requires t)
+    (walk-values-copied-requires-2 t)
+    (λ c. search needs)
     (λ c. search needs)
     (walk-values-add-with-names t)
     (walk-values-with-names-requires t)
