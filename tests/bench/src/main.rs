@@ -6,6 +6,9 @@ mod replay;
 mod search;
 
 fn main() {
+    if std::env::args().any(|a| a == "search") {
+        return search::run();
+    }
     derive::run();
     open::run();
     replay::run();
