@@ -86,12 +86,17 @@ fn broken_in_run(
 }
 
 // The first claim that a state breaks: of the lowest run, and there the first of its events.
-pub fn broken(file: &[u8], t: &[u8], n: usize, r: Runs, s: State) -> Claimed
-    requires { ⌜ ((sc : Scenario) × (d : definitions.State) × Given (now file) (now t) n r sc × IsState sc d s) ⌝ }
-    ensures { λ c. ⌜ ((sc : Scenario) (d : definitions.State) → Given (now (file .entry)) (now (t .entry)) n r sc → IsState sc d s → c ≡ claimedAs (broken sc d)) ⌝ }
+pub fn broken(
+    file: &[u8],
+    t: &[u8],
+    n: usize,
+    r: Runs,
+    done: [usize; 4],
+    marks: [bool; 480],
+) -> Claimed
+    requires { ⌜ ((sc : Scenario) × (d : definitions.State) × (s : State) × Given (now file) (now t) n r sc × IsState sc d s × (done ≡ s .done) × (marks ≡ s .marks)) ⌝ }
+    ensures { λ c. ⌜ ((sc : Scenario) (d : definitions.State) (s : State) → Given (now (file .entry)) (now (t .entry)) n r sc → IsState sc d s → done ≡ s .done → marks ≡ s .marks → c ≡ claimedAs (broken sc d)) ⌝ }
 {
-    let marks = s.marks;
-    let done = s.done;
     let runs = r.count;
     let mut k = 0;
     while k < runs {

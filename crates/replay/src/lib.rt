@@ -40,7 +40,9 @@ fn followed(file: &[u8], l: Layout, trace: &[u8]) -> Replayed
         s = after;
         at += stepped.length;
     }
-    let claimed = claims::broken(file, t, n, r, s);
+    let done = s.done;
+    let marks = s.marks;
+    let claimed = claims::broken(file, t, n, r, done, marks);
     match claimed {
         Claimed::Broken(claim) => Replayed::Broken(claim),
         Claimed::Nothing => Replayed::NoClaim,

@@ -54,7 +54,24 @@ fn judged(file: &[u8], l: Layout, trace: &mut [u8]) -> Searched
     let t = frame::block_of(file, 0);
     let s = State::initial(file, t, n, r, frame::block_of(file, 3));
     let budget = frame::budget(file);
-    let walked = walk::walk(trace, file, t, n, r, s, budget, 0, event_count(r));
+    let done = s.done;
+    let names = s.names;
+    let classes = s.classes;
+    let marks = s.marks;
+    let walked = walk::walk(
+        trace,
+        file,
+        t,
+        n,
+        r,
+        done,
+        &names,
+        &classes,
+        marks,
+        budget,
+        0,
+        event_count(r),
+    );
     match walked {
         Walked::Broken(b) => Searched::Broken(b),
         Walked::Clean(m) => Searched::Held(m),

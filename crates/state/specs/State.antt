@@ -81,11 +81,8 @@ pub record Ready (sc : Scenario) (d : definitions.State) (a : Active) (vs : List
   pub arrays : Arrays (sc .rows) (length (sc .runs)) (readings sc (withSets (a .index) (setAfter sc a vs) (setsOf (d .progress)))) (d .known) names classes marks
   pub valued : Standing (sc .rows) (setAfter sc a vs)
 
--- the answer of an allowed move: one more event of a run, counted from 0, is done
-abbrev pub movedTo : List ℕ → List ℕ → List ℕ → List Bool → ℕ → Moved
-movedTo done names classes marks k = record { allowed = true; state = record { done = set done k (getD done k 0 + 1); names = names; classes = classes; marks = marks } }
-
--- what a move answers: whether it is allowed, and the state after it
-pub data Performed (sc : Scenario) (d : definitions.State) (a : Active) (vs : List Value) (moved : Moved) : Type 0 where
-  isAllowed : {d′ : definitions.State} → moved .allowed ≡ true → performed sc d a vs ≡ some d′ → IsState sc d′ (moved .state) → Performed sc d a vs moved
-  notAllowed : moved .allowed ≡ false → performed sc d a vs ≡ none → Performed sc d a vs moved
+-- what a move answers: whether it is allowed, and the marks of the state after it, in which a run, counted from 0, has made one more event
+pub data Performed (sc : Scenario) (d : definitions.State) (a : Active) (vs : List Value) (done : List ℕ) (k : ℕ) (names classes : List ℕ) (moved : Moved) : Type 0 where
+  isAllowed : {d′ : definitions.State} → moved .allowed ≡ true → performed sc d a vs ≡ some d′
+      → IsState sc d′ (record { done = set done k (getD done k 0 + 1); names = names; classes = classes; marks = moved .marks }) → Performed sc d a vs done k names classes moved
+  notAllowed : moved .allowed ≡ false → performed sc d a vs ≡ none → Performed sc d a vs done k names classes moved

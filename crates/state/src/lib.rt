@@ -1,6 +1,5 @@
 // The state of a scenario by value, and its moves: how far each run has come, the names that its atoms have, and marks that are exact.
 ghost use mathlib.Core.Path.{_≡_};
-ghost use mathlib.Core.Bool.{false};
 ghost use mathlib.Core.List.{List, []};
 ghost use Prim.Native.Nat.{ℕ, suc, _+_, _<_, _≤_};
 ghost use lib.ListN.{length, getD, set};
@@ -14,7 +13,7 @@ ghost use Rattle.classes.specs.Classes.{Refilled};
 ghost use Rattle.knowledge.specs.Marks.{Settled};
 ghost use Rattle.runs.specs.Runs.{RunsAt};
 ghost use Rattle.state.specs.Start.{Agents};
-ghost use Rattle.state.specs.State.{Given, IsState, LearnsCell, Due, NextMove, Ready, movedTo, Performed};
+ghost use Rattle.state.specs.State.{Given, IsState, LearnsCell, Due, NextMove, Ready, Performed};
 use cells::Cells;
 use cells::cell;
 use runs::RunEvent;
@@ -28,10 +27,10 @@ pub struct State {
     pub marks: [bool; 480],
 }
 
-// What a move answers: whether it is allowed, and the state after it.
+// What a move answers: whether it is allowed, and the marks after it. Names and classes stay as they are given.
 pub struct Moved {
     pub allowed: bool,
-    pub state: State,
+    pub marks: [bool; 480],
 }
 
 // The marks when the value of row r in run u is known too.
@@ -57,7 +56,7 @@ fn learn(
 }
 
 // How far each run has come once run k, from 0, has made one more event.
-fn advance(done: [usize; 4], k: usize) -> [usize; 4]
+pub fn advance(done: [usize; 4], k: usize) -> [usize; 4]
     requires { ⌜ (k < 4) × (getD done k 0 ≤ 8) ⌝ }
     ensures { λ r. ⌜ r ≡ set done k (getD done k 0 + 1) ⌝ }
 {
@@ -97,43 +96,8 @@ pub fn with_names(
     knowledge::settle(marks, t, n, runs, &classes[..])
 }
 
-// The answer of a move that is not allowed; the state in it is none.
-fn refused() -> Moved
-    ensures { λ moved. ⌜ moved .allowed ≡ false ⌝ }
-{
-    Moved {
-        allowed: false,
-        state: State {
-            done: [0; 4],
-            names: [0; 480],
-            classes: [0; 480],
-            marks: [false; 480],
-        },
-    }
-}
-
-// The answer of a move that is allowed: run k has made one more event.
-fn moved_on(done: [usize; 4], names: &[u16], classes: &[u16], marks: [bool; 480], k: usize) -> Moved
-    requires { ⌜ (length (now names) ≡ cellCount) × ((length (now classes) ≡ cellCount) × ((k < 4) × (getD done k 0 ≤ 8))) ⌝ }
-    ensures { λ moved. ⌜ moved ≡ movedTo done (now (names .entry)) (now (classes .entry)) marks k ⌝ }
-{
-    let own_names = copied(names);
-    let own_classes = copied(classes);
-    Moved {
-        allowed: true,
-        state: State {
-            done: advance(done, k),
-            names: own_names,
-            classes: own_classes,
-            marks,
-        },
-    }
-}
-
-// The state after a send of run k: sender, receiver and term are known. A term without a value is not sent.
+// The marks after a send of run k: sender, receiver and term are known. A term without a value is not sent.
 fn sent(
-    done: [usize; 4],
-    names: &[u16],
     classes: &[u16],
     marks: [bool; 480],
     t: &[u8],
@@ -142,50 +106,53 @@ fn sent(
     k: usize,
     e: RunEvent,
 ) -> Moved
-    requires { ⌜ Shape (now t) n runs × (Due n runs k (e .own) (e .peer) (e .row) × ((getD done k 0 ≤ 8) × ((length (now names) ≡ cellCount) × (length (now classes) ≡ cellCount)))) ⌝ }
-    ensures { λ moved. ⌜ ((sc : Scenario) (d : definitions.State) (s : State) (a : Active) → NextMove (now (t .entry)) runs k e sc d s a → done ≡ s .done → Ready sc d a [] (now (names .entry)) (now (classes .entry)) marks → e .kind ≡ 0 → Performed sc d a [] moved) ⌝ }
+    requires { ⌜ Shape (now t) n runs × (Due n runs k (e .own) (e .peer) (e .row) × (length (now classes) ≡ cellCount)) ⌝ }
+    ensures { λ moved. ⌜ ((sc : Scenario) (d : definitions.State) (s : State) (a : Active) (names : List ℕ) → NextMove (now (t .entry)) runs k e sc d s a → length (s .done) ≡ 4 → Ready sc d a [] names (now (classes .entry)) marks → e .kind ≡ 0 → Performed sc d a [] (s .done) k names (now (classes .entry)) moved) ⌝ }
 {
     let c = cell(e.row, k + 1);
     if classes[c] == Cells::ABSENT {
-        return refused();
+        return Moved {
+            allowed: false,
+            marks,
+        };
     }
     let term = learn(marks, t, n, runs, classes, e.row, k + 1);
     let receiver = learn(term, t, n, runs, classes, e.peer, 0);
     let sender = learn(receiver, t, n, runs, classes, e.own, 0);
-    moved_on(done, names, classes, sender, k)
+    Moved {
+        allowed: true,
+        marks: sender,
+    }
 }
 
-// The state after a read of run k, if sender, receiver and pattern are derivable with the new values.
-fn was_read(
-    done: [usize; 4],
-    names: &[u16],
-    classes: &[u16],
-    marks: [bool; 480],
-    k: usize,
-    e: RunEvent,
-) -> Moved
-    requires { ⌜ (k < 4) × ((getD done k 0 ≤ 8) × ((length (now names) ≡ cellCount) × ((length (now classes) ≡ cellCount) × ((e .own < 96) × ((e .peer < 96) × (e .row < 96)))))) ⌝ }
-    ensures { λ moved. ⌜ ((t : List ℕ) (n runs : ℕ) (sc : Scenario) (d : definitions.State) (s : State) (a : Active) (vs : List Value) → Shape t n runs → Due n runs k (e .own) (e .peer) (e .row) → NextMove t runs k e sc d s a → done ≡ s .done → Ready sc d a vs (now (names .entry)) (now (classes .entry)) marks → e .kind ≡ 1 → Performed sc d a vs moved) ⌝ }
+// A read of run k is allowed if sender, receiver and pattern are derivable with the new values.
+fn was_read(marks: [bool; 480], k: usize, e: RunEvent) -> Moved
+    requires { ⌜ (k < 4) × ((e .own < 96) × ((e .peer < 96) × (e .row < 96))) ⌝ }
+    ensures { λ moved. ⌜ ((t : List ℕ) (n runs : ℕ) (sc : Scenario) (d : definitions.State) (s : State) (a : Active) (vs : List Value) (names classes : List ℕ) → Shape t n runs → Due n runs k (e .own) (e .peer) (e .row) → NextMove t runs k e sc d s a → length (s .done) ≡ 4 → Ready sc d a vs names classes marks → e .kind ≡ 1 → Performed sc d a vs (s .done) k names classes moved) ⌝ }
 {
     let own = e.own;
     let peer = e.peer;
     let c = cell(e.row, k + 1);
     if marks[own] {
         if marks[peer] {
-            if marks[c] {
-                return moved_on(done, names, classes, marks, k);
-            }
-            return refused();
+            return Moved {
+                allowed: marks[c],
+                marks,
+            };
         }
-        return refused();
+        return Moved {
+            allowed: false,
+            marks,
+        };
     }
-    refused()
+    Moved {
+        allowed: false,
+        marks,
+    }
 }
 
-// The state after the next event of run k, if it is allowed. Names, classes and marks are those with the new values of a read.
+// Whether the next event of run k is allowed, and the marks after it. Classes and marks are those with the new values of a read.
 pub fn perform(
-    done: [usize; 4],
-    names: &[u16],
     classes: &[u16],
     marks: [bool; 480],
     t: &[u8],
@@ -194,16 +161,19 @@ pub fn perform(
     k: usize,
     e: RunEvent,
 ) -> Moved
-    requires { ⌜ Shape (now t) n runs × (Due n runs k (e .own) (e .peer) (e .row) × ((getD done k 0 ≤ 8) × ((length (now names) ≡ cellCount) × (length (now classes) ≡ cellCount)))) ⌝ }
-    ensures { λ moved. ⌜ ((sc : Scenario) (d : definitions.State) (s : State) (a : Active) (vs : List Value) → NextMove (now (t .entry)) runs k e sc d s a → done ≡ s .done → Ready sc d a vs (now (names .entry)) (now (classes .entry)) marks → ((e .kind ≡ 1 → ⊥) → vs ≡ []) → Performed sc d a vs moved) ⌝ }
+    requires { ⌜ Shape (now t) n runs × (Due n runs k (e .own) (e .peer) (e .row) × (length (now classes) ≡ cellCount)) ⌝ }
+    ensures { λ moved. ⌜ ((sc : Scenario) (d : definitions.State) (s : State) (a : Active) (vs : List Value) (names : List ℕ) → NextMove (now (t .entry)) runs k e sc d s a → length (s .done) ≡ 4 → Ready sc d a vs names (now (classes .entry)) marks → ((e .kind ≡ 1 → ⊥) → vs ≡ []) → Performed sc d a vs (s .done) k names (now (classes .entry)) moved) ⌝ }
 {
     if e.kind == 1 {
-        return was_read(done, names, classes, marks, k, e);
+        return was_read(marks, k, e);
     }
     if e.kind == 0 {
-        return sent(done, names, classes, marks, t, n, runs, k, e);
+        return sent(classes, marks, t, n, runs, k, e);
     }
-    moved_on(done, names, classes, marks, k)
+    Moved {
+        allowed: true,
+        marks,
+    }
 }
 
 // The agents of run u as the file has them, and none for run 0.

@@ -61,16 +61,22 @@ pub fn step(file: &[u8], t: &[u8], n: usize, r: Runs, s: State, trace: &[u8]) ->
     let choice = choices::valued(s, t, n, r.count, k, e, &trace[2..end]);
     if choice.suits {
         let names = choice.names;
+        let before = s.done;
         let marks = s.marks;
-        let done = s.done;
         let mut classes = s.classes;
         let more = state::with_names(&mut classes, marks, &names, t, n, r.count, k + 1);
-        let moved = state::perform(done, &names, &classes, more, t, n, r.count, k, e);
-        let after = moved.state;
+        let moved = state::perform(&classes, more, t, n, r.count, k, e);
+        let after = moved.marks;
+        let done = state::advance(before, k);
         return Stepped {
             allowed: moved.allowed,
             length: end,
-            state: after,
+            state: State {
+                done,
+                names,
+                classes,
+                marks: after,
+            },
         };
     }
     Stepped {

@@ -21,25 +21,29 @@ use runs::Runs;
 use state::State;
 use variables::NextValue;
 
-// Walks through the traces from a state on, `depth` moves deep; `at` is where its own trace ends.
+// Walks through the traces from a state on, `depth` moves deep; `at` is where its own trace ends. How far the runs have come and the marks go by value; names
+// and classes, which only a read changes, are lent.
 pub fn walk(
     trace: &mut [u8],
     file: &[u8],
     t: &[u8],
     n: usize,
     r: Runs,
-    s: State,
+    done: [usize; 4],
+    names: &[u16],
+    classes: &[u16],
+    marks: [bool; 480],
     left: usize,
     at: usize,
     depth: usize,
 ) -> Walked
-    requires { ⌜ ((sc : Scenario) × (d : definitions.State) × (ms : List Move) × Here (now file) (now t) n r sc d s ms at) × ((128 ≤ length (now trace)) × (left < 4294967296)) ⌝ }
-    ensures { λ w. ⌜ ((sc : Scenario) (d : definitions.State) (ms : List Move) → Here (now (file .entry)) (now (t .entry)) n r sc d s ms at → Finds sc left (listed (movesOf sc) depth d) (now (trace .entry)) at (now (trace .exit)) w) ⌝ }
+    requires { ⌜ ((sc : Scenario) × (d : definitions.State) × (ms : List Move) × Here (now file) (now t) n r sc d (stateOf done (now names) (now classes) marks) ms at) × ((128 ≤ length (now trace)) × (left < 4294967296)) ⌝ }
+    ensures { λ w. ⌜ ((sc : Scenario) (d : definitions.State) (ms : List Move) → Here (now (file .entry)) (now (t .entry)) n r sc d (stateOf done (now (names .entry)) (now (classes .entry)) marks) ms at → Finds sc left (listed (movesOf sc) depth d) (now (trace .entry)) at (now (trace .exit)) w) ⌝ }
 {
     if left == 0 {
         return Walked::Cut;
     }
-    let claimed = claims::broken(file, t, n, r, s);
+    let claimed = claims::broken(file, t, n, r, done, marks);
     match claimed {
         Claimed::Broken(claim) => {
             return Walked::Broken(breaks::own_break(claim));
@@ -50,10 +54,6 @@ pub fn walk(
     if depth == 0 {
         return Walked::Clean(count);
     }
-    let done = s.done;
-    let names = s.names;
-    let classes = s.classes;
-    let marks = s.marks;
     let mut k = 0;
     while k < r.count {
         let found = walk_run(
@@ -63,8 +63,8 @@ pub fn walk(
             n,
             r,
             done,
-            &names,
-            &classes,
+            names,
+            classes,
             marks,
             left - count,
             at,
@@ -282,11 +282,24 @@ fn walk_move(
     requires { ⌜ SomeMove (now file) (now t) n r done at k e (now names) (now classes) marks values × ((128 ≤ length (now trace)) × (left < 4294967296)) ⌝ }
     ensures { λ w. ⌜ ((sc : Scenario) (d : definitions.State) (s : State) (ms : List Move) (a : Active) (vs : List Value) → AtMove (now (file .entry)) (now (t .entry)) n r sc d s ms at k e a → done ≡ s .done → Chosen sc d a e vs (now (names .entry)) (now (classes .entry)) marks values → Finds sc left (below sc depth (branches sc d (suc k) a vs [])) (now (trace .entry)) at (now (trace .exit)) w) ⌝ }
 {
-    let moved = state::perform(done, names, classes, marks, t, n, r.count, k, e);
+    let moved = state::perform(classes, marks, t, n, r.count, k, e);
     if moved.allowed {
-        let after = moved.state;
+        let after = moved.marks;
         let bytes = 2 + 2 * values.count;
-        let found = walk(trace, file, t, n, r, after, left, at + bytes, depth);
+        let found = walk(
+            trace,
+            file,
+            t,
+            n,
+            r,
+            state::advance(done, k),
+            names,
+            classes,
+            after,
+            left,
+            at + bytes,
+            depth,
+        );
         match found {
             Walked::Broken(b) => {
                 breaks::write_step(trace, at, k + 1, values);

@@ -6,7 +6,7 @@ use mathlib.Core.Path.{_≡_, refl, sym, ap, _∙_, subst}
 use mathlib.Core.Bool.{Bool, true, false, true≢false}
 use mathlib.Core.List.{List, [], _∷_, _++_, map, append-assoc, append-nil, List·Memᴰ}
 use mathlib.Core.Option.{Option, none, some}
-use lib.ListN.{length, take, drop, length-append, length-map}
+use lib.ListN.{length, getD, set, take, drop, length-append, length-map}
 use Rattle.semantics.specs.Basic.{joined}
 use Rattle.semantics.specs.Limits.{mostTraceBytes}
 use Rattle.semantics.specs.Scenario.{Scenario}
@@ -30,7 +30,7 @@ use Rattle.breaks.specs.declared.Break.{Break}
 use Rattle.breaks.specs.declared.Values.{Values}
 use Rattle.breaks.specs.declared.Walked.{Walked}
 use Rattle.breaks.specs.declared.Walked.the-variants.{Broken, Clean, Cut}
-use Rattle.breaks.specs.Walk.{judged, breakAs, walkedAs, over, bufferAs, Finds, afterMove, below, branches, madeLonger, ValuesAre, Here, AtMove, Chosen}
+use Rattle.breaks.specs.Walk.{stateOf, judged, breakAs, walkedAs, over, bufferAs, Finds, afterMove, below, branches, madeLonger, ValuesAre, Here, AtMove, Chosen}
 use Rattle.breaks.specs.laws.Walked.{changed, walked-map, found-within}
 use Rattle.breaks.specs.laws.Finds.{answer-clean, answer-cut, answer-broken}
 use Rattle.breaks.specs.laws.Entries.{branches-allowed, branches-refused}
@@ -56,13 +56,15 @@ unfolding traceBytes
 trace-one m = append-nil (moveBytes m)
 
 -- what a move answered, the other way round
-pub performed-no : {sc : Scenario} {d : State} {a : Active} {vs : List Value} {moved : Moved} → Performed sc d a vs moved → moved .allowed ≡ false → performed sc d a vs ≡ none
+pub performed-no : {sc : Scenario} {d : State} {a : Active} {vs : List Value} {done : List ℕ} {k : ℕ} {names classes : List ℕ} {moved : Moved} → Performed sc d a vs done k names classes moved → moved .allowed ≡ false → performed sc d a vs ≡ none
 performed-no (isAllowed e f g) h = absurd (true≢false (sym e ∙ h))
 performed-no (notAllowed e f) h = f
 
-pub performed-yes : {sc : Scenario} {d : State} {a : Active} {vs : List Value} {moved : Moved} → Performed sc d a vs moved → moved .allowed ≡ true → (d′ : State) × (performed sc d a vs ≡ some d′) × IsState sc d′ (moved .state)
-performed-yes (isAllowed {d′} e f g) h = (d′, f, g)
-performed-yes (notAllowed e f) h = absurd (true≢false (sym h ∙ e))
+pub performed-yes : {sc : Scenario} {d : State} {a : Active} {vs : List Value} {made : List ℕ} {k : ℕ} {names classes : List ℕ} {moved : Moved} → Performed sc d a vs made k names classes moved → moved .allowed ≡ true
+    → {done next : List ℕ} → done ≡ made → next ≡ set done k (getD done k 0 + 1) → (d′ : State) × (performed sc d a vs ≡ some d′) × IsState sc d′ (stateOf next names classes (moved .marks))
+performed-yes {sc} {k = k} {names = names} {classes = classes} {moved = moved} (isAllowed {d′} e f g) h same advanced =
+    (d′, f, subst (λ (l : List ℕ). IsState sc d′ (stateOf l names classes (moved .marks))) (sym (advanced ∙ ap (λ (l : List ℕ). set l k (getD l k 0 + 1)) same)) g)
+performed-yes (notAllowed e f) h same advanced = absurd (true≢false (sym h ∙ e))
 
 -- a trace's end is within the longest trace
 pub place-low : {file t : List ℕ} {n : ℕ} {r : Runs} {sc : Scenario} {d : State} {s : CodeState} {ms : List Move} {at : ℕ} → Here file t n r sc d s ms at → at ≤ mostTraceBytes
@@ -85,7 +87,7 @@ module _ {file t : List ℕ} {n : ℕ} {r : Runs} {sc : Scenario} {d : State} {s
   few-chosen = omega (arith, chosen .are .many, takes-length (chosen .takes), set-few sc (move .here .given .good) a)
 
   -- a move that is not allowed
-  pub move-refused : (left depth : ℕ) {moved : Moved} → Performed sc d a vs moved → moved .allowed ≡ false → (b : List ℕ) → Finds sc left (below sc depth (branches sc d (suc k) a vs [])) b at b (Clean 0)
+  pub move-refused : (left depth : ℕ) {done : List ℕ} {moved : Moved} → Performed sc d a vs done k names classes moved → moved .allowed ≡ false → (b : List ℕ) → Finds sc left (below sc depth (branches sc d (suc k) a vs [])) b at b (Clean 0)
   move-refused left depth did no-move b = finds-nil sc left (branches-refused sc depth d (suc k) a vs (performed-no did no-move)) b at
 
   -- one that is: the state after it is reached by the longer trace

@@ -76,22 +76,22 @@ loop-again c =
 
 broken-requires : tie.Need-broken-requires Inv-loop μ-loop
 broken-requires c κs =
-    let p = c .before .before .before .before .before .before .before .before in
-    let given = given-layout _ (p .pre .0) (p .pre .1) (p .pre .2) (c .before .before .before .before .before .runs-of .ensures (p .pre .0) (p .pre .1)) (c .before .before .before .before .block-of .ensures) in
-    let f = c .before .loop .inv .1 (p .pre .0) (p .pre .1) given in
-    (p .pre .0, f .d, given, f .isState)
+    let p = c .before .before .before .before .before .before .before .before .before .before in
+    let given = given-layout _ (p .pre .0) (p .pre .1) (p .pre .2) (c .before .before .before .before .before .before .before .runs-of .ensures (p .pre .0) (p .pre .1)) (c .before .before .before .before .before .before .block-of .ensures) in
+    let f = c .before .before .before .loop .inv .1 (p .pre .0) (p .pre .1) given in
+    (p .pre .0, f .d, _, given, f .isState, refl, refl)
 
 returns-2 : tie.Need-returns-2 Inv-loop μ-loop
 returns-2 c sc o l =
-    let given = given-layout _ sc o l (c .before .before .before .before .before .before .before .before .before .runs-of .ensures sc o) (c .before .before .before .before .before .before .before .before .block-of .ensures) in
-    let f = c .before .before .before .before .before .loop .inv .1 sc o given in
-    claim-broken sc _ (f .d) (sym (c .before .before .before .broken .ensures sc (f .d) given (f .isState)) ∙ c .before .claimed .given .1) (follow-end f (c .before .before .before .before .loop-test .left))
+    let given = given-layout _ sc o l (c .before .before .before .before .before .before .before .before .before .before .before .runs-of .ensures sc o) (c .before .before .before .before .before .before .before .before .before .before .block-of .ensures) in
+    let f = c .before .before .before .before .before .before .before .loop .inv .1 sc o given in
+    claim-broken sc _ (f .d) (sym (c .before .before .before .broken .ensures sc (f .d) _ given (f .isState) refl refl) ∙ c .before .claimed .given .1) (follow-end f (c .before .before .before .before .before .before .loop-test .left))
 
 returns-3 : tie.Need-returns-3 Inv-loop μ-loop
 returns-3 c sc o l =
-    let given = given-layout _ sc o l (c .before .before .before .before .before .before .before .before .runs-of .ensures sc o) (c .before .before .before .before .before .before .before .block-of .ensures) in
-    let f = c .before .before .before .before .loop .inv .1 sc o given in
-    claim-none sc _ (f .d) (sym (c .before .before .broken .ensures sc (f .d) given (f .isState)) ∙ c .enum-told .given .1) (follow-end f (c .before .before .before .loop-test .left))
+    let given = given-layout _ sc o l (c .before .before .before .before .before .before .before .before .before .before .runs-of .ensures sc o) (c .before .before .before .before .before .before .before .before .before .block-of .ensures) in
+    let f = c .before .before .before .before .before .before .loop .inv .1 sc o given in
+    claim-none sc _ (f .d) (sym (c .before .before .broken .ensures sc (f .d) _ given (f .isState) refl refl) ∙ c .enum-told .given .1) (follow-end f (c .before .before .before .before .before .loop-test .left))
 
 pub followed-spec : {M : Type 1} → statement M
 followed-spec =

@@ -8,21 +8,23 @@ use Rattle.state.proofs.sent.Statement.{statement}
 use Rattle.state.proofs.sent.Tie as tie
 
 returns : tie.Need-returns
-returns c sc d s a next same ready kind =
-    let p = c .before .before .before .before .before .before .before in
-    let at = c .before .before .before .cell .ensures in
-    send-refused next (p .pre .0) (p .pre .1 .0) ready (at .0) (at .1) kind (c .before .if1 .taken) (c .refused .ensures)
+returns c sc d s a names next size ready kind =
+    let p = c .before .before .before .before .before in
+    let at = c .before .before .cell .ensures in
+    send-refused next (p .pre .0) (p .pre .1 .0) ready (at .0) (at .1) kind (c .if1 .taken) _
+
+learn-requires : tie.Need-learn-requires
+learn-requires c κs = let p = c .before .before .before .before .before in (p .pre .0, (p .pre .1 .1, (p .pre .1 .0 .term, omega (arith, p .pre .1 .0 .isRun))))
 
 returns-2 : tie.Need-returns-2
-returns-2 c sc d s a next same ready kind =
-    let p = c .before .before .before .before .before .before .before .before .before .before in
-    let at = c .before .before .before .before .before .before .cell .ensures in
-    let size : length (p .args .done) ≡ 4 = search needs in
-    send-performed next (p .pre .0) (p .pre .1 .0) ready (at .0) (at .1) kind (c .before .before .before .before .if1 .left) same size
-    (c .before .before .before .learn .result) (c .before .before .learn2 .result) (c .before .learn3 .result) (c .before .before .before .learn .ensures) (c .before .before .learn2 .ensures) (c .before .learn3 .ensures) (c .moved-on .ensures)
+returns-2 c sc d s a names next size ready kind =
+    let p = c .before .before .before .before .before .before .before .before in
+    let at = c .before .before .before .before .before .cell .ensures in
+    send-performed next (p .pre .0) (p .pre .1 .0) ready (at .0) (at .1) kind (c .before .before .before .if1 .left) size (c .before .before .learn .result) (c .before .learn2 .result) (c .learn3 .result)
+    (c .before .before .learn .ensures) (c .before .learn2 .ensures) (c .learn3 .ensures)
 
 pub sent-spec : {M : Type 1} → statement M
 sent-spec =
     tie.close
     (tie.spec
-    (λ c. search needs) (λ c κs. search needs) (λ c. search needs) (λ c. search needs) (λ c κs. search needs) returns (λ c. search needs) (λ c κs. search needs) (λ c κs. search needs) (λ c κs. search needs) (λ c κs. search needs) returns-2)
+    (λ c. search needs) (λ c κs. search needs) (λ c. search needs) (λ c. search needs) returns (λ c. search needs) learn-requires (λ c κs. search needs) (λ c κs. search needs) returns-2)

@@ -26,7 +26,7 @@ use Rattle.runs.specs.Runs.{EventRead}
 use Rattle.state.specs.declared.State.{State as CodeState}
 use Rattle.state.specs.declared.Moved.{Moved}
 use Rattle.state.specs.Readings.{SetsOf, setsIn, setsOf, withSets, readings}
-use Rattle.state.specs.State.{Arrays, Due, LearnsCell, IsState, NextMove, Sets, Ready, movedTo, Performed, isAllowed, notAllowed}
+use Rattle.state.specs.State.{Arrays, Due, LearnsCell, IsState, NextMove, Sets, Ready, Performed, isAllowed, notAllowed}
 use Rattle.state.specs.laws.Readings.{with-itself, readings-grow-from}
 use Rattle.state.specs.laws.Grown.{grown-arrays}
 use Rattle.state.specs.laws.Moves.{newReadings, mine, paired-none, sent-known, unsent, claimed, read-allowed, read-refused, advanced-state}
@@ -76,8 +76,8 @@ module _ {t : List ℕ} {runs k : ℕ} {e : RunEvent} {sc : Scenario} {d : State
   same-arrays arrays = rw same-readings arrays
 
   -- how far the runs have come then
-  advanced-done : {done : List ℕ} → done ≡ s .done → set done k (getD done k 0 + 1) ≡ set (s .done) (a .index) (getD (s .done) (a .index) 0 + 1)
-  advanced-done {done} same = (λ i. set (same i) k (getD (same i) k 0 + 1)) ∙ ap (λ (j : ℕ). set (s .done) j (getD (s .done) j 0 + 1)) (sym index)
+  advanced-done : set (s .done) k (getD (s .done) k 0 + 1) ≡ set (s .done) (a .index) (getD (s .done) (a .index) 0 + 1)
+  advanced-done = ap (λ (j : ℕ). set (s .done) j (getD (s .done) j 0 + 1)) (sym index)
 
   -- the state's own arrays are right with no new values
   pub none-ready : Ready sc d a [] (s .names) (s .classes) (s .marks)
@@ -87,12 +87,10 @@ module _ {t : List ℕ} {runs k : ℕ} {e : RunEvent} {sc : Scenario} {d : State
   none-set = record { size = none-ready .arrays .sized; named = none-ready .arrays .named; valued = same-standing }
 
   -- a claim
-  pub claim-performed : {done : List ℕ} → done ≡ s .done → length done ≡ 4 → {names classes : List ℕ} {marks : List Bool} → Ready sc d a [] names classes marks → e .kind ≡ 2
-      → {moved : Moved} → moved ≡ movedTo done names classes marks k → Performed sc d a [] moved
-  claim-performed {done} same size ready kind moves =
-      rw moves
-      (isAllowed refl (claimed sc (next .good) d (suc k) a (next .isActive) [] (kind-claim _ (rw kind at (next .isEvent .kind))))
-      (advanced-state sc (next .good) d (suc k) a (next .isActive) [] (next .isState) (d .known) _ (advanced-done same) (omega (arith, ap length same, size)) (ready .arrays) (ready .valued)))
+  pub claim-performed : length (s .done) ≡ 4 → {names classes : List ℕ} {marks : List Bool} → Ready sc d a [] names classes marks → e .kind ≡ 2 → Performed sc d a [] (s .done) k names classes (record { allowed = true; marks = marks })
+  claim-performed size ready kind =
+      isAllowed refl (claimed sc (next .good) d (suc k) a (next .isActive) [] (kind-claim _ (rw kind at (next .isEvent .kind))))
+      (advanced-state sc (next .good) d (suc k) a (next .isActive) [] (next .isState) (d .known) _ advanced-done size (ready .arrays) (ready .valued))
 
   module _ {n : ℕ} (shape : Shape t n runs) (due : Due n runs k (e .own) (e .peer) (e .row)) where
     rows-n : length (sc .rows) ≡ n
@@ -132,17 +130,16 @@ module _ {t : List ℕ} {runs k : ℕ} {e : RunEvent} {sc : Scenario} {d : State
       is-send = kind-send _ (rw kind at (next .isEvent .kind))
 
       -- a send whose term has no value is not allowed
-      pub send-refused : getD classes c 0 ≡ absent → {moved : Moved} → moved .allowed ≡ false → Performed sc d a [] moved
-      send-refused h no-move =
+      pub send-refused : getD classes c 0 ≡ absent → (more : List Bool) → Performed sc d a [] (s .done) k names classes (record { allowed = false; marks = more })
+      send-refused h more =
           let none-here = classes-none (next .good .table) few (ready .arrays .classed) row-within (omega (arith, class-of classes (ready .arrays .classed .size) place inside, h)) in
-          notAllowed no-move (unsent sc (next .good) d (suc k) a (next .isActive) [] (next .isEvent) is-send none-here)
+          notAllowed refl (unsent sc (next .good) d (suc k) a (next .isActive) [] (next .isEvent) is-send none-here)
 
       -- every other is, and its message is known
-      pub send-performed : (getD classes c 0 ≡ absent → ⊥) → {done : List ℕ} → done ≡ s .done → length done ≡ 4
+      pub send-performed : (getD classes c 0 ≡ absent → ⊥) → length (s .done) ≡ 4
           → (term receiver sender : List Bool) → LearnsCell (rowsOf t) runs classes (e .row) (k + 1) marks term → LearnsCell (rowsOf t) runs classes (e .peer) 0 term receiver
-          → LearnsCell (rowsOf t) runs classes (e .own) 0 receiver sender
-          → {moved : Moved} → moved ≡ movedTo done names classes sender k → Performed sc d a [] moved
-      send-performed h same size term receiver sender l1 l2 l3 moves =
+          → LearnsCell (rowsOf t) runs classes (e .own) 0 receiver sender → Performed sc d a [] (s .done) k names classes (record { allowed = true; marks = sender })
+      send-performed h size term receiver sender l1 l2 l3 =
           let arrays = ready .arrays in
           let v = classes-there (next .good .table) few (arrays .classed) row-within (λ z. h (class-of classes (arrays .classed .size) place inside ∙ z)) in
           let w = sent-known sc (next .good) d (suc k) a (next .isActive) [] (next .isEvent) is-send (v .1) in
@@ -151,40 +148,37 @@ module _ {t : List ℕ} {runs k : ℕ} {e : RunEvent} {sc : Scenario} {d : State
           let a1 = learnt classes (e .row) (suc k) marks term (rw add-one at l1) (new []) (d .known) (v .0) (arrays .classed) (arrays .celled) (arrays .exact) (v .1) in
           let a2 = learnt classes (e .peer) 0 term receiver l2 (new []) (v .0 ∷ d .known) (w .1) (arrays .classed) (a1 .0) (a1 .1) peer in
           let a3 = learnt classes (e .own) 0 receiver sender l3 (new []) (w .1 ∷ v .0 ∷ d .known) (w .0) (arrays .classed) (a2 .0) (a2 .1) own in
-          rw moves
-          (isAllowed refl (w .2)
-          (advanced-state sc (next .good) d (suc k) a (next .isActive) [] (next .isState) (w .0 ∷ w .1 ∷ v .0 ∷ d .known) _ (advanced-done same) (omega (arith, ap length same, size))
-          (record { named = arrays .named; sized = arrays .sized; classed = arrays .classed; exact = a3 .1; celled = a3 .0 }) (ready .valued)))
+          isAllowed refl (w .2)
+          (advanced-state sc (next .good) d (suc k) a (next .isActive) [] (next .isState) (w .0 ∷ w .1 ∷ v .0 ∷ d .known) _ advanced-done size
+          (record { named = arrays .named; sized = arrays .sized; classed = arrays .classed; exact = a3 .1; celled = a3 .0 }) (ready .valued))
 
     module _ {names classes : List ℕ} {marks : List Bool} (vs : List Value) (ready : Ready sc d a vs names classes marks) (kind : e .kind ≡ 1) where
       is-read : a .event .kind ≡ read
       is-read = kind-read _ (rw kind at (next .isEvent .kind))
 
-      -- a read with new values is allowed exactly if three cells are marked then
-      pub read-performed : {done : List ℕ} → done ≡ s .done → length done ≡ 4 → getD marks (e .own) false ≡ true → getD marks (e .peer) false ≡ true → {c : ℕ} → c ≡ cellOf (e .row) (k + 1) → getD marks c false ≡ true
-          → {moved : Moved} → moved ≡ movedTo done names classes marks k → Performed sc d a vs moved
-      read-performed same size mo mp {c} place mr moves =
-          let at : c ≡ cellOf (e .row) (suc k) = omega arith in
-          rw moves
-          (isAllowed refl (read-allowed sc (next .good) d (suc k) a (next .isActive) vs (next .isEvent) marks (ready .arrays .exact) is-read own-within peer-within row-within (rw zero-add mo) (rw zero-add mp) (rw (← at) mr))
-          (advanced-state sc (next .good) d (suc k) a (next .isActive) vs (next .isState) (d .known) _ (advanced-done same) (omega (arith, ap length same, size))
-          (ready .arrays) (ready .valued)))
+      read-not : (more : List Bool) → (Marked marks (e .own) 0 → Marked marks (e .peer) 0 → Marked marks (e .row) (suc k) → ⊥) → Performed sc d a vs (s .done) k names classes (record { allowed = false; marks = more })
+      read-not more no-marks =
+          notAllowed refl (read-refused sc (next .good) d (suc k) a (next .isActive) vs (next .isEvent) marks (ready .arrays .exact) is-read own-within peer-within row-within no-marks)
 
-      read-not : {moved : Moved} → moved .allowed ≡ false → (Marked marks (e .own) 0 → Marked marks (e .peer) 0 → Marked marks (e .row) (suc k) → ⊥) → Performed sc d a vs moved
-      read-not no-move no-marks =
-          notAllowed no-move (read-refused sc (next .good) d (suc k) a (next .isActive) vs (next .isEvent) marks (ready .arrays .exact) is-read own-within peer-within row-within no-marks)
+      -- a read with new values is allowed exactly if three cells are marked then: by the marks that are looked at
+      pub own-unmarked : (more : List Bool) → getD marks (e .own) false ≡ false → Performed sc d a vs (s .done) k names classes (record { allowed = false; marks = more })
+      own-unmarked more h = read-not more (λ mo mp mr. true≢false (sym (rw zero-add at mo) ∙ h))
 
-      -- the same by the marks that are looked at
-      pub own-unmarked : {moved : Moved} → moved .allowed ≡ false → getD marks (e .own) false ≡ false → Performed sc d a vs moved
-      own-unmarked no-move h = read-not no-move (λ mo mp mr. true≢false (sym (rw zero-add at mo) ∙ h))
+      pub peer-unmarked : (more : List Bool) → getD marks (e .peer) false ≡ false → Performed sc d a vs (s .done) k names classes (record { allowed = false; marks = more })
+      peer-unmarked more h = read-not more (λ mo mp mr. true≢false (sym (rw zero-add at mp) ∙ h))
 
-      pub peer-unmarked : {moved : Moved} → moved .allowed ≡ false → getD marks (e .peer) false ≡ false → Performed sc d a vs moved
-      peer-unmarked no-move h = read-not no-move (λ mo mp mr. true≢false (sym (rw zero-add at mp) ∙ h))
+      pub read-answers : length (s .done) ≡ 4 → getD marks (e .own) false ≡ true → getD marks (e .peer) false ≡ true
+          → {c : ℕ} → c ≡ cellOf (e .row) (k + 1) → Performed sc d a vs (s .done) k names classes (record { allowed = getD marks c false; marks = marks })
+      read-answers size mo mp {c} place = go (getD marks c false) refl
+        where
+          at : c ≡ cellOf (e .row) (suc k)
+          at = omega arith
 
-      pub row-unmarked : {moved : Moved} → moved .allowed ≡ false → {c : ℕ} → c ≡ cellOf (e .row) (k + 1) → getD marks c false ≡ false → Performed sc d a vs moved
-      row-unmarked no-move {c} place h =
-          let at : c ≡ cellOf (e .row) (suc k) = omega arith in
-          read-not no-move (λ mo mp mr. true≢false (sym mr ∙ ap (λ (x : ℕ). getD marks x false) (sym at) ∙ h))
+          go : (b : Bool) → getD marks c false ≡ b → Performed sc d a vs (s .done) k names classes (record { allowed = b; marks = marks })
+          go true h =
+              isAllowed refl (read-allowed sc (next .good) d (suc k) a (next .isActive) vs (next .isEvent) marks (ready .arrays .exact) is-read own-within peer-within row-within (rw zero-add mo) (rw zero-add mp) (rw (← at) h))
+              (advanced-state sc (next .good) d (suc k) a (next .isActive) vs (next .isState) (d .known) _ advanced-done size (ready .arrays) (ready .valued))
+          go false h = read-not _ (λ no np mr. true≢false (sym mr ∙ ap (λ (x : ℕ). getD marks x false) (sym at) ∙ h))
 
 -- an event of another kind is a claim
 pub other-kind : {t : List ℕ} {runs k : ℕ} {e : RunEvent} {sc : Scenario} {d : State} {s : CodeState} {a : Active} → NextMove t runs k e sc d s a → (e .kind ≡ 1 → ⊥) → (e .kind ≡ 0 → ⊥) → e .kind ≡ 2

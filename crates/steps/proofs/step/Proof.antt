@@ -72,14 +72,19 @@ with-names-requires c κs =
 
 perform-requires : tie.Need-perform-requires
 perform-requires c κs =
-    let p = c .before .before .before .before .before .before .before .before .before .before .before .before .before .before .before .before .before .before .before .before .before .before .before .before .before .before .before .before in
+    let p = c .before .before .before .before .before .before .before .before .before .before .before .before .before .before .before .before .before .before .before .before .before .before .before .before .before .before .before in
     let given = p .pre .2 in
-    let low = run-low (c .before .before .before .before .before .before .before .before .before .before .before .before .before .before .before .before .before .before .if3 .left) (c .before .before .before .before .before .before .before .before .before .before .before .before .before .before .before .before .before .if4 .left) in
-    let co = run-coming given (p .pre .3) _ low (c .before .before .before .before .before .before .before .before .before .before .before .before .before .before .if5 .left) in
-    let ev = c .before .before .before .before .before .before .before .before .before .before .before .before .before .event-of .ensures (p .pre .0) (co .0 .run) (co .0 .event) (given .runs) (given .good) (co .1 .ofRun) (co .1 .ofEvent) in
-    let names : length (c .before .before .before .before .before .before .before .before .before .before .before .valued .result .names) ≡ 480 = search (needs, c .before .before .before .before .before .before .before .before .before .before .before .valued .ok) in
-    let classes : length (c .before .before .before .with-names .last .0) ≡ 480 = search (needs, c .before .before .before .with-names .kept, p .pre .3 .arrays .classed .size) in
-    (given .shape, (coming-due given (p .pre .3) _ low (co .0) (co .1) ev, (omega (arith, c .before .before .before .before .before .before .before .before .before .before .before .before .before .before .if5 .left, given .runs .small (c .before .before .before .before .before .before .before .before .before .before .before .before .before .before .before .before .before .before .before .before .before .before .wide .result - 1) (omega (arith, given .runs .few, low))), (names, classes))))
+    let low = run-low (c .before .before .before .before .before .before .before .before .before .before .before .before .before .before .before .before .before .if3 .left) (c .before .before .before .before .before .before .before .before .before .before .before .before .before .before .before .before .if4 .left) in
+    let co = run-coming given (p .pre .3) _ low (c .before .before .before .before .before .before .before .before .before .before .before .before .before .if5 .left) in
+    let ev = c .before .before .before .before .before .before .before .before .before .before .before .before .event-of .ensures (p .pre .0) (co .0 .run) (co .0 .event) (given .runs) (given .good) (co .1 .ofRun) (co .1 .ofEvent) in
+    let classes : length (c .before .before .with-names .last .0) ≡ 480 = search (needs, c .before .before .with-names .kept, p .pre .3 .arrays .classed .size) in
+    (given .shape, (coming-due given (p .pre .3) _ low (co .0) (co .1) ev, classes))
+
+advance-requires : tie.Need-advance-requires
+advance-requires c κs =
+    let given = c .before .before .before .before .before .before .before .before .before .before .before .before .before .before .before .before .before .before .before .before .before .before .before .before .before .before .before .before .before .pre .2 in
+    let low = run-low (c .before .before .before .before .before .before .before .before .before .before .before .before .before .before .before .before .before .before .before .if3 .left) (c .before .before .before .before .before .before .before .before .before .before .before .before .before .before .before .before .before .before .if4 .left) in
+    (omega (arith, given .runs .few, low), omega (arith, c .before .before .before .before .before .before .before .before .before .before .before .before .before .before .before .if5 .left, given .runs .small (c .before .before .before .before .before .before .before .before .before .before .before .before .before .before .before .before .before .before .before .before .before .before .before .wide .result - 1) (omega (arith, given .runs .few, low))))
 
 returns-6 : tie.Need-returns-6
 returns-6 c sc d given state =
@@ -94,8 +99,9 @@ returns-6 c sc d given state =
     let sets = suited-sets sc d (p .args .trace .now) (p .args .t5) (c .before .before .before .before .before .before .before .before .before .before .before .before .before .before .before .before .before .before .before .before .before .before .before .before .before .before .if1 .left) (c .before .before .before .before .before .before .before .before .before .before .before .before .before .before .before .before .before .before .before .before .before .before .wide2 .ensures .0) refl (c .before .before .before .before .before .before .before .before .before .before .before .before .before .before .before .before .before .before .before .before .before .if2 .left) (c .before .before .before .before .before .before .before .before .before .before .before .before .before .before .before .before .before .before .before .before .before .before .before .before .wide .ensures .0) isActive _ refl _ suited (c .before .before .before .before .before .before .before .before .before .before .before .before .if6 .taken) in
     let grown = c .before .before .before .before .before .with-names .ensures in
     let ready = grown-ready next (given .shape) (coming-due given state _ low (co .0) (co .1) ev) _ _ (sets .1) (grown .0) (grown .1) in
-    step-performed sc d _ (p .args .t5) (c .before .before .before .before .before .before .before .before .before .before .before .before .before .before .before .before .before .before .before .before .before .before .before .before .before .before .if1 .left) (c .before .before .before .before .before .before .before .before .before .before .before .before .before .before .before .before .before .before .before .before .before .before .wide2 .ensures .0) refl (c .before .before .before .before .before .before .before .before .before .before .before .before .before .before .before .before .before .before .before .before .before .if2 .left) (c .before .before .before .before .before .before .before .before .before .before .before .before .before .before .before .before .before .before .before .before .before .before .before .before .wide .ensures .0) isActive _ refl _ suited (c .before .before .before .before .before .before .before .before .before .before .before .before .if6 .taken) _
-    (c .before .perform .ensures sc d (p .args .t5) (co .0) _ next refl ready (suited-none next values (sets .0)))
+    let many : length (p .args .t5 .done) ≡ 4 = search (needs, p .good .1 .1 .1 .1 .0) in
+    step-performed sc d _ (p .args .t5) (c .before .before .before .before .before .before .before .before .before .before .before .before .before .before .before .before .before .before .before .before .before .before .before .before .before .before .if1 .left) (c .before .before .before .before .before .before .before .before .before .before .before .before .before .before .before .before .before .before .before .before .before .before .wide2 .ensures .0) refl (c .before .before .before .before .before .before .before .before .before .before .before .before .before .before .before .before .before .before .before .before .before .if2 .left) (c .before .before .before .before .before .before .before .before .before .before .before .before .before .before .before .before .before .before .before .before .before .before .before .before .wide .ensures .0) isActive _ refl _ suited (c .before .before .before .before .before .before .before .before .before .before .before .before .if6 .taken) _ _ _ _ _
+    (c .before .before .perform .ensures sc d (p .args .t5) (co .0) _ _ next many ready (suited-none next values (sets .0))) (c .advance .ensures)
 
 returns-7 : tie.Need-returns-7
 returns-7 c sc d given state =
@@ -111,4 +117,4 @@ pub step-spec : {M : Type 1} → statement M
 step-spec =
     tie.close
     (tie.spec
-    returns (λ c. search needs) (λ c κs. search needs) (λ c. search needs) (λ c κs. search needs) (λ c. search needs) (λ c. search needs) returns-2 returns-3 returns-4 (λ c. search needs) (λ c. search needs) (λ c. search needs) (λ c. search needs) (λ c. search needs) returns-5 event-of-requires (λ c. search needs) (λ c. search needs) (λ c. search needs) valued-requires slice-aggregate-with-names (λ c. search (needs, c .before .before .before .before .before .before .before .valued .ok)) (λ c. search needs) with-names-requires (λ c. search (needs, c .before .before .before .before .before .before .before .before .before .before .valued .ok)) (λ c. search needs) perform-requires returns-6 returns-7)
+    returns (λ c. search needs) (λ c κs. search needs) (λ c. search needs) (λ c κs. search needs) (λ c. search needs) (λ c. search needs) returns-2 returns-3 returns-4 (λ c. search needs) (λ c. search needs) (λ c. search needs) (λ c. search needs) (λ c. search needs) returns-5 event-of-requires (λ c. search needs) (λ c. search needs) (λ c. search needs) valued-requires slice-aggregate-with-names (λ c. search (needs, c .before .before .before .before .before .before .before .valued .ok)) (λ c. search needs) with-names-requires (λ c. search needs) perform-requires advance-requires returns-6 returns-7)

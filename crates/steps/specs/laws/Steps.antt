@@ -7,7 +7,7 @@ use mathlib.Core.List.{List, [], _∷_}
 use mathlib.Core.Option.{Option, none, some, Option·some-injective, Option·none-ne-some}
 use borrow.Author.Tests.{le-leb, lt-leb}
 use lib.Dec.{leb}
-use lib.ListN.{length, getD, getElem?, take, drop, length-drop}
+use lib.ListN.{length, getD, set, getElem?, take, drop, length-drop}
 use Rattle.semantics.specs.Basic.{andThen, provided}
 use Rattle.semantics.specs.Scenario.{Scenario}
 use Rattle.semantics.specs.State.{Value, State, Active, active}
@@ -129,13 +129,15 @@ module _ (sc : Scenario) (d : State) (bytes : List ℕ) (s : CodeState) where
             go (isSuited e f g) = (f, g)
             go (notSuited e f) = absurd (true≢false (sym h ∙ e))
 
-        pub step-performed : choice .suits ≡ true → (moved : Moved) → Performed sc d a (valuesIn values) moved → StepDone sc d bytes (record { allowed = moved .allowed; length = end; state = moved .state })
-        step-performed h moved did = go did
+        pub step-performed : choice .suits ≡ true → (made : List ℕ) (k : ℕ) (names classes : List ℕ) (moved : Moved) → Performed sc d a (valuesIn values) made k names classes moved → {next : List ℕ} → next ≡ set made k (getD made k 0 + 1)
+            → StepDone sc d bytes (record { allowed = moved .allowed; length = end; state = record { done = next; names = names; classes = classes; marks = moved .marks } })
+        step-performed h made k names classes moved did {next} advanced = rw advanced (go did)
           where
             done : after sc d move ≡ performed sc d a (valuesIn values)
             done = after-suited sc d move a active-here (ap (suits (sc .rows) (length (sc .runs)) (toSet sc a)) (sym same-values) ∙ suited-sets h .0) ∙ ap (performed sc d a) (sym same-values)
 
-            go : Performed sc d a (valuesIn values) moved → StepDone sc d bytes (record { allowed = moved .allowed; length = end; state = moved .state })
+            go : Performed sc d a (valuesIn values) made k names classes moved
+                → StepDone sc d bytes (record { allowed = moved .allowed; length = end; state = record { done = set made k (getD made k 0 + 1); names = names; classes = classes; marks = moved .marks } })
             go (isAllowed e f g) = isStep e (is-after (done ∙ f)) g
             go (notAllowed e f) = noStep e (not-after (done ∙ f))
 

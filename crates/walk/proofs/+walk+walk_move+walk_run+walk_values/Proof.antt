@@ -49,6 +49,7 @@ use Rattle.breaks.proofs.write_step.Reads as write-step-reads
 use Rattle.claims.proofs.broken.Reads as broken-reads
 use Rattle.partial.proofs.may_be_read.Reads as may-be-read-reads
 use Rattle.runs.proofs.event_of.Reads as event-of-reads
+use Rattle.state.proofs.advance.Reads as advance-reads
 use Rattle.state.proofs.copied.Reads as copied-reads
 use Rattle.state.proofs.perform.Reads as perform-reads
 use Rattle.state.proofs.with_names.Reads as with-names-reads
@@ -59,8 +60,8 @@ use Rattle.variables.proofs.next_value.Reads as next-value-reads
 use Rattle.walk.proofs.+walk+walk_move+walk_run+walk_values.{statement}
 use Rattle.walk.proofs.+walk+walk_move+walk_run+walk_values.Tie.{close}
 
-abbrev μ-walk : Measures 3 walk-kinds.ps ℕ
-μ-walk κs a = (a .1 .1 .1 .1 .1 .1 .1 .1 .0) * 200
+abbrev μ-walk : Measures 5 walk-kinds.ps ℕ
+μ-walk κs a = (a .1 .1 .1 .1 .1 .1 .1 .1 .1 .1 .1 .0) * 200
 
 abbrev μ-walk-move : Measures 5 walk-move-kinds.ps ℕ
 μ-walk-move κs a = (a .1 .1 .1 .1 .1 .1 .1 .1 .0) * 200 + 1
@@ -71,11 +72,11 @@ abbrev μ-walk-run : Measures 5 walk-run-kinds.ps ℕ
 abbrev μ-walk-values : Measures 6 walk-values-kinds.ps ℕ
 μ-walk-values κs a = (a .1 .1 .1 .1 .1 .1 .1 .1 .1 .0) * 200 + 2 + ((a .1 .1 .1 .0) - (a .1 .1 .1 .1 .1 .1 .1 .1 .1 .1 .1 .1 .1 .1 .1 .1 .0))
 
-abbrev walk-at : ℕ → In 3 walk-kinds.ps
-walk-at t = and 3 walk-kinds.ps (is 3 walk-kinds.ps μ-walk t) walk.Pre
+abbrev walk-at : ℕ → In 5 walk-kinds.ps
+walk-at t = and 5 walk-kinds.ps (is 5 walk-kinds.ps μ-walk t) walk.Pre
 
-abbrev walk-below : ℕ → In 3 walk-kinds.ps
-walk-below t = and 3 walk-kinds.ps (falls 3 walk-kinds.ps _<_ μ-walk t) walk.Pre
+abbrev walk-below : ℕ → In 5 walk-kinds.ps
+walk-below t = and 5 walk-kinds.ps (falls 5 walk-kinds.ps _<_ μ-walk t) walk.Pre
 
 abbrev walk-move-at : ℕ → In 5 walk-move-kinds.ps
 walk-move-at t = and 5 walk-move-kinds.ps (is 5 walk-move-kinds.ps μ-walk-move t) walk-move.Pre
@@ -103,7 +104,7 @@ abbrev walk-env : ℕ → walk-lts.Claims
 walk-env t = (broken-reads.Asked, broken-reads.Learnt, own-break-reads.Asked, own-break-reads.Learnt, walk-run-below t, walk-run.Post, later-reads.Asked, later-reads.Learnt)
 
 abbrev walk-move-env : ℕ → walk-move-lts.Claims
-walk-move-env t = (perform-reads.Asked, perform-reads.Learnt, walk-below t, walk.Post, write-step-reads.Asked, write-step-reads.Learnt, longer-reads.Asked, longer-reads.Learnt)
+walk-move-env t = (perform-reads.Asked, perform-reads.Learnt, advance-reads.Asked, advance-reads.Learnt, walk-below t, walk.Post, write-step-reads.Asked, write-step-reads.Learnt, longer-reads.Asked, longer-reads.Learnt)
 
 abbrev walk-run-env : ℕ → walk-run-lts.Claims
 walk-run-env t = (event-of-reads.Asked, event-of-reads.Learnt, beneath-reads.Asked, beneath-reads.Learnt, no-values-reads.Asked, no-values-reads.Learnt, walk-values-below t, walk-values.Post, walk-move-below t, walk-move.Post)
@@ -112,96 +113,99 @@ abbrev walk-values-env : ℕ → walk-values-lts.Claims
 walk-values-env t = (next-unset-reads.Asked, next-unset-reads.Learnt, walk-move-below t, walk-move.Post, may-be-read-reads.Asked, may-be-read-reads.Learnt, next-value-reads.Asked, next-value-reads.Learnt, copied-reads.Asked, copied-reads.Learnt, put-reads.Asked, put-reads.Learnt, with-names-reads.Asked, with-names-reads.Learnt, with-value-reads.Asked, with-value-reads.Learnt, walk-values-below t, walk-values.Post, later-reads.Asked, later-reads.Learnt)
 
 abbrev walk-Inv-loop : walk-lts.InvT-loop
-walk-Inv-loop trace₀ file t n r left at depth count₀ done names classes marks k₀ trace count k =
+walk-Inv-loop trace₀ file t n r done names classes marks left at depth count₀ k₀ trace count k =
     (trace ≡ trace₀) × (count ≤ left) × (k ≤ r .count)
     × ((sc : Scenario) (d : State) (ms : List Move) → Here file t n r sc d (stateOf done names classes marks) ms at → Passed sc left (listed (movesOf sc) depth d) (runsFrom sc (depth - 1) d k) count)
 
 abbrev walk-μ-loop : walk-lts.MeasureT-loop
-walk-μ-loop trace₀ file t n r left at depth count₀ done names classes marks k₀ trace count k = r .count - k
+walk-μ-loop trace₀ file t n r done names classes marks left at depth count₀ k₀ trace count k = r .count - k
 
 walk-returns : (t : ℕ) → walk-lts.Need-returns (walk-env t) (walk-at t) walk.Post walk-Inv-loop walk-μ-loop
-walk-returns t c sc d ms here = let s = c .before .before .before .before in from-state.walk-cut sc (s .args .left) d (s .args .trace .now) (s .args .at) (s .args .depth) (c .if1 .taken)
+walk-returns t c sc d ms here = let s = c .before .before .before .before .before .before in from-state.walk-cut sc (s .args .left) d (s .args .trace .now) (s .args .at) (s .args .depth) (c .if1 .taken)
+
+walk-broken-requires : (t : ℕ) → walk-lts.Need-broken-requires (walk-env t) (walk-at t) walk.Post walk-Inv-loop walk-μ-loop
+walk-broken-requires t c κs = let h = c .before .before .before .before .before .before .pre .1 .0 in (h .0, h .1, _, h .3 .given, h .3 .state, refl, refl)
 
 walk-returns-2 : (t : ℕ) → walk-lts.Need-returns-2 (walk-env t) (walk-at t) walk.Post walk-Inv-loop walk-μ-loop
 walk-returns-2 t c sc d ms here =
-    let s = c .before .before .before .before .before .before .before .before .before in
-    let own = sym (c .before .before .claimed .given .1) ∙ c .before .before .before .before .broken .ensures sc d (here .given) (here .state) in
+    let s = c .before .before .before .before .before .before .before .before .before .before .before in
+    let own = sym (c .before .before .claimed .given .1) ∙ c .before .before .before .before .broken .ensures sc d _ (here .given) (here .state) refl refl in
     rw (c .own-break .ensures) (from-state.walk-own sc (s .args .left) d (s .args .trace .now) (s .args .at) (s .args .depth) (c .before .before .before .before .before .if1 .left) own)
 
 walk-returns-3 : (t : ℕ) → walk-lts.Need-returns-3 (walk-env t) (walk-at t) walk.Post walk-Inv-loop walk-μ-loop
 walk-returns-3 t c sc d ms here =
-    let s = c .before .before .before .before .before .before .before .before in
-    let own = sym (c .before .enum-told .given .1) ∙ c .before .before .before .broken .ensures sc d (here .given) (here .state) in
+    let s = c .before .before .before .before .before .before .before .before .before .before in
+    let own = sym (c .before .enum-told .given .1) ∙ c .before .before .before .broken .ensures sc d _ (here .given) (here .state) refl refl in
     from-state.walk-leaf sc (s .args .left) d (s .args .trace .now) (s .args .at) (c .before .before .before .before .if1 .left) own (s .args .depth) (c .if2 .taken)
 
 walk-loop-holds : (t : ℕ) → walk-lts.Need-loop-holds (walk-env t) (walk-at t) walk.Post walk-Inv-loop walk-μ-loop
 walk-loop-holds t c =
-    let s = c .before .before .before .before .before .before .before .before .before .before .before .before in (
+    let s = c .before .before .before .before .before .before .before .before .before .before in (
       refl,
-      omega (arith, c .before .before .before .before .before .before .before .before .if1 .left),
+      omega (arith, c .before .before .before .before .if1 .left),
       omega arith,
       λ sc d ms here.
-          let own = sym (c .before .before .before .before .before .enum-told .given .1) ∙ c .before .before .before .before .before .before .before .broken .ensures sc d (here .given) (here .state) in
-          from-state.walk-start sc (s .args .left) d (s .args .trace .now) (s .args .at) (c .before .before .before .before .before .before .before .before .if1 .left) own (s .args .depth) (c .before .before .before .before .if2 .left),
+          let own = sym (c .before .enum-told .given .1) ∙ c .before .before .before .broken .ensures sc d _ (here .given) (here .state) refl refl in
+          from-state.walk-start sc (s .args .left) d (s .args .trace .now) (s .args .at) (c .before .before .before .before .if1 .left) own (s .args .depth) (c .if2 .left),
     )
 
 walk-walk-run-requires : (t : ℕ) → walk-lts.Need-walk-run-requires (walk-env t) (walk-at t) walk.Post walk-Inv-loop walk-μ-loop
 walk-walk-run-requires t c κs =
-    let s = c .before .before .before .before .before .before .before .before .before .before .before .before .before .before .before .before .before .before in
-    let l = c .before .before .before .before .before .loop in
-    (omega (arith, s .pre .0, c .before .before .before .before .before .before .before .before .before .before .if2 .left), (s .pre .1 .0, (omega (arith, s .pre .1 .1 .0, ap length (l .inv .0)), (omega (arith, s .pre .1 .1 .1), c .before .before .before .if3 .taken))))
+    let s = c .before .before .before .before .before .before .before .before .before .before .before .before .before .before in
+    let l = c .before .before .before .loop in
+    (omega (arith, s .pre .0, c .before .before .before .before .if2 .left), (s .pre .1 .0, (omega (arith, s .pre .1 .1 .0, ap length (l .inv .0)), (omega (arith, s .pre .1 .1 .1), c .before .if3 .taken))))
 
 walk-later-requires : (t : ℕ) → walk-lts.Need-later-requires (walk-env t) (walk-at t) walk.Post walk-Inv-loop walk-μ-loop
 walk-later-requires t c κs =
-    let s = c .before .before .before .before .before .before .before .before .before .before .before .before .before .before .before .before .before .before .before .before .before .before .before .before in
-    let l = c .before .before .before .before .before .before .before .before .before .before .before .loop in
+    let s = c .before .before .before .before .before .before .before .before .before .before .before .before .before .before .before .before .before .before .before .before in
+    let l = c .before .before .before .before .before .before .before .before .before .loop in
     let h = s .pre .1 .0 in
     let finds = c .before .before .before .before .before .walk-run .ensures (h .0) (h .1) (h .2) (h .3) in
     (omega (arith, broken-place (h .0) _ _ finds (c .before .found .given .1), s .pre .1 .1 .1), omega (arith, l .inv .1, s .pre .1 .1 .1))
 
 walk-same-length : (t : ℕ) → walk-lts.Need-same-length (walk-env t) (walk-at t) walk.Post walk-Inv-loop walk-μ-loop
-walk-same-length t c = omega (arith, c .before .before .before .before .before .trace .given, ap length (c .before .before .before .before .before .before .before .before .before .before .before .before .loop .inv .0))
+walk-same-length t c = omega (arith, c .before .before .before .before .before .trace .given, ap length (c .before .before .before .before .before .before .before .before .before .before .loop .inv .0))
 
 walk-returns-4 : (t : ℕ) → walk-lts.Need-returns-4 (walk-env t) (walk-at t) walk.Post walk-Inv-loop walk-μ-loop
 walk-returns-4 t c sc d ms here =
-    let s = c .before .before .before .before .before .before .before .before .before .before .before .before .before .before .before .before .before .before .before .before .before .before .before .before .before in
-    let l = c .before .before .before .before .before .before .before .before .before .before .before .before .loop in
-    let passed = from-state.walk-next sc (s .args .left) (s .args .depth - 1) d (l .inv .3 sc d ms here) (omega (arith, here .given .runs .count, c .before .before .before .before .before .before .before .before .before .before .if3 .taken)) in
+    let s = c .before .before .before .before .before .before .before .before .before .before .before .before .before .before .before .before .before .before .before .before .before in
+    let l = c .before .before .before .before .before .before .before .before .before .before .loop in
+    let passed = from-state.walk-next sc (s .args .left) (s .args .depth - 1) d (l .inv .3 sc d ms here) (omega (arith, here .given .runs .count, c .before .before .before .before .before .before .before .before .if3 .taken)) in
     rw (c .later .ensures) (rw (← l .inv .0) (passed-broken sc (s .args .left) _ _ _ _ passed (c .before .before .before .before .before .before .walk-run .ensures sc d ms here) (c .before .before .found .given .1)))
 
 walk-add-count : (t : ℕ) → walk-lts.Need-add-count (walk-env t) (walk-at t) walk.Post walk-Inv-loop walk-μ-loop
 walk-add-count t c =
-    let s = c .before .before .before .before .before .before .before .before .before .before .before .before .before .before .before .before .before .before .before .before .before .before .before .before in
-    let l = c .before .before .before .before .before .before .before .before .before .before .before .loop in
+    let s = c .before .before .before .before .before .before .before .before .before .before .before .before .before .before .before .before .before .before .before .before in
+    let l = c .before .before .before .before .before .before .before .before .before .loop in
     let h = s .pre .1 .0 in
-    let passed = from-state.walk-next (h .0) (s .args .left) (s .args .depth - 1) (h .1) (l .inv .3 (h .0) (h .1) (h .2) (h .3)) (omega (arith, (h .3) .given .runs .count, c .before .before .before .before .before .before .before .before .before .if3 .taken)) in
+    let passed = from-state.walk-next (h .0) (s .args .left) (s .args .depth - 1) (h .1) (l .inv .3 (h .0) (h .1) (h .2) (h .3)) (omega (arith, (h .3) .given .runs .count, c .before .before .before .before .before .before .before .if3 .taken)) in
     record { fits = omega (arith, passed-more (h .0) (s .args .left) _ _ _ _ passed (c .before .before .before .before .before .walk-run .ensures (h .0) (h .1) (h .2) (h .3)) (c .before .found2 .given .1) .2, s .pre .1 .1 .1) }
 
 walk-returns-5 : (t : ℕ) → walk-lts.Need-returns-5 (walk-env t) (walk-at t) walk.Post walk-Inv-loop walk-μ-loop
 walk-returns-5 t c sc d ms here =
-    let s = c .before .before .before .before .before .before .before .before .before .before .before .before .before .before .before .before .before .before .before .before .before .before .before in
-    let l = c .before .before .before .before .before .before .before .before .before .before .loop in
-    let passed = from-state.walk-next sc (s .args .left) (s .args .depth - 1) d (l .inv .3 sc d ms here) (omega (arith, here .given .runs .count, c .before .before .before .before .before .before .before .before .if3 .taken)) in
+    let s = c .before .before .before .before .before .before .before .before .before .before .before .before .before .before .before .before .before .before .before in
+    let l = c .before .before .before .before .before .before .before .before .loop in
+    let passed = from-state.walk-next sc (s .args .left) (s .args .depth - 1) d (l .inv .3 sc d ms here) (omega (arith, here .given .runs .count, c .before .before .before .before .before .before .if3 .taken)) in
     rw (← l .inv .0) (passed-cut sc (s .args .left) _ _ _ _ passed (c .before .before .before .before .walk-run .ensures sc d ms here) (c .enum-told2 .given .1))
 
 walk-loop-again : (t : ℕ) → walk-lts.Need-loop-again (walk-env t) (walk-at t) walk.Post walk-Inv-loop walk-μ-loop
 walk-loop-again t c =
-    let s = c .before .before .before .before .before .before .before .before .before .before .before .before .before .before .before .before .before .before .before .before .before .before .before .before in
-    let l = c .before .before .before .before .before .before .before .before .before .before .before .loop in
+    let s = c .before .before .before .before .before .before .before .before .before .before .before .before .before .before .before .before .before .before .before .before in
+    let l = c .before .before .before .before .before .before .before .before .before .loop in
     let h = s .pre .1 .0 in
-    let passed = from-state.walk-next (h .0) (s .args .left) (s .args .depth - 1) (h .1) (l .inv .3 (h .0) (h .1) (h .2) (h .3)) (omega (arith, (h .3) .given .runs .count, c .before .before .before .before .before .before .before .before .before .if3 .taken)) in
+    let passed = from-state.walk-next (h .0) (s .args .left) (s .args .depth - 1) (h .1) (l .inv .3 (h .0) (h .1) (h .2) (h .3)) (omega (arith, (h .3) .given .runs .count, c .before .before .before .before .before .before .before .if3 .taken)) in
     let own = passed-more (h .0) (s .args .left) _ _ _ _ passed (c .before .before .before .before .before .walk-run .ensures (h .0) (h .1) (h .2) (h .3)) (c .before .found2 .given .1) in (
       own .1 ∙ l .inv .0,
       own .2,
-      omega (arith, c .before .before .before .before .before .before .before .before .before .if3 .taken),
+      omega (arith, c .before .before .before .before .before .before .before .if3 .taken),
       λ sc d ms here.
-          let passed = from-state.walk-next sc (s .args .left) (s .args .depth - 1) d (l .inv .3 sc d ms here) (omega (arith, here .given .runs .count, c .before .before .before .before .before .before .before .before .before .if3 .taken)) in
+          let passed = from-state.walk-next sc (s .args .left) (s .args .depth - 1) d (l .inv .3 sc d ms here) (omega (arith, here .given .runs .count, c .before .before .before .before .before .before .before .if3 .taken)) in
           passed-more sc (s .args .left) _ _ _ _ passed (c .before .before .before .before .before .walk-run .ensures sc d ms here) (c .before .found2 .given .1) .0,
     )
 
 walk-returns-6 : (t : ℕ) → walk-lts.Need-returns-6 (walk-env t) (walk-at t) walk.Post walk-Inv-loop walk-μ-loop
 walk-returns-6 t c sc d ms here =
-    let s = c .before .before .before .before .before .before .before .before .before .before .before .before .before .before .before in
+    let s = c .before .before .before .before .before .before .before .before .before .before .before .before .before in
     let l = c .before .before .loop in
     rw (← l .inv .0) (from-state.walk-end sc (s .args .left) (s .args .depth - 1) d (l .inv .3 sc d ms here) (omega (arith, here .given .runs .count, c .if3 .left)) (l .trace) (s .args .at))
 
@@ -211,7 +215,7 @@ walk-move-perform-requires t c κs =
     let m = s .pre .1 .0 in
     let move = m .move in
     let chosen = m .chosen in
-    (move .here .given .shape, (move .due, (omega (arith, ap (λ (l : List ℕ). getD l (s .args .k) 0) (m .isDone), move .few), (chosen .ready .arrays .sized, chosen .ready .arrays .classed .size))))
+    (move .here .given .shape, (move .due, chosen .ready .arrays .classed .size))
 
 walk-move-mul-bytes : (t : ℕ) → walk-move-lts.Need-mul-bytes (walk-move-env t) (walk-move-at t) walk-move.Post
 walk-move-mul-bytes t c =
@@ -229,9 +233,17 @@ walk-move-add-bytes t c =
     let chosen = m .chosen in
     record { fits = omega (arith, of-move.few-chosen move chosen) }
 
+walk-move-advance-requires : (t : ℕ) → walk-move-lts.Need-advance-requires (walk-move-env t) (walk-move-at t) walk-move.Post
+walk-move-advance-requires t c κs =
+    let s = c .before .before .before .before .before .before .before .before .before .before in
+    let m = s .pre .1 .0 in
+    let move = m .move in
+    let chosen = m .chosen in
+    (omega (arith, move .here .given .runs .few, move .due .isRun), omega (arith, ap (λ (l : List ℕ). getD l (s .args .k) 0) (m .isDone), move .few))
+
 walk-move-add-walk : (t : ℕ) → walk-move-lts.Need-add-walk (walk-move-env t) (walk-move-at t) walk-move.Post
 walk-move-add-walk t c =
-    let s = c .before .before .before .before .before .before .before .before .before .before in
+    let s = c .before .before .before .before .before .before .before .before .before .before .before in
     let m = s .pre .1 .0 in
     let move = m .move in
     let chosen = m .chosen in
@@ -239,18 +251,19 @@ walk-move-add-walk t c =
 
 walk-move-walk-requires : (t : ℕ) → walk-move-lts.Need-walk-requires (walk-move-env t) (walk-move-at t) walk-move.Post
 walk-move-walk-requires t c κs =
-    let s = c .before .before .before .before .before .before .before .before .before .before in
+    let s = c .before .before .before .before .before .before .before .before .before .before .before in
     let m = s .pre .1 .0 in
     let move = m .move in
     let chosen = m .chosen in
-    let p = of-move.performed-yes (c .before .before .before .before .perform .ensures (m .sc) (m .d) (m .s) (m .a) (m .vs) (move .next) (m .isDone) (chosen .ready) (chosen .only)) (c .before .before .before .if1 .taken) in
+    let many : length (s .args .done) ≡ 4 = search (needs, s .good .1 .1 .1 .1 .1 .0) in
+    let p = of-move.performed-yes (c .before .before .before .before .before .perform .ensures (m .sc) (m .d) (m .s) (m .a) (m .vs) _ (move .next) (sym (ap length (m .isDone)) ∙ many) (chosen .ready) (chosen .only)) (c .before .before .before .before .if1 .taken) (m .isDone) (c .advance .ensures) in
     let start = ap (λ (b : ℕ). s .args .at + b) (of-move.step-size move chosen refl) in
     let here = of-move.move-here move chosen (p .1) (p .2) start in
     (omega (arith, s .pre .0), ((m .sc, p .0, _, here), s .pre .1 .1))
 
 walk-move-add-write-step : (t : ℕ) → walk-move-lts.Need-add-write-step (walk-move-env t) (walk-move-at t) walk-move.Post
 walk-move-add-write-step t c =
-    let s = c .before .before .before .before .before .before .before .before .before .before .before .before .before .before .before .before .before in
+    let s = c .before .before .before .before .before .before .before .before .before .before .before .before .before .before .before .before .before .before in
     let m = s .pre .1 .0 in
     let move = m .move in
     let chosen = m .chosen in
@@ -258,11 +271,12 @@ walk-move-add-write-step t c =
 
 walk-move-write-step-requires : (t : ℕ) → walk-move-lts.Need-write-step-requires (walk-move-env t) (walk-move-at t) walk-move.Post
 walk-move-write-step-requires t c κs =
-    let s = c .before .before .before .before .before .before .before .before .before .before .before .before .before .before .before .before .before in
+    let s = c .before .before .before .before .before .before .before .before .before .before .before .before .before .before .before .before .before .before in
     let m = s .pre .1 .0 in
     let move = m .move in
     let chosen = m .chosen in
-    let p = of-move.performed-yes (c .before .before .before .before .before .before .before .before .before .before .before .perform .ensures (m .sc) (m .d) (m .s) (m .a) (m .vs) (move .next) (m .isDone) (chosen .ready) (chosen .only)) (c .before .before .before .before .before .before .before .before .before .before .if1 .taken) in
+    let many : length (s .args .done) ≡ 4 = search (needs, s .good .1 .1 .1 .1 .1 .0) in
+    let p = of-move.performed-yes (c .before .before .before .before .before .before .before .before .before .before .before .before .perform .ensures (m .sc) (m .d) (m .s) (m .a) (m .vs) _ (move .next) (sym (ap length (m .isDone)) ∙ many) (chosen .ready) (chosen .only)) (c .before .before .before .before .before .before .before .before .before .before .before .if1 .taken) (m .isDone) (c .before .before .before .before .before .before .before .advance .ensures) in
     let start = ap (λ (b : ℕ). s .args .at + b) (of-move.step-size move chosen refl) in
     let here = of-move.move-here move chosen (p .1) (p .2) start in
     let finds = c .before .before .before .before .before .before .walk .ensures (m .sc) (p .0) _ here in
@@ -272,11 +286,12 @@ walk-move-write-step-requires t c κs =
 
 walk-move-longer-requires : (t : ℕ) → walk-move-lts.Need-longer-requires (walk-move-env t) (walk-move-at t) walk-move.Post
 walk-move-longer-requires t c κs =
-    let s = c .before .before .before .before .before .before .before .before .before .before .before .before .before .before .before .before .before .before .before .before in
+    let s = c .before .before .before .before .before .before .before .before .before .before .before .before .before .before .before .before .before .before .before .before .before in
     let m = s .pre .1 .0 in
     let move = m .move in
     let chosen = m .chosen in
-    let p = of-move.performed-yes (c .before .before .before .before .before .before .before .before .before .before .before .before .before .before .perform .ensures (m .sc) (m .d) (m .s) (m .a) (m .vs) (move .next) (m .isDone) (chosen .ready) (chosen .only)) (c .before .before .before .before .before .before .before .before .before .before .before .before .before .if1 .taken) in
+    let many : length (s .args .done) ≡ 4 = search (needs, s .good .1 .1 .1 .1 .1 .0) in
+    let p = of-move.performed-yes (c .before .before .before .before .before .before .before .before .before .before .before .before .before .before .before .perform .ensures (m .sc) (m .d) (m .s) (m .a) (m .vs) _ (move .next) (sym (ap length (m .isDone)) ∙ many) (chosen .ready) (chosen .only)) (c .before .before .before .before .before .before .before .before .before .before .before .before .before .before .if1 .taken) (m .isDone) (c .before .before .before .before .before .before .before .before .before .before .advance .ensures) in
     let start = ap (λ (b : ℕ). s .args .at + b) (of-move.step-size move chosen refl) in
     let here = of-move.move-here move chosen (p .1) (p .2) start in
     let finds = c .before .before .before .before .before .before .before .before .before .walk .ensures (m .sc) (p .0) _ here in
@@ -285,8 +300,9 @@ walk-move-longer-requires t c κs =
 
 walk-move-returns : (t : ℕ) → walk-move-lts.Need-returns (walk-move-env t) (walk-move-at t) walk-move.Post
 walk-move-returns t c sc d s′ ms a vs move same chosen =
-    let s = c .before .before .before .before .before .before .before .before .before .before .before .before .before .before .before .before .before .before .before .before .before in
-    let p = of-move.performed-yes (c .before .before .before .before .before .before .before .before .before .before .before .before .before .before .before .perform .ensures sc d s′ a vs (move .next) same (chosen .ready) (chosen .only)) (c .before .before .before .before .before .before .before .before .before .before .before .before .before .before .if1 .taken) in
+    let s = c .before .before .before .before .before .before .before .before .before .before .before .before .before .before .before .before .before .before .before .before .before .before in
+    let many : length (s .args .done) ≡ 4 = search (needs, s .good .1 .1 .1 .1 .1 .0) in
+    let p = of-move.performed-yes (c .before .before .before .before .before .before .before .before .before .before .before .before .before .before .before .before .perform .ensures sc d s′ a vs _ (move .next) (sym (ap length same) ∙ many) (chosen .ready) (chosen .only)) (c .before .before .before .before .before .before .before .before .before .before .before .before .before .before .before .if1 .taken) same (c .before .before .before .before .before .before .before .before .before .before .before .advance .ensures) in
     let start = ap (λ (b : ℕ). s .args .at + b) (of-move.step-size move chosen refl) in
     let here = of-move.move-here move chosen (p .1) (p .2) start in
     let finds = c .before .before .before .before .before .before .before .before .before .before .walk .ensures sc (p .0) _ here in
@@ -295,8 +311,9 @@ walk-move-returns t c sc d s′ ms a vs move same chosen =
 
 walk-move-returns-2 : (t : ℕ) → walk-move-lts.Need-returns-2 (walk-move-env t) (walk-move-at t) walk-move.Post
 walk-move-returns-2 t c sc d s′ ms a vs move same chosen =
-    let s = c .before .before .before .before .before .before .before .before .before .before .before .before .before .before .before .before in
-    let p = of-move.performed-yes (c .before .before .before .before .before .before .before .before .before .before .perform .ensures sc d s′ a vs (move .next) same (chosen .ready) (chosen .only)) (c .before .before .before .before .before .before .before .before .before .if1 .taken) in
+    let s = c .before .before .before .before .before .before .before .before .before .before .before .before .before .before .before .before .before in
+    let many : length (s .args .done) ≡ 4 = search (needs, s .good .1 .1 .1 .1 .1 .0) in
+    let p = of-move.performed-yes (c .before .before .before .before .before .before .before .before .before .before .before .perform .ensures sc d s′ a vs _ (move .next) (sym (ap length same) ∙ many) (chosen .ready) (chosen .only)) (c .before .before .before .before .before .before .before .before .before .before .if1 .taken) same (c .before .before .before .before .before .before .advance .ensures) in
     let start = ap (λ (b : ℕ). s .args .at + b) (of-move.step-size move chosen refl) in
     let here = of-move.move-here move chosen (p .1) (p .2) start in
     let finds = c .before .before .before .before .before .walk .ensures sc (p .0) _ here in
@@ -305,8 +322,9 @@ walk-move-returns-2 t c sc d s′ ms a vs move same chosen =
 
 walk-move-returns-3 : (t : ℕ) → walk-move-lts.Need-returns-3 (walk-move-env t) (walk-move-at t) walk-move.Post
 walk-move-returns-3 t c sc d s′ ms a vs move same chosen =
-    let s = c .before .before .before .before .before .before .before .before .before .before .before .before .before .before .before in
-    let p = of-move.performed-yes (c .before .before .before .before .before .before .before .before .before .perform .ensures sc d s′ a vs (move .next) same (chosen .ready) (chosen .only)) (c .before .before .before .before .before .before .before .before .if1 .taken) in
+    let s = c .before .before .before .before .before .before .before .before .before .before .before .before .before .before .before .before in
+    let many : length (s .args .done) ≡ 4 = search (needs, s .good .1 .1 .1 .1 .1 .0) in
+    let p = of-move.performed-yes (c .before .before .before .before .before .before .before .before .before .before .perform .ensures sc d s′ a vs _ (move .next) (sym (ap length same) ∙ many) (chosen .ready) (chosen .only)) (c .before .before .before .before .before .before .before .before .before .if1 .taken) same (c .before .before .before .before .before .advance .ensures) in
     let start = ap (λ (b : ℕ). s .args .at + b) (of-move.step-size move chosen refl) in
     let here = of-move.move-here move chosen (p .1) (p .2) start in
     let finds = c .before .before .before .before .walk .ensures sc (p .0) _ here in
@@ -316,7 +334,8 @@ walk-move-returns-3 t c sc d s′ ms a vs move same chosen =
 walk-move-returns-4 : (t : ℕ) → walk-move-lts.Need-returns-4 (walk-move-env t) (walk-move-at t) walk-move.Post
 walk-move-returns-4 t c sc d s′ ms a vs move same chosen =
     let s = c .before .before .before .before .before .before .before in
-    of-move.move-refused move chosen (s .args .left) (s .args .depth) (c .before .perform .ensures sc d s′ a vs (move .next) same (chosen .ready) (chosen .only)) (c .if1 .left) (s .args .trace .now)
+    let many : length (s .args .done) ≡ 4 = search (needs, s .good .1 .1 .1 .1 .1 .0) in
+    of-move.move-refused move chosen (s .args .left) (s .args .depth) (c .before .perform .ensures sc d s′ a vs _ (move .next) (sym (ap length same) ∙ many) (chosen .ready) (chosen .only)) (c .if1 .left) (s .args .trace .now)
 
 walk-run-returns : (t : ℕ) → walk-run-lts.Need-returns (walk-run-env t) (walk-run-at t) walk-run.Post
 walk-run-returns t c sc d ms here = let s = c .before .before .before .before .before .before .before in of-run.run-over here (s .args .k) (s .pre .1 .1 .1 .1) (c .if1 .taken) (s .args .left) (s .args .depth) (s .args .trace .now)
@@ -729,15 +748,13 @@ pub +walk+walk-move+walk-run+walk-values-spec : {M : Type 1} → statement M
     walk-Inv-loop
     walk-μ-loop
     (walk-returns t)
-    (λ c κs. search needs)
+    (walk-broken-requires t)
     (λ c. search needs)
     (λ c κs. search needs)
     (walk-returns-2 t)
     (λ c. search needs)
     (walk-returns-3 t)
     (walk-loop-holds t)
-    (λ c. search needs)
-    (λ c. search needs)
     (λ c. search needs)
     (λ c. search needs)
     (walk-walk-run-requires t)
@@ -761,6 +778,7 @@ pub +walk+walk-move+walk-run+walk-values-spec : {M : Type 1} → statement M
     (walk-move-perform-requires t)
     (walk-move-mul-bytes t)
     (walk-move-add-bytes t)
+    (walk-move-advance-requires t)
     (walk-move-add-walk t)
     (walk-move-walk-requires t)
     (λ c. search needs)
