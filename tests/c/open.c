@@ -1,22 +1,7 @@
 /* Open called from C: acceptance, and a refusal's number and place. */
-#include <stdio.h>
-#include <stdlib.h>
 #include <string.h>
 
-#include "tejorva.h"
-
-static int failures = 0;
-
-static void expect(const char *what, int holds) {
-    if (!holds) {
-        printf("not so: %s\n", what);
-        failures++;
-    }
-}
-
-static int is_refused(uint64_t answer, unsigned number, uint64_t place) {
-    return tejorva_word(answer) == TEJORVA_REFUSED && tejorva_number(answer) == number && tejorva_place(answer) == place;
-}
+#include "expect.h"
 
 /* The answer to P1 with one byte changed, which leaves the file as it was lent. */
 static uint64_t changed(size_t at, uint8_t value) {
@@ -43,5 +28,5 @@ int main(void) {
     expect("a repeated row: 5 at the row", is_refused(changed(11, 0), 5, 10));
     expect("an unknown event: 6 at the record", is_refused(changed(29, 9), 6, 24));
     expect("a run of an absent role: 8 at the run", is_refused(changed(41, 2), 8, 41));
-    return failures == 0 ? EXIT_SUCCESS : EXIT_FAILURE;
+    return outcome();
 }

@@ -1,24 +1,9 @@
 /* Replay called from C: a broken claim, none, and a refusal's number and place. */
-#include <stdio.h>
-#include <stdlib.h>
 #include <string.h>
 
-#include "tejorva.h"
+#include "expect.h"
 
-static int failures = 0;
-
-static void expect(const char *what, int holds) {
-    if (!holds) {
-        printf("not so: %s\n", what);
-        failures++;
-    }
-}
-
-static int is_refused(uint64_t answer, unsigned number, uint64_t place) {
-    return tejorva_word(answer) == TEJORVA_REFUSED && tejorva_number(answer) == number && tejorva_place(answer) == place;
-}
-
-/* The answer to a trace through P1, a send of a nonce and its claim, which leaves file and trace as they were lent. */
+/* The answer to a trace through P1, a send of a local constant and its claim, which leaves file and trace as they were lent. */
 static uint64_t replayed(const uint8_t *steps, size_t length) {
     static const uint8_t p1[] = {1, 0, 0, 0, 100, 0, 15, 1, 0, 0, 1, 1, 0, 5, 0, 0, 5, 1, 0, 7, 0, 0, 0, 15, 3,
                                  2, 3, 4, 2, 0, 1, 1, 4, 2, 2, 0, 4, 0, 0, 0, 3, 0, 0, 1, 0, 0};
@@ -45,5 +30,5 @@ int main(void) {
     expect("a send with a value: 12", is_refused(replayed(value, 4), 12, 0));
     expect("an absent run: 12", is_refused(replayed(other, 2), 12, 0));
     expect("no file: as Open", is_refused(tejorva_replay(NULL, 0, NULL, 0), 1, 0));
-    return failures == 0 ? EXIT_SUCCESS : EXIT_FAILURE;
+    return outcome();
 }

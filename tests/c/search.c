@@ -1,24 +1,9 @@
 /* Search called from C: every word of its answer, the trace at the buffer's front, and buffers left as they were. */
-#include <stdio.h>
-#include <stdlib.h>
 #include <string.h>
 
-#include "tejorva.h"
+#include "expect.h"
 
-static int failures = 0;
-
-static void expect(const char *what, int holds) {
-    if (!holds) {
-        printf("not so: %s\n", what);
-        failures++;
-    }
-}
-
-static int is_refused(uint64_t answer, unsigned number, uint64_t place) {
-    return tejorva_word(answer) == TEJORVA_REFUSED && tejorva_number(answer) == number && tejorva_place(answer) == place;
-}
-
-/* P1: one role sends its nonce in the clear and claims it secret. P2: it sends it under the public key of role 1. */
+/* P1: one role sends its local constant in the clear and claims it secret. P2: it sends it under the public key of role 1. */
 static const uint8_t p1[] = {1, 0, 0, 0, 100, 0, 15, 1, 0, 0, 1, 1, 0, 5, 0, 0, 5, 1, 0, 7, 0, 0, 0, 15, 3,
                              2, 3, 4, 2, 0, 1, 1, 4, 2, 2, 0, 4, 0, 0, 0, 3, 0, 0, 1, 0, 0};
 static const uint8_t p2[] = {1, 0, 0, 0, 100, 0, 21, 1, 0, 0, 1, 1, 0, 5, 0, 0, 5, 1, 0, 7, 0, 0, 8, 3, 0, 12, 4,
@@ -114,5 +99,5 @@ int main(void) {
     refused("127 bytes of buffer: 10 at 127", 4, 100, 127, 10, 127);
     refused("no buffer: 10 at 0", 4, 100, 0, 10, 0);
     refused("Open's refusals come before 10", 7, 99, 0, 4, 7);
-    return failures == 0 ? EXIT_SUCCESS : EXIT_FAILURE;
+    return outcome();
 }
