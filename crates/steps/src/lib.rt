@@ -1,8 +1,14 @@
 // One step of a trace: whether it is allowed, and the state after it.
+ghost use mathlib.Core.Path.{_≡_};
+ghost use Prim.Native.Nat.{_<_};
+ghost use lib.ListN.{length};
 ghost use Rattle.semantics.specs.Scenario.{Scenario};
 ghost use Rattle.semantics.specs.State as definitions;
+ghost use Rattle.rows.specs.Rows.{rowsOf};
+ghost use Rattle.cells.specs.Cells.{Shape, cellCount};
 ghost use Rattle.state.specs.State.{Given, IsState};
-ghost use Rattle.steps.specs.Steps.{StepDone};
+ghost use Rattle.steps.specs.Steps.{StepDone, Worked};
+use runs::RunEvent;
 use runs::Runs;
 use state::State;
 
@@ -11,6 +17,26 @@ pub struct Stepped {
     pub allowed: bool,
     pub length: usize,
     pub state: State,
+}
+
+// The marks for the event of run k with its new values, and its classes: worked on for a read, which alone has new values.
+fn worked(
+    classes: &mut [u16],
+    marks: [bool; 480],
+    names: &[u16],
+    t: &[u8],
+    n: usize,
+    runs: usize,
+    k: usize,
+    e: RunEvent,
+) -> [bool; 480]
+    requires { ⌜ Shape (now t) n runs × ((length (now classes) ≡ cellCount) × ((length (now names) ≡ cellCount) × (k < runs))) ⌝ }
+    ensures { λ more. ⌜ Worked (rowsOf (now (t .entry))) runs k (e .kind) (now (names .entry)) (now (classes .entry)) marks (now (classes .exit)) more ⌝ }
+{
+    if e.kind == 1 {
+        return state::with_names(&mut classes[..], marks, names, t, n, runs, k + 1);
+    }
+    marks
 }
 
 // The step at the front of some bytes: run, count of new values, two bytes for each.
@@ -64,7 +90,7 @@ pub fn step(file: &[u8], t: &[u8], n: usize, r: Runs, s: State, trace: &[u8]) ->
         let before = s.done;
         let marks = s.marks;
         let mut classes = s.classes;
-        let more = state::with_names(&mut classes, marks, &names, t, n, r.count, k + 1);
+        let more = worked(&mut classes, marks, &names, t, n, r.count, k, e);
         let moved = state::perform(&classes, more, t, n, r.count, k, e);
         let after = moved.marks;
         let done = state::advance(before, k);

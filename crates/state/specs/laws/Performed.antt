@@ -83,6 +83,10 @@ module _ {t : List ℕ} {runs k : ℕ} {e : RunEvent} {sc : Scenario} {d : State
   pub none-ready : Ready sc d a [] (s .names) (s .classes) (s .marks)
   none-ready = record { arrays = same-arrays (next .isState .arrays); valued = same-standing }
 
+  -- and so are its classes and marks with any names that are
+  pub kept-ready : {names : List ℕ} → Sets sc d a [] names → Ready sc d a [] names (s .classes) (s .marks)
+  kept-ready sets = record { arrays = record { named = sets .named; sized = sets .size; classed = none-ready .arrays .classed; exact = none-ready .arrays .exact; celled = none-ready .arrays .celled }; valued = sets .valued }
+
   pub none-set : Sets sc d a [] (s .names)
   none-set = record { size = none-ready .arrays .sized; named = none-ready .arrays .named; valued = same-standing }
 

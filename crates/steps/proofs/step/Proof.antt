@@ -10,8 +10,7 @@ use Rattle.semantics.specs.State as definitions
 use Rattle.semantics.specs.State.{Active, active}
 use Rattle.state.specs.State.{Given, IsState}
 use Rattle.state.specs.laws.Active.{active-zero, active-high, run-ended, Coming, run-coming, coming-move, coming-due}
-use Rattle.state.specs.laws.Performed.{grown-ready}
-use Rattle.steps.specs.laws.Steps.{refuses-short, refuses-cut, refuses-inactive, refuses-unsuited, suited-sets, step-performed, suited-none}
+use Rattle.steps.specs.laws.Steps.{refuses-short, refuses-cut, refuses-inactive, refuses-unsuited, suited-sets, step-performed, suited-none, worked-ready}
 use Rattle.steps.proofs.step.Statement.{statement}
 use Rattle.steps.proofs.step.Tie as tie
 
@@ -59,12 +58,12 @@ valued-requires c κs =
     let due = coming-due given (p .pre .3) _ low (co .0) (co .1) ev in
     (given .shape, (due .isRun, due .term))
 
-slice-aggregate-with-names : tie.Need-slice-aggregate-with-names
-slice-aggregate-with-names c =
+slice-aggregate-worked : tie.Need-slice-aggregate-worked
+slice-aggregate-worked c =
     search (needs, c .before .before .before .before .before .before .before .before .before .before .before .before .before .before .before .before .before .before .before .before .before .before .before .pre .3 .arrays .classed .size)
 
-with-names-requires : tie.Need-with-names-requires
-with-names-requires c κs =
+worked-requires : tie.Need-worked-requires
+worked-requires c κs =
     let p = c .before .before .before .before .before .before .before .before .before .before .before .before .before .before .before .before .before .before .before .before .before .before .before .before in
     let given = p .pre .2 in
     let names : length (c .before .before .before .before .before .before .before .valued .result .names) ≡ 480 = search (needs, c .before .before .before .before .before .before .before .valued .ok) in
@@ -77,7 +76,7 @@ perform-requires c κs =
     let low = run-low (c .before .before .before .before .before .before .before .before .before .before .before .before .before .before .before .before .before .if3 .left) (c .before .before .before .before .before .before .before .before .before .before .before .before .before .before .before .before .if4 .left) in
     let co = run-coming given (p .pre .3) _ low (c .before .before .before .before .before .before .before .before .before .before .before .before .before .if5 .left) in
     let ev = c .before .before .before .before .before .before .before .before .before .before .before .before .event-of .ensures (p .pre .0) (co .0 .run) (co .0 .event) (given .runs) (given .good) (co .1 .ofRun) (co .1 .ofEvent) in
-    let classes : length (c .before .before .with-names .last .0) ≡ 480 = search (needs, c .before .before .with-names .kept, p .pre .3 .arrays .classed .size) in
+    let classes : length (c .before .before .worked .last .0) ≡ 480 = search (needs, c .before .before .worked .kept, p .pre .3 .arrays .classed .size) in
     (given .shape, (coming-due given (p .pre .3) _ low (co .0) (co .1) ev, classes))
 
 advance-requires : tie.Need-advance-requires
@@ -97,8 +96,7 @@ returns-6 c sc d given state =
     let isActive = ap (active sc d) (sym (run-number (c .before .before .before .before .before .before .before .before .before .before .before .before .before .before .before .before .before .before .before .before .if3 .left))) ∙ co .1 .isActive in
     let values = take (2 + 2 * c .before .before .before .before .before .before .before .before .before .before .before .before .before .before .before .before .before .before .before .before .before .before .wide2 .result - 2) (drop 2 (p .args .trace .now)) in
     let sets = suited-sets sc d (p .args .trace .now) (p .args .t5) (c .before .before .before .before .before .before .before .before .before .before .before .before .before .before .before .before .before .before .before .before .before .before .before .before .before .before .if1 .left) (c .before .before .before .before .before .before .before .before .before .before .before .before .before .before .before .before .before .before .before .before .before .before .wide2 .ensures .0) refl (c .before .before .before .before .before .before .before .before .before .before .before .before .before .before .before .before .before .before .before .before .before .if2 .left) (c .before .before .before .before .before .before .before .before .before .before .before .before .before .before .before .before .before .before .before .before .before .before .before .before .wide .ensures .0) isActive _ refl _ suited (c .before .before .before .before .before .before .before .before .before .before .before .before .if6 .taken) in
-    let grown = c .before .before .before .before .before .with-names .ensures in
-    let ready = grown-ready next (given .shape) (coming-due given state _ low (co .0) (co .1) ev) _ _ (sets .1) (grown .0) (grown .1) in
+    let ready = worked-ready next (given .shape) (coming-due given state _ low (co .0) (co .1) ev) _ _ (sets .1) (suited-none next values (sets .0)) (c .before .before .before .before .before .worked .ensures) in
     let many : length (p .args .t5 .done) ≡ 4 = search (needs, p .good .1 .1 .1 .1 .0) in
     step-performed sc d _ (p .args .t5) (c .before .before .before .before .before .before .before .before .before .before .before .before .before .before .before .before .before .before .before .before .before .before .before .before .before .before .if1 .left) (c .before .before .before .before .before .before .before .before .before .before .before .before .before .before .before .before .before .before .before .before .before .before .wide2 .ensures .0) refl (c .before .before .before .before .before .before .before .before .before .before .before .before .before .before .before .before .before .before .before .before .before .if2 .left) (c .before .before .before .before .before .before .before .before .before .before .before .before .before .before .before .before .before .before .before .before .before .before .before .before .wide .ensures .0) isActive _ refl _ suited (c .before .before .before .before .before .before .before .before .before .before .before .before .if6 .taken) _ _ _ _ _
     (c .before .before .perform .ensures sc d (p .args .t5) (co .0) _ _ next many ready (suited-none next values (sets .0))) (c .advance .ensures)
@@ -117,4 +115,4 @@ pub step-spec : {M : Type 1} → statement M
 step-spec =
     tie.close
     (tie.spec
-    returns (λ c. search needs) (λ c κs. search needs) (λ c. search needs) (λ c κs. search needs) (λ c. search needs) (λ c. search needs) returns-2 returns-3 returns-4 (λ c. search needs) (λ c. search needs) (λ c. search needs) (λ c. search needs) (λ c. search needs) returns-5 event-of-requires (λ c. search needs) (λ c. search needs) (λ c. search needs) valued-requires slice-aggregate-with-names (λ c. search (needs, c .before .before .before .before .before .before .before .valued .ok)) (λ c. search needs) with-names-requires (λ c. search needs) perform-requires advance-requires returns-6 returns-7)
+    returns (λ c. search needs) (λ c κs. search needs) (λ c. search needs) (λ c κs. search needs) (λ c. search needs) (λ c. search needs) returns-2 returns-3 returns-4 (λ c. search needs) (λ c. search needs) (λ c. search needs) (λ c. search needs) (λ c. search needs) returns-5 event-of-requires (λ c. search needs) (λ c. search needs) (λ c. search needs) valued-requires slice-aggregate-worked (λ c. search (needs, c .before .before .before .before .before .before .before .valued .ok)) worked-requires (λ c. search needs) perform-requires advance-requires returns-6 returns-7)

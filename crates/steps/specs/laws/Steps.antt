@@ -16,12 +16,15 @@ use Rattle.semantics.specs.Replay.{suits, after, valuesIn, firstStep}
 use Rattle.runs.specs.declared.RunEvent.{RunEvent}
 use Rattle.state.specs.declared.State.{State as CodeState}
 use Rattle.state.specs.declared.Moved.{Moved}
-use Rattle.state.specs.State.{IsState, NextMove, Sets, Performed, isAllowed, notAllowed}
+use Rattle.rows.specs.Rows.{rowsOf}
+use Rattle.cells.specs.Cells.{Shape}
+use Rattle.state.specs.State.{Due, IsState, NextMove, Sets, Ready, Performed, isAllowed, notAllowed}
+use Rattle.state.specs.laws.Performed.{grown-ready, kept-ready}
 use Rattle.choices.specs.declared.Choice.{Choice}
 use Rattle.choices.specs.Choices.{Suited, isSuited, notSuited}
 use Rattle.choices.specs.laws.Values.{only-none}
 use Rattle.steps.specs.declared.Stepped.{Stepped}
-use Rattle.steps.specs.Steps.{stepAfter, StepDone, isStep, noStep}
+use Rattle.steps.specs.Steps.{stepAfter, StepDone, isStep, noStep, Worked, forRead, forOther}
 
 -- a step that is cut short
 first-short : (bytes : List ℕ) → length bytes < 2 → firstStep bytes ≡ none
@@ -145,3 +148,9 @@ module _ (sc : Scenario) (d : State) (bytes : List ℕ) (s : CodeState) where
 pub suited-none : {t : List ℕ} {runs k : ℕ} {e : RunEvent} {sc : Scenario} {d : State} {s : CodeState} {a : Active} → NextMove t runs k e sc d s a → (values : List ℕ)
     → suits (sc .rows) (length (sc .runs)) (toSet sc a) (valuesIn values) ≡ true → (e .kind ≡ 1 → ⊥) → valuesIn values ≡ []
 suited-none next values h kind = only-none next kind values (valuesIn values) h
+
+-- classes and marks that were worked on are ready for the event
+pub worked-ready : {t : List ℕ} {n runs k : ℕ} {e : RunEvent} {sc : Scenario} {d : State} {s : CodeState} {a : Active} → NextMove t runs k e sc d s a → Shape t n runs → Due n runs k (e .own) (e .peer) (e .row) → (vs : List Value) (names : List ℕ)
+    → Sets sc d a vs names → ((e .kind ≡ 1 → ⊥) → vs ≡ []) → {classes : List ℕ} {marks : List Bool} → Worked (rowsOf t) runs k (e .kind) names (s .classes) (s .marks) classes marks → Ready sc d a vs names classes marks
+worked-ready next shape due vs names sets only (forRead kind refilled settled) = grown-ready next shape due vs names sets refilled settled
+worked-ready next shape due vs names sets only (forOther kind e f) = let z = only kind in rw (z, e, f) (kept-ready next (rw z at sets))
