@@ -212,7 +212,7 @@ impl<'a> System<'a> {
 const STEPS: usize = 32;
 
 /// A file and a trace through it.
-type Request = (Vec<u8>, Vec<u8>);
+pub type Request = (Vec<u8>, Vec<u8>);
 
 pub fn run() {
     println!("{:44} {:>13} {:>13}", "Replay, one trace of thirty-two steps", "proved", "Rust");
@@ -258,7 +258,7 @@ const NONCES: [u8; 4] = [4, 5, 6, 7];
 const VARIABLES: [u8; 4] = [8, 9, 10, 11];
 
 /// Two roles that exchange two nonces each under public keys, in four runs, and a trace in which each reads what the other sent.
-fn handshakes(random: &mut Random, most: usize) -> Request {
+pub fn handshakes(random: &mut Random, most: usize) -> Request {
     let [m, p, o, q] = NONCES;
     let [y, z, x, w] = VARIABLES;
     let mut rows: Vec<[u8; 3]> = vec![[1, 0, 0], [1, 1, 0], [5, 0, 0], [5, 1, 0]];
@@ -293,7 +293,7 @@ fn handshakes(random: &mut Random, most: usize) -> Request {
 }
 
 /// A role with eight sends of terms that share, in four runs that take turns.
-fn sends(random: &mut Random) -> Request {
+pub fn sends(random: &mut Random) -> Request {
     let mut rows: Vec<[u8; 3]> = vec![[1, 0, 0], [5, 0, 0]];
     rows.extend((0..8).map(|i| [7, i, 0]));
     let rows = filled(random, rows, 96);

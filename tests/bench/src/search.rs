@@ -1,6 +1,8 @@
 //! Search: the walk over a scenario's list with states by value, no state remembered; both sides in traces a second.
 use crate::knowledge::{self, cell, second, ABSENT};
 use crate::open;
+use crate::replay;
+use library::random::Random;
 
 const HELD: u64 = 1 << 60;
 const STOPPED: u64 = 2 << 60;
@@ -331,19 +333,31 @@ pub fn run() {
     case("Needham-Schroeder-Lowe, 3 runs", include_str!("../../../examples/needham-schroeder-lowe-3.hex"), 2, 20);
     case("Needham-Schroeder-Lowe, 4 runs", include_str!("../../../examples/needham-schroeder-lowe-4.hex"), 1, 2);
     case("six events in each of 2 runs", include_str!("../../../examples/andrew-2.hex"), 20, 30);
+    let mut random = Random::new(9);
+    timed("handshakes in 4 runs, 96 rows, 100,000 traces", &budgeted(replay::handshakes(&mut random, 96).0), 1, 3);
+    timed("sends of shared terms, 96 rows, 100,000", &budgeted(replay::sends(&mut random).0), 1, 3);
+}
+
+/// The file with a budget of 100,000.
+fn budgeted(mut file: Vec<u8>) -> Vec<u8> {
+    file[1..5].copy_from_slice(&100_000u32.to_be_bytes());
+    file
 }
 
 /// Times a file of the examples: so many calls in a round, and so many rounds of each side in turn. The ratio is that of the times.
 fn case(name: &str, text: &str, calls: usize, rounds: usize) {
-    let file = bytes(text);
+    timed(name, &bytes(text), calls, rounds);
+}
+
+fn timed(name: &str, file: &[u8], calls: usize, rounds: usize) {
     let (mut left, mut right) = ([0; 128], [0; 128]);
-    let answer = library::search(&file, &mut left);
-    assert_eq!(answer, search(&file, &mut right), "{name}: the two sides answer differently");
+    let answer = library::search(file, &mut left);
+    assert_eq!(answer, search(file, &mut right), "{name}: the two sides answer differently");
     assert_eq!(left, right, "{name}: the two sides write different traces");
     let mut best = [f64::MAX; 2];
     for _ in 0..rounds {
-        best[0] = best[0].min(crate::round(calls, &mut || library::search(&file, &mut left)));
-        best[1] = best[1].min(crate::round(calls, &mut || search(&file, &mut right)));
+        best[0] = best[0].min(crate::round(calls, &mut || library::search(file, &mut left)));
+        best[1] = best[1].min(crate::round(calls, &mut || search(file, &mut right)));
     }
     let traces = (answer & 0xffff_ffff) as f64;
     let speed = |nanoseconds: f64| traces / nanoseconds * 1e9;
