@@ -7,10 +7,10 @@ use std::path::Path;
 
 const CASES: &str = include_str!("../../cases/base.txt");
 
-/// P1: one role that sends its nonce in the clear and claims it secret.
+/// P1: one role that sends its local constant in the clear and claims it secret.
 const P1: &str = "0100000064000f010000010100050000050100070000000f03020304020001010402020004000000030000010000";
 
-/// P2: it sends the nonce under the public key of role 1.
+/// P2: it sends the constant under the public key of role 1.
 const P2: &str = "01000000640015010000010100050000050100070000080300\
     0c040500100402030405020001010602020004000000030000010000";
 
