@@ -51,6 +51,10 @@ module _ (bytes : List ℕ) (n runs : ℕ) (classes : List ℕ) (u : ℕ) where
   abbrev pub Followed : List ℕ → List ℕ → Bool → Type 0
   Followed before after answer = (s : Setting bytes n runs classes u) → Needed s before → (answer ≡ true) × Needed s after
 
+  -- where a row gets the value of a class, no need is refused, and each is met
+  abbrev pub NeedsMet : ℕ → ℕ → Bool → List ℕ → Type 0
+  NeedsMet r class met need = (s : Setting bytes n runs classes u) → Gets s r class → (met ≡ true) × Needed s need
+
   -- a row can get the value of a class
   abbrev pub CanGet : ℕ → ℕ → Type 0
   CanGet r class = (s : Setting bytes n runs classes u) × Gets s r class

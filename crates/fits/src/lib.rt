@@ -5,7 +5,7 @@ ghost use Prim.Native.Nat.{_<_, _≤_};
 ghost use lib.ListN.{length};
 ghost use Rattle.cells.specs.Cells.{Shape, cellCount};
 ghost use Rattle.knowledge.specs.Steps.{kindAt};
-ghost use Rattle.fits.specs.Fits.{Asked, Shared, Followed, CanGet};
+ghost use Rattle.fits.specs.Fits.{Asked, Shared, Followed, CanGet, NeedsMet};
 use cells::Cells;
 
 // Notes that row q of run u needs a class, unless it has or needs another already.
@@ -82,7 +82,39 @@ fn follow(
     share(need, t, n, runs, classes, u, q, y, w)
 }
 
-// Whether row r of run u can still get the value of a class: one pass from the row down.
+// What the rows need so that one of them gets the value of a class, and whether none of them is refused it.
+pub struct Needs {
+    pub met: bool,
+    pub rows: [u16; 96],
+}
+
+// What row r of run u and the rows below it need so that it gets the value of a class: one pass from the row down.
+pub fn needs_of(
+    t: &[u8],
+    n: usize,
+    runs: usize,
+    classes: &[u16],
+    u: usize,
+    r: usize,
+    class: u16,
+) -> Needs
+    requires { ⌜ Shape (now t) n runs × ((length (now classes) ≡ cellCount) × ((u ≤ runs) × (r < n))) ⌝ }
+    ensures { λ needs. ⌜ NeedsMet (now (t .entry)) n runs (now (classes .entry)) u r class (needs .met) (needs .rows) ⌝ }
+{
+    let mut need = [Cells::ABSENT; 96];
+    need[r] = class;
+    let mut q = r + 1;
+    while 0 < q {
+        q -= 1;
+        if follow(&mut need, t, n, runs, classes, u, q) {
+            continue;
+        }
+        return Needs { met: false, rows: need };
+    }
+    Needs { met: true, rows: need }
+}
+
+// Whether row r of run u can still get the value of a class.
 pub fn fits(
     t: &[u8],
     n: usize,
@@ -95,15 +127,6 @@ pub fn fits(
     requires { ⌜ Shape (now t) n runs × ((length (now classes) ≡ cellCount) × ((u ≤ runs) × (r < n))) ⌝ }
     ensures { λ b. ⌜ (CanGet (now (t .entry)) n runs (now (classes .entry)) u r class → b ≡ true) ⌝ }
 {
-    let mut need = [Cells::ABSENT; 96];
-    need[r] = class;
-    let mut q = r + 1;
-    while 0 < q {
-        q -= 1;
-        if follow(&mut need, t, n, runs, classes, u, q) {
-            continue;
-        }
-        return false;
-    }
-    true
+    let needs = needs_of(t, n, runs, classes, u, r, class);
+    needs.met
 }

@@ -1,2 +1,3 @@
 -- The laws of partial choices, with their proofs.
+pub mod Filled
 pub mod Refused

@@ -23,7 +23,9 @@ pub fn may_be_read(
     let peer = e.peer;
     if marks[own] {
         if marks[peer] {
-            return possible::possible(t, n, runs, classes, &marks, k + 1, e.row);
+            if possible::possible(t, n, runs, classes, &marks, k + 1, e.row) {
+                return completions::completes(t, n, runs, classes, &marks, k + 1, e.row);
+            }
         }
     }
     false

@@ -2,7 +2,7 @@
 use Prim.Native.Nat.{ℕ, zero, suc, _+_, _-_, _<_, _≤_}
 use native.Mathlib.Omega.{arith}
 use mathlib.Core.Path.{_≡_, refl, sym, ap, _∙_, fun-ext}
-use mathlib.Core.List.{List, [], _∷_, _++_, map, append-assoc, append-nil}
+use mathlib.Core.List.{List, [], _∷_, _++_, map, append-assoc, append-nil, List·Memᴰ, List·Memᴰ·head, List·Memᴰ·tail}
 use mathlib.Core.Option.{Option, none, some}
 use lib.ListN.{length}
 use Rattle.semantics.specs.Basic.{joined, presentOnes, mapped, numbersFrom}
@@ -12,6 +12,8 @@ use Rattle.semantics.specs.State.{Value, State, Active, active}
 use Rattle.semantics.specs.Moves.{Move, candidates, choices, performed, toSet, branch, movesOfRun, movesOf}
 use Rattle.semantics.specs.Tree.{listed}
 use Rattle.semantics.specs.Verdict.{Entry}
+use Rattle.semantics.specs.Allowed.{Takes}
+use Rattle.semantics.specs.laws.Moves.{mem-choices}
 use Rattle.semantics.specs.laws.Tree.{listed-zero, listed-suc}
 use Rattle.breaks.specs.Walk.{afterMove, below, branches}
 
@@ -115,10 +117,11 @@ module _ (sc : Scenario) (n : ℕ) where
     pub branches-refused : performed sc d a vs ≡ none → below sc n (branches sc d u a vs []) ≡ []
     branches-refused e = ap (below sc n) (alone ∙ ap (λ (o : Option State). presentOnes (mapped (branch u vs) o ∷ [])) e)
 
-    -- where no completion is allowed there is no branch
-    pub branches-pruned : (xs : List Atom) → ((ws : List Value) → performed sc d a (vs ++ ws) ≡ none) → below sc n (branches sc d u a vs xs) ≡ []
-    branches-pruned xs none-allowed = ap (below sc n) (go (choices (sc .rows) (length (sc .runs)) xs))
+    -- where no completion by values that the variables may take is allowed there is no branch
+    pub branches-pruned : (xs : List Atom) → ((ws : List Value) → Takes (sc .rows) (length (sc .runs)) xs ws → performed sc d a (vs ++ ws) ≡ none) → below sc n (branches sc d u a vs xs) ≡ []
+    branches-pruned xs none-allowed = ap (below sc n) (go (choices (sc .rows) (length (sc .runs)) xs) (λ ws m. none-allowed ws (mem-choices (sc .rows) (length (sc .runs)) xs .0 m)))
       where
-        go : (cs : List (List Value)) → presentOnes (map (λ ws. mapped (branch u (vs ++ ws)) (performed sc d a (vs ++ ws))) cs) ≡ []
-        go [] = refl
-        go (ws ∷ cs) = ap (λ (o : Option State). presentOnes (mapped (branch u (vs ++ ws)) o ∷ map (λ ws. mapped (branch u (vs ++ ws)) (performed sc d a (vs ++ ws))) cs)) (none-allowed ws) ∙ go cs
+        go : (cs : List (List Value)) → ((ws : List Value) → List·Memᴰ ws cs → performed sc d a (vs ++ ws) ≡ none) → presentOnes (map (λ ws. mapped (branch u (vs ++ ws)) (performed sc d a (vs ++ ws))) cs) ≡ []
+        go [] h = refl
+        go (ws ∷ cs) h =
+            ap (λ (o : Option State). presentOnes (mapped (branch u (vs ++ ws)) o ∷ map (λ ws. mapped (branch u (vs ++ ws)) (performed sc d a (vs ++ ws))) cs)) (h ws (List·Memᴰ·head refl)) ∙ go cs (λ x m. h x (List·Memᴰ·tail m))

@@ -19,7 +19,7 @@ use Rattle.classes.specs.laws.Kinds.{firstPart, secondPart, value-made}
 use Rattle.classes.specs.laws.Values.{cell-kept}
 use Rattle.knowledge.specs.Steps.{classAt, kindAt, leftAt, Inside}
 use Rattle.knowledge.specs.laws.Values.{Has, Standing, standsAtom, standsRow, has-value, stand, one-class}
-use Rattle.fits.specs.Fits.{Setting, ClassOf, Gets, Needed, Asked, Shared, Followed, CanGet, CanTake}
+use Rattle.fits.specs.Fits.{Setting, ClassOf, Gets, Needed, Asked, Shared, Followed, CanGet, CanTake, NeedsMet}
 
 -- a row has one value
 one-term : {o : Option Term} {t s : Term} → o ≡ some t → o ≡ some s → t ≡ s
@@ -31,7 +31,7 @@ module _ {bytes : List ℕ} {n runs : ℕ} {classes : List ℕ} {u : ℕ} (s : S
   class-one a b = a .4 ∙ one-class bytes n runs (s .shape) (s .old) classes (s .right) (a .2) (b .2) (a .3) (b .3) ∙ sym (b .4)
 
   -- so a row gets the value of one class only
-  gets-one : (q : ℕ) {c d : ℕ} → Gets s q c → Gets s q d → c ≡ d
+  pub gets-one : (q : ℕ) {c d : ℕ} → Gets s q c → Gets s q d → c ≡ d
   gets-one q a b = class-one (rw (one-term (a .1) (b .1)) at (a .2)) (b .2)
 
   -- a row with a class keeps it
@@ -152,9 +152,9 @@ module _ (bytes : List ℕ) (n runs : ℕ) (classes : List ℕ) (u r class : ℕ
   needs-more needs followed s g = followed s (needs s g) .1
 
   -- a row that is refused what it needs
-  pub needs-refused : {need after : List ℕ} {o : Bool} → Needs need → Followed bytes n runs classes u need after o → o ≡ false → (answer : Bool)
-      → CanGet bytes n runs classes u r class → answer ≡ true
-  needs-refused needs followed e answer g = absurd (false≢true (sym e ∙ followed (g .0) (needs (g .0) (g .1)) .0))
+  pub needs-refused : {need after : List ℕ} {o : Bool} → Needs need → Followed bytes n runs classes u need after o → o ≡ false → (met : Bool)
+      → NeedsMet bytes n runs classes u r class met after
+  needs-refused needs followed e met s g = absurd (false≢true (sym e ∙ followed s (needs s g) .0))
 
 module _ (bytes : List ℕ) (n runs : ℕ) (classes : List ℕ) (marks : List Bool) (u r y w : ℕ) {c : ℕ} (ec : c ≡ cellOf y w) where
   -- a marked cell that stands for its own value

@@ -11,10 +11,11 @@ use Rattle.semantics.specs.Term.{Atom}
 use Rattle.semantics.specs.Scenario.{Scenario}
 use Rattle.semantics.specs.State.{Value, State, Active, paired}
 use Rattle.semantics.specs.Moves.{setAfter, performed}
+use Rattle.semantics.specs.Allowed.{Takes}
 use Rattle.rows.specs.Rows.{rowsOf}
 use Rattle.cells.specs.Cells.{Shape, Readings}
 use Rattle.classes.specs.Classes.{Grows}
-use Rattle.knowledge.specs.Marks.{Derivable}
+use Rattle.knowledge.specs.Marks.{Exact, Celled, Derivable}
 use Rattle.runs.specs.declared.RunEvent.{RunEvent}
 use Rattle.state.specs.declared.State.{State as CodeState}
 use Rattle.state.specs.Readings.{setsOf, withSets, readings}
@@ -25,6 +26,8 @@ use Rattle.variables.specs.Variables.{unsetFrom}
 use Rattle.values.specs.Values.{partSets, Setting, PartArrays}
 use Rattle.values.specs.laws.Arrays.{part-grows}
 use Rattle.possible.specs.Possible.{Possible}
+use Rattle.completions.specs.Completions.{Completes}
+use Rattle.partial.specs.laws.Filled.{completion-setting, completion-filled}
 
 module _ {t : List ℕ} {n runs k : ℕ} {e : RunEvent} {sc : Scenario} {d : State} {s : CodeState} {a : Active} (shape : Shape t n runs) (due : Due n runs k (e .own) (e .peer) (e .row)) (from : ℕ) (xs : List Atom) (vs ws : List Value)
     {names classes : List ℕ} {marks : List Bool} (next : NextMove t runs k e sc d s a) (kind : e .kind ≡ 1) (setting : Setting sc d a (s .names) from xs vs names) (arrays : PartArrays sc d a xs vs names classes marks) where
@@ -62,3 +65,13 @@ module _ {t : List ℕ} {n runs k : ℕ} {e : RunEvent} {sc : Scenario} {d : Sta
   row-refused answer tests h =
       let p : Possible (sc .rows) (length (sc .runs)) classes marks (k + 1) (e .row) answer = rw (next .rows, ← next .count) tests in
       underived (λ o q r. true≢false (sym (p part full (d .known) (arrays .classed) (arrays .exact) (arrays .celled) completion-grows (r .0) (rw add-one (r .1)) (r .2)) ∙ h))
+
+  -- nor if the unset variables can get no values with which it derives
+  pub values-refused : Takes (sc .rows) (length (sc .runs)) (unsetFrom (sc .rows) (a .progress .values) (a .event .row) from) ws → (answer : Bool) → Completes t n runs classes marks (k + 1) (e .row) answer → answer ≡ false
+      → performed sc d a (vs ++ ws) ≡ none
+  values-refused takes answer tests h =
+      let isRead = kind-read _ (rw kind at (next .isEvent .kind)) in
+      let filled = completion-filled shape from xs vs ws next isRead setting arrays takes (due .isRun) completion-grows in
+      let exact : Exact (rowsOf t) runs part (d .known) marks = rw (← next .rows, next .count) (arrays .exact) in
+      let celled : Celled (rowsOf t) runs part (d .known) = rw (← next .rows, next .count) (arrays .celled) in
+      underived (λ o q r. true≢false (sym (tests (completion-setting shape from xs vs ws next isRead setting arrays takes (due .isRun) completion-grows) (d .known) exact celled filled (r .0) (rw (← next .rows, add-one) (r .1)) (r .2)) ∙ h))

@@ -11,10 +11,10 @@ use Rattle.rows.specs.Rows.{rowsOf}
 use Rattle.cells.specs.Cells.{cellOf, Readings, secondOf}
 use Rattle.cells.specs.laws.Cells.{left-lower, second-lower}
 use Rattle.classes.specs.laws.Kinds.{kindOf, firstPart, secondPart, value-made}
-use Rattle.knowledge.specs.Marks.{Exact, Celled}
+use Rattle.knowledge.specs.Marks.{Marked, Exact, Celled}
 use Rattle.knowledge.specs.Steps.{classAt, kindAt, leftAt, Inside}
 use Rattle.knowledge.specs.laws.Values.{Has, Standing, standsAtom, standsRow, stand, one-class, inside}
-use Rattle.fits.specs.Fits.{Setting, CanTake}
+use Rattle.fits.specs.Fits.{Setting, Gets}
 
 -- What is derivable: the value of a cell, or a pair or an encryption of what is derivable.
 data Known (bytes : List ℕ) (n runs : ℕ) (old : Readings) (known : List Term) : Term → Type 0 where
@@ -76,7 +76,7 @@ module _ {bytes : List ℕ} {n runs : ℕ} {classes : List ℕ} {u : ℕ} (s : S
 
     -- How the value of a row that is no atom derives: as the value of a marked cell, or from its parts.
     pub data Way (marks : List Bool) (r : ℕ) (t : Term) : Type 0 where
-      byMark : (y w : ℕ) → Inside n runs y w → kindAt bytes y ≡ kindAt bytes r → CanTake bytes n runs classes u marks r y w → Way marks r t
+      byMark : (y w : ℕ) → Inside n runs y w → kindAt bytes y ≡ kindAt bytes r → Marked marks y w → classAt classes y w ≡ cellOf y w → Gets s r (cellOf y w) → Way marks r t
       byParts : 11 ≤ kindOf t → Derives known (firstPart t) → Derives known (secondPart t) → Way marks r t
 
     pub way : {marks : List Bool} → Exact (rowsOf bytes) runs (s .old) known marks → Celled (rowsOf bytes) runs (s .old) known → (r : ℕ) → r < n → 8 ≤ kindAt bytes r
@@ -89,6 +89,6 @@ module _ {bytes : List ℕ} {n runs : ℕ} {classes : List ℕ} {u : ℕ} (s : S
             let m = value-made (s .shape) (z .2 .0) (s .old (z .1)) (z .4) (z .5) in
             let mark = exact (z .0) (z .1) (inside bytes n runs (s .shape) (s .old) classes (s .right) (z .2)) .1 (t, z .5, d) in
             let own = one-class bytes n runs (s .shape) (s .old) classes (s .right) (z .2) i (z .5) e ∙ z .3 in
-            byMark (z .0) (z .1) (z .2) (sym (m .kind) ∙ k) (mark, own, (s, (t, h, (x, w, i, e, sym (z .3)))))
+            byMark (z .0) (z .1) (z .2) (sym (m .kind) ∙ k) mark own (t, h, (x, w, i, e, sym (z .3)))
         go k h (ofPair a b) = byParts (omega arith) (known-derives a) (known-derives b)
         go k h (ofEncryption a b) = byParts (omega arith) (known-derives a) (known-derives b)

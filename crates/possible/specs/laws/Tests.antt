@@ -25,7 +25,7 @@ use Rattle.possible.specs.Tests.{Tested}
 use Rattle.possible.specs.laws.Known.{Way, byMark, byParts, way}
 
 -- no kind is higher than that of an encryption
-kind-most : (t : Term) → kindOf t ≤ 12
+pub kind-most : (t : Term) → kindOf t ≤ 12
 kind-most (atom a) = omega arith
 kind-most (pk t) = omega arith
 kind-most (sk t) = omega arith
@@ -34,7 +34,7 @@ kind-most (pair t k) = omega arith
 kind-most (encrypted t k) = omega arith
 
 -- the parts of a pair derive if it does
-pair-parts : {known : List Term} (t : Term) → kindOf t ≡ 11 → Derives known t → Derives known (firstPart t) × Derives known (secondPart t)
+pub pair-parts : {known : List Term} (t : Term) → kindOf t ≡ 11 → Derives known t → Derives known (firstPart t) × Derives known (secondPart t)
 pair-parts (atom a) e d = absurd (omega arith)
 pair-parts (pk t) e d = absurd (omega arith)
 pair-parts (sk t) e d = absurd (omega arith)
@@ -108,7 +108,7 @@ module _ (bytes : List ℕ) (n runs : ℕ) (shape : Shape bytes n runs) (classes
         s = record { shape = shape; run = run; old = old; new = new; right = right; grows = grows }
 
         go : Way s known marks r t → b ≡ true
-        go (byMark y w i k c) = takes y w i k c
+        go (byMark y w i k m o g) = takes y w i k (m, o, (s, g))
         go (byParts k x y) =
             let m = value-made shape low (new u) high h in
             let e : kindAt bytes r ≡ 12 = omega (arith, m .kind, kind-most t) in

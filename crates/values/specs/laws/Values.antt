@@ -36,7 +36,7 @@ use Rattle.variables.specs.laws.Unset.{unset-all}
 use Rattle.values.specs.Values.{partSets, Setting}
 
 -- a variable's reading is its value
-variable-reads : (rows : List Row) (u : ℕ) (run : Run) (sets : List (Atom × Value)) (a : Atom) → T (variableAtom a) → readingIn rows u run sets a ≡ andThen (assigned a sets) (termOf rows)
+pub variable-reads : (rows : List Row) (u : ℕ) (run : Run) (sets : List (Atom × Value)) (a : Atom) → T (variableAtom a) → readingIn rows u run sets a ≡ andThen (assigned a sets) (termOf rows)
 unfolding readingIn
 variable-reads rows u run sets (trusted n) h = absurd h
 variable-reads rows u run sets (untrusted n) h = absurd h
@@ -58,7 +58,7 @@ other-reads rows u run sets more (variable n t) h = ap (λ (o : Option Value). a
 other-reads rows u run sets more (local n w) h = refl
 
 -- a variable that stands for nothing is unset
-unset-none : (rows : List Row) (sets : List (Atom × Value)) → Standing rows sets → (a : Atom) → andThen (assigned a sets) (termOf rows) ≡ none → assigned a sets ≡ none
+pub unset-none : (rows : List Row) (sets : List (Atom × Value)) → Standing rows sets → (a : Atom) → andThen (assigned a sets) (termOf rows) ≡ none → assigned a sets ≡ none
 unset-none rows sets standing a e = go (assigned a sets) refl
   where
     go : (o : Option Value) → assigned a sets ≡ o → assigned a sets ≡ none

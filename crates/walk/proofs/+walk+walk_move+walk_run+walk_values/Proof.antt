@@ -471,7 +471,7 @@ walk-values-returns-2 : (t : ℕ) → walk-values-lts.Need-returns-2 (walk-value
 walk-values-returns-2 t c sc d s′ ms a xs vs move same isOwn choosing =
     let s = c .before .before .before .before .before .before .before .before .before .before .before in
     from-state.finds-nil sc (s .args .left)
-    (branches-pruned sc (s .args .depth) d (suc (s .args .k)) a vs _ (λ ws. c .before .may-be-read .ensures sc d s′ a (s .args .from) xs vs ws _ (move .next) (s .pre .1 .1 .1 .1 .1 .1) (choosing .setting) (choosing .arrays) (not-true _ (c .if2 .taken))))
+    (branches-pruned sc (s .args .depth) d (suc (s .args .k)) a vs _ (λ ws takes. c .before .may-be-read .ensures sc d s′ a (s .args .from) xs vs ws _ (move .next) (s .pre .1 .1 .1 .1 .1 .1) (choosing .setting) (choosing .arrays) takes (not-true _ (c .if2 .taken))))
     (s .args .trace .now) (s .args .at)
 
 walk-values-loop-holds : (t : ℕ) → walk-values-lts.Need-loop-holds (walk-values-env t) (walk-values-at t) walk-values.Post walk-values-Inv-loop walk-values-μ-loop

@@ -1,0 +1,53 @@
+-- `completions::narrowed` meets its contract. The loop's invariant: the domains so far miss no completion. The measure is how many variables are left. Assumes nothing.
+use Rattle.completions.specs.laws.Search.{kept-more}
+use Rattle.completions.specs.Completions.{Kept}
+use Prim.Native.Nat.{_-_, _≤_}
+use native.Mathlib.Omega.{arith}
+use borrow.Author.Needs.{needs}
+use Rattle.completions.proofs.narrowed.Statement.{statement}
+use Rattle.completions.proofs.narrowed.Tie as tie
+
+abbrev Inv-loop : tie.InvT-loop
+Inv-loop t n runs classes marks u vars marked below x less₀ i₀ less i = (i ≤ vars .count) × Kept t n runs classes marks u vars less₀ x less
+
+abbrev μ-loop : tie.MeasureT-loop
+μ-loop t n runs classes marks u vars marked below x less₀ i₀ less i = vars .count - i
+
+loop-holds : tie.Need-loop-holds Inv-loop μ-loop
+loop-holds c = (omega arith, λ k held d. held)
+
+hope-requires : tie.Need-hope-requires Inv-loop μ-loop
+hope-requires c κs =
+    let s = c .before .before .before .before .before .before .before in
+    (s .pre .0, (s .pre .1 .0, (c .before .if1 .taken, s .pre .1 .1)))
+
+narrow-requires : tie.Need-narrow-requires Inv-loop μ-loop
+narrow-requires c κs =
+    let s = c .before .before .before .before .before .before .before .before in
+    omega (arith, s .pre .0 .low .few, c .before .before .if1 .taken)
+
+loop-less : tie.Need-loop-less Inv-loop μ-loop
+loop-less c = omega (arith, c .before .before .before .if1 .taken)
+
+loop-again : tie.Need-loop-again Inv-loop μ-loop
+loop-again c =
+    let s = c .before .before .before .before .before .before .before .before .before in
+    let l = c .before .before .before .before .before .loop in
+    (omega (arith, c .before .before .before .if1 .taken), kept-more (s .pre .0) (s .args .dom) (s .args .x) (c .before .before .before .if1 .taken) (l .less) (c .before .hope .result) (c .narrow .result) (l .inv .1) (c .before .hope .ensures) (c .narrow .ensures))
+
+returns : tie.Need-returns Inv-loop μ-loop
+returns c = c .before .before .loop .inv .1
+
+pub narrowed-spec : {M : Type 1} → statement M
+narrowed-spec =
+    tie.close
+    (tie.spec
+    Inv-loop
+    μ-loop
+    loop-holds
+    hope-requires
+    narrow-requires
+    (λ c. search needs)
+    loop-less
+    loop-again
+    returns)

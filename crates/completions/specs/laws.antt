@@ -1,0 +1,3 @@
+-- The laws of completions, with their proofs.
+pub mod Rows
+pub mod Search

@@ -1,0 +1,34 @@
+-- `domains::values_of` meets its contract. The loop's invariant: the set has the classes of the values whose cell is below c.
+-- The measure is how many cells are left. Assumes nothing.
+use Prim.Native.Nat.{_-_, _≤_}
+use Rattle.domains.specs.laws.Values.{ListedTo, listed-more, listed-all}
+use native.Mathlib.Omega.{arith}
+use borrow.Author.Needs.{needs}
+use Rattle.domains.proofs.values_of.Statement.{statement}
+use Rattle.domains.proofs.values_of.Tie as tie
+
+abbrev Inv-loop : tie.InvT-loop
+Inv-loop t n runs classes marks only q set₀ c₀ set c = (c ≤ 480) × ListedTo t n runs classes marks only q c set
+
+abbrev μ-loop : tie.MeasureT-loop
+μ-loop t n runs classes marks only q set₀ c₀ set c = 480 - c
+
+loop-holds : tie.Need-loop-holds Inv-loop μ-loop
+loop-holds c = (omega arith, λ y w l. absurd (omega arith))
+
+loop-again : tie.Need-loop-again Inv-loop μ-loop
+loop-again c =
+    let l = c .before .before in
+    let s = l .before .before .before .before in
+    (omega (arith, c .before .loop-test .taken), listed-more (s .args .t .now) (s .args .n) (s .args .runs) (s .args .classes .now) (s .args .marks .now) (s .args .only) (s .args .q) (l .loop .inv .1) (c .with-value .ensures))
+
+returns : tie.Need-returns Inv-loop μ-loop
+returns c =
+    let l = c .before in
+    let s = l .before .before .before .before in
+    listed-all (s .args .t .now) (s .args .n) (s .args .runs) (s .args .classes .now) (s .args .marks .now) (s .args .only) (s .args .q) (l .loop .set) (s .pre .0) (c .loop-test .left) (l .loop .inv .1)
+
+pub values-of-spec : {M : Type 1} → statement M
+values-of-spec =
+    tie.close
+    (tie.spec Inv-loop μ-loop loop-holds (λ c κs. search needs) (λ c. search needs) (λ c. search needs) loop-again returns)

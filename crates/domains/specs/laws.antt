@@ -1,0 +1,3 @@
+-- The laws of domains, with their proofs.
+pub mod Sets
+pub mod Values

@@ -1,0 +1,3 @@
+-- What the memory of Search holds, and its laws.
+pub mod Memory
+pub mod laws
