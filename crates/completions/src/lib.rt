@@ -34,21 +34,33 @@ fn needs_at(
     let none = [Cells::ABSENT; 96];
     let y = c % 96;
     if n <= y {
-        return Needs { met: false, rows: none };
+        return Needs {
+            met: false,
+            rows: none,
+        };
     }
     let class = classes[c];
     if class as usize != c {
-        return Needs { met: false, rows: none };
+        return Needs {
+            met: false,
+            rows: none,
+        };
     }
     if rows::kind_of(t, y) != rows::kind_of(t, r) {
-        return Needs { met: false, rows: none };
+        return Needs {
+            met: false,
+            rows: none,
+        };
     }
     let needs = fits::needs_of(t, n, runs, classes, u, r, class);
     let need = needs.rows;
     if domains::fit(dom, vars, need) {
         return needs;
     }
-    Needs { met: false, rows: none }
+    Needs {
+        met: false,
+        rows: none,
+    }
 }
 
 // The set with the class that variable i needs, or with every class if it needs none.
@@ -101,7 +113,13 @@ fn matched(
 }
 
 // The classes that variable i gets where an unset variable is derivable: its own are those that are marked, and another must have one such class.
-fn leaf(dom: &[bool; 3840], marked: &[bool; 3840], vars: Variables, i: usize, r: usize) -> [bool; 480]
+fn leaf(
+    dom: &[bool; 3840],
+    marked: &[bool; 3840],
+    vars: Variables,
+    i: usize,
+    r: usize,
+) -> [bool; 480]
     requires { ⌜ (i < vars .count) × (vars .count ≤ 8) ⌝ }
     ensures { λ set. ⌜ ((t : List ℕ) (n runs : ℕ) (classes : List ℕ) (marks : List Bool) (u : ℕ) → Scene t n runs classes marks u vars → Open t n runs classes marks u vars (now (marked .entry)) → Hoped t n runs classes marks u vars (now (dom .entry)) i r (In set)) ⌝ }
 {
@@ -145,7 +163,12 @@ fn hope_at(
         return leaf(dom, marked, vars, i, r);
     }
     if kind == 11 {
-        return domains::join([false; 480], sets, rows::left_of(t, r), cells::second_of(t, r));
+        return domains::join(
+            [false; 480],
+            sets,
+            rows::left_of(t, r),
+            cells::second_of(t, r),
+        );
     }
     let set = matched(t, n, runs, classes, marks, u, vars, dom, i, r);
     if kind == 12 {
@@ -197,7 +220,17 @@ fn hope(
     domains::join([false; 480], &sets, x, x)
 }
 
-// The domains, each narrowed once to the classes that its variable gets where row x is derivable.
+// Whether variable i may get more than one class. The first is always looked at, since any shows that there is no completion.
+fn is_open(dom: &[bool; 3840], i: usize) -> bool
+    requires { ⌜ i < 8 ⌝ }
+{
+    if i == 0 {
+        return true;
+    }
+    1 < domains::size(dom, i)
+}
+
+// The domains, each that has more than one class narrowed once to those that its variable gets where row x is derivable.
 fn narrowed(
     dom: [bool; 3840],
     t: &[u8],
@@ -217,9 +250,24 @@ fn narrowed(
     let mut less = dom;
     let mut i = 0;
     while i < vars.count {
-        let set = hope(t, n, runs, classes, marks, u, vars, &less, marked, below, i, x);
-        let next = domains::narrow(less, i, set);
-        less = next;
+        if is_open(&less, i) {
+            let set = hope(
+                t,
+                n,
+                runs,
+                classes,
+                marks,
+                u,
+                vars,
+                &less,
+                marked,
+                below,
+                i,
+                x,
+            );
+            let next = domains::narrow(less, i, set);
+            less = next;
+        }
         i += 1;
     }
     less
@@ -399,7 +447,20 @@ fn completable(
             let mut one = [false; 480];
             one[c] = true;
             let only = domains::narrow(less, i, one);
-            if completable(only, t, n, runs, classes, marks, u, vars, marked, below, x, depth - 1) {
+            if completable(
+                only,
+                t,
+                n,
+                runs,
+                classes,
+                marks,
+                u,
+                vars,
+                marked,
+                below,
+                x,
+                depth - 1,
+            ) {
                 return true;
             }
         }
@@ -429,5 +490,18 @@ pub fn completes(
     }
     let dom = domains::domains(t, n, runs, classes, marks, false, vars);
     let marked = domains::domains(t, n, runs, classes, marks, true, vars);
-    completable(dom, t, n, runs, classes, marks, u, vars, &marked, &below, x, 8)
+    completable(
+        dom,
+        t,
+        n,
+        runs,
+        classes,
+        marks,
+        u,
+        vars,
+        &marked,
+        &below,
+        x,
+        8,
+    )
 }

@@ -109,9 +109,15 @@ pub fn needs_of(
         if follow(&mut need, t, n, runs, classes, u, q) {
             continue;
         }
-        return Needs { met: false, rows: need };
+        return Needs {
+            met: false,
+            rows: need,
+        };
     }
-    Needs { met: true, rows: need }
+    Needs {
+        met: true,
+        rows: need,
+    }
 }
 
 // Whether row r of run u can still get the value of a class.

@@ -1,6 +1,7 @@
 -- `completions::narrowed` meets its contract. The loop's invariant: the domains so far miss no completion. The measure is how many variables are left. Assumes nothing.
 use Rattle.completions.specs.laws.Search.{kept-more}
 use Rattle.completions.specs.Completions.{Kept}
+use mathlib.Core.Logic.{⊎-elim}
 use Prim.Native.Nat.{_-_, _≤_}
 use native.Mathlib.Omega.{arith}
 use borrow.Author.Needs.{needs}
@@ -16,15 +17,20 @@ abbrev μ-loop : tie.MeasureT-loop
 loop-holds : tie.Need-loop-holds Inv-loop μ-loop
 loop-holds c = (omega arith, λ k held d. held)
 
+is-open-requires : tie.Need-is-open-requires Inv-loop μ-loop
+is-open-requires c κs =
+    let s = c .before .before .before .before .before .before .before in
+    omega (arith, s .pre .0 .low .few, c .before .if1 .taken)
+
 hope-requires : tie.Need-hope-requires Inv-loop μ-loop
 hope-requires c κs =
-    let s = c .before .before .before .before .before .before .before in
-    (s .pre .0, (s .pre .1 .0, (c .before .if1 .taken, s .pre .1 .1)))
+    let s = c .before .before .before .before .before .before .before .before .before .before in
+    (s .pre .0, (s .pre .1 .0, (c .before .before .before .before .if1 .taken, s .pre .1 .1)))
 
 narrow-requires : tie.Need-narrow-requires Inv-loop μ-loop
 narrow-requires c κs =
-    let s = c .before .before .before .before .before .before .before .before in
-    omega (arith, s .pre .0 .low .few, c .before .before .if1 .taken)
+    let s = c .before .before .before .before .before .before .before .before .before .before .before in
+    omega (arith, s .pre .0 .low .few, c .before .before .before .before .before .if1 .taken)
 
 loop-less : tie.Need-loop-less Inv-loop μ-loop
 loop-less c = omega (arith, c .before .before .before .if1 .taken)
@@ -33,7 +39,7 @@ loop-again : tie.Need-loop-again Inv-loop μ-loop
 loop-again c =
     let s = c .before .before .before .before .before .before .before .before .before in
     let l = c .before .before .before .before .before .loop in
-    (omega (arith, c .before .before .before .if1 .taken), kept-more (s .pre .0) (s .args .dom) (s .args .x) (c .before .before .before .if1 .taken) (l .less) (c .before .hope .result) (c .narrow .result) (l .inv .1) (c .before .hope .ensures) (c .narrow .ensures))
+    (omega (arith, c .before .before .before .if1 .taken), ⊎-elim (λ w. rw (w .4) (kept-more (s .pre .0) (s .args .dom) (s .args .x) (c .before .before .before .if1 .taken) (l .less) (w .2 .result) (w .3 .result) (l .inv .1) (w .2 .ensures) (w .3 .ensures))) (λ w. rw (w .1) (l .inv .1)) (c .if2 .came))
 
 returns : tie.Need-returns Inv-loop μ-loop
 returns c = c .before .before .loop .inv .1
@@ -45,6 +51,7 @@ narrowed-spec =
     Inv-loop
     μ-loop
     loop-holds
+    is-open-requires
     hope-requires
     narrow-requires
     (λ c. search needs)
