@@ -1,6 +1,7 @@
 //! The proved library's functions as safe Rust, their answers in the words of the cases, and random inputs for tests.
 pub mod answer;
 pub mod random;
+pub mod reads;
 pub mod scenarios;
 pub mod slow;
 

@@ -1,6 +1,7 @@
 //! Search of the proved library against the cases, the examples and the reference program.
 use library::answer::{replayed, searched, trace_length, word, BROKEN};
 use library::random::{damage, Random};
+use library::reads;
 use library::scenarios::{near, scenario, with_budget};
 use std::collections::BTreeMap;
 use std::path::Path;
@@ -253,4 +254,32 @@ fn hopeless_choices_are_not_tried() {
     let begin = std::time::Instant::now();
     assert_eq!(agrees(&with_budget(&file, u32::MAX), 128), "HELD 1");
     assert!(begin.elapsed().as_millis() < 1000, "{:?}", begin.elapsed());
+}
+
+/// Reads of several variables of which each part alone can be derivable, but not all with the same values.
+#[test]
+fn contradictory_parts_are_not_tried() {
+    let mut files = vec![reads::four_in_three_parts()];
+    files.extend([2, 7, 20, 60].map(reads::contradictory));
+    files.extend([5, 20, 50].map(reads::unknown_value));
+    files.extend([(0, 30), (5, 10), (5, 30)].map(|(several, constants)| reads::built_or_known(several, constants)));
+    files.extend([(5, 3), (3, 5), (1, 7)].map(|(free, length)| reads::cycle(free, length, 3)));
+    for file in files {
+        let begin = std::time::Instant::now();
+        assert_eq!(answered(&file, 128), "HELD 1", "{}", reference::hexadecimal(&file));
+        assert!(begin.elapsed().as_millis() < 1000, "{:?}: {}", begin.elapsed(), reference::hexadecimal(&file));
+    }
+}
+
+/// All of the values that are allowed are tried, in their order.
+#[test]
+fn reads_of_several_variables_answer_as_the_reference() {
+    let mut random = Random::new(12);
+    let mut lengths = BTreeMap::new();
+    for _ in 0..3_000 {
+        let file = with_budget(&reads::random(&mut random), random.pick(&[20, 300, 3000]));
+        *lengths.entry(agrees(&file, 128)).or_insert(0) += 1;
+    }
+    assert!(lengths.len() > 10, "{lengths:?}");
+    assert!(lengths["HELD 1"] > 100 && lengths["HELD 1"] < 2_900, "{lengths:?}");
 }

@@ -1,0 +1,141 @@
+//! The walk through a scenario's list in its order, with a memory of states or without.
+use super::completions::completes;
+use super::memory::Memory;
+use super::possible::possible;
+use super::scenario::{Event, Scenario, State, READ};
+use crate::knowledge::{self, cell};
+use crate::open;
+
+const HELD: u64 = 1 << 60;
+const STOPPED: u64 = 2 << 60;
+const BROKEN: u64 = 3 << 60;
+
+/// The packed answer of a walk that remembers states; the trace of a broken claim at the buffer's front.
+pub fn search(file: &[u8], buffer: &mut [u8]) -> u64 {
+    answer(file, buffer, true)
+}
+
+/// The same answer by a walk through every trace.
+pub fn plain_search(file: &[u8], buffer: &mut [u8]) -> u64 {
+    answer(file, buffer, false)
+}
+
+fn answer(file: &[u8], buffer: &mut [u8], remembers: bool) -> u64 {
+    let opened = open::open(file);
+    if opened != open::ACCEPTED {
+        return opened;
+    }
+    if buffer.len() < 128 {
+        return knowledge::refusal(10, buffer.len());
+    }
+    let scenario = Scenario::of(file);
+    let budget = u32::from_be_bytes([file[1], file[2], file[3], file[4]]);
+    let memory = remembers.then(|| Memory::new(&scenario));
+    let mut walk = Walk { scenario: &scenario, memory, left: budget, trace: [0; 128], length: 0 };
+    match walk.extend(&scenario.start(&scenario.first_values())) {
+        Walked::Whole => HELD | u64::from(budget - walk.left),
+        Walked::Stopped => STOPPED | u64::from(budget),
+        Walked::Broken { run, event } => {
+            let length = walk.length;
+            buffer[..length].copy_from_slice(&walk.trace[..length]);
+            let claim = (run as u64) << 32 | (event as u64) << 36 | 2 << 40;
+            BROKEN | (length as u64) << 44 | claim | u64::from(budget - walk.left)
+        }
+    }
+}
+
+/// How the walk over a trace and its extensions ended.
+enum Walked {
+    Whole,
+    Stopped,
+    Broken { run: usize, event: usize },
+}
+
+struct Walk<'a> {
+    scenario: &'a Scenario<'a>,
+    memory: Option<Memory>,
+    // The budget that is left, and the trace that leads here.
+    left: u32,
+    trace: [u8; 128],
+    length: usize,
+}
+
+impl Walk<'_> {
+    /// Judges the trace that leads to a state, and its extensions in the order of the list.
+    fn extend(&mut self, s: &State) -> Walked {
+        if self.left == 0 {
+            return Walked::Stopped;
+        }
+        self.left -= 1;
+        if let Some((run, event)) = self.scenario.broken(s) {
+            return Walked::Broken { run, event };
+        }
+        let length = self.length;
+        for (k, run) in self.scenario.runs.iter().enumerate() {
+            let Some(&event) = run.events.get(s.done[k]) else { continue };
+            self.trace[length] = k as u8 + 1;
+            self.trace[length + 1] = 0;
+            self.length = length + 2;
+            let walked = match event.kind {
+                READ if s.marks[run.own] && s.marks[event.peer] => self.read(s, k, event, length, 0),
+                READ => Walked::Whole,
+                _ => self.make(s, k, event),
+            };
+            if !matches!(walked, Walked::Whole) {
+                return walked;
+            }
+        }
+        self.length = length;
+        Walked::Whole
+    }
+
+    /// The traces that go on with a read, for each choice of values for its variables from a row on. The step began at an offset.
+    fn read(&mut self, s: &State, k: usize, event: Event, step: usize, from: usize) -> Walked {
+        let scenario = self.scenario;
+        let u = k + 1;
+        let Some(x) = scenario.next_unset(s.values, event.row, u, from) else {
+            return if s.marks[cell(event.row, u)] { self.make(s, k, event) } else { Walked::Whole };
+        };
+        if !possible(scenario, s, u, event.row) || !completes(scenario, s, u, event.row) {
+            return Walked::Whole;
+        }
+        let length = self.length;
+        self.trace[step + 1] += 1;
+        for &(r, w) in scenario.values_of(x) {
+            let values = scenario.with_value(s.values, x, u, (r, w));
+            self.trace[length..length + 2].copy_from_slice(&[r as u8, w as u8]);
+            self.length = length + 2;
+            let walked = self.read(&scenario.with_values(s, &values), k, event, step, x + 1);
+            if !matches!(walked, Walked::Whole) {
+                return walked;
+            }
+        }
+        self.trace[step + 1] -= 1;
+        self.length = length;
+        Walked::Whole
+    }
+
+    /// The traces that go on once run k has made an event that is allowed, its new values being set.
+    fn make(&mut self, s: &State, k: usize, event: Event) -> Walked {
+        let Some(memory) = &self.memory else {
+            return self.extend(&self.scenario.after(s, k, event));
+        };
+        let mut done = s.done;
+        done[k] += 1;
+        let key = memory.key(&done, &s.values.names);
+        let count = memory.look_up(&key);
+        if count > self.left {
+            return Walked::Stopped;
+        }
+        if count > 0 {
+            self.left -= count;
+            return Walked::Whole;
+        }
+        let before = self.left;
+        let walked = self.extend(&self.scenario.after(s, k, event));
+        if let (Walked::Whole, Some(memory)) = (&walked, &mut self.memory) {
+            memory.store(&key, before - self.left);
+        }
+        walked
+    }
+}
