@@ -38,7 +38,8 @@ uint64_t tejorva_open(const uint8_t *file, size_t file_len);
 /* The verdict on a scenario file: TEJORVA_HELD, TEJORVA_STOPPED, TEJORVA_BROKEN with the trace at the buffer's front, or
  * TEJORVA_REFUSED with 1 to 9 and a place in the file, or 10 and the buffer's length if it is below 128 bytes. Only a
  * BROKEN answer writes to the buffer, and only as many bytes as tejorva_trace_length reads from it. The buffer and the file
- * have no byte in common. */
+ * have no byte in common. A call needs up to TEJORVA_SEARCH_STACK bytes of stack. */
+#define TEJORVA_SEARCH_STACK 1048576
 uint64_t tejorva_search(const uint8_t *file, size_t file_len, uint8_t *trace, size_t trace_len);
 
 /* Which claim a trace breaks, step by step from the start of a scenario file: TEJORVA_CLAIM, TEJORVA_NO_CLAIM, or

@@ -1,5 +1,5 @@
 -- What a walk through a part of the list finds, as the code answers it. Assumes nothing.
-use Prim.Native.Nat.{ℕ, zero, suc, _+_, _*_, _≤_}
+use Prim.Native.Nat.{ℕ, zero, suc, _+_, _*_, _<_, _≤_}
 use mathlib.Core.Path.{_≡_}
 use mathlib.Core.Bool.{Bool}
 use mathlib.Core.List.{List, [], _∷_, _++_, map}
@@ -7,7 +7,8 @@ use mathlib.Core.Option.{Option}
 use lib.ListN.{length, getD, take, drop}
 use Rattle.semantics.specs.Basic.{joined, presentOnes, mapped, numbersFrom}
 use Rattle.semantics.specs.Term.{Atom}
-use Rattle.semantics.specs.Scenario.{Scenario}
+use Rattle.semantics.specs.Answer.{accepted}
+use Rattle.semantics.specs.Scenario.{Scenario, opened}
 use Rattle.semantics.specs.State as definitions
 use Rattle.semantics.specs.State.{Value, Active, active}
 use Rattle.semantics.specs.Moves.{Move, choices, performed, toSet, branch, movesOfRun, movesOf}
@@ -90,8 +91,11 @@ stateOf done names classes marks = record { done = done; names = names; classes 
 
 -- a state that an allowed trace reaches, whose bytes end at a place
 pub record Here (file t : List ℕ) (n : ℕ) (r : Runs) (sc : Scenario) (d : definitions.State) (s : State) (ms : List Move) (at : ℕ) : Type 0 where
+  pub isOpened : opened file ≡ accepted sc
   pub given : Given file t n r sc
   pub state : IsState sc d s
+  -- also the positions of runs that the scenario does not have
+  pub low : (k : ℕ) → k < 4 → getD (s .done) k 0 ≤ 8
   pub allowed : AllowedTrace sc ms d
   pub place : at ≡ length (traceBytes ms)
 
@@ -100,7 +104,7 @@ pub record AtMove (file t : List ℕ) (n : ℕ) (r : Runs) (sc : Scenario) (d : 
   pub here : Here file t n r sc d s ms at
   pub next : NextMove t (r .count) k e sc d s a
   pub due : Due n (r .count) k (e .own) (e .peer) (e .row)
-  pub few : getD (s .done) k 0 ≤ 8
+  pub few : getD (s .done) k 0 < 8
 
 -- values chosen for the first of the variables that it sets
 pub record Choosing (sc : Scenario) (d : definitions.State) (s : State) (a : Active) (from : ℕ) (xs : List Atom) (vs : List Value) (names classes : List ℕ) (marks : List Bool) (values : Values) : Type 0 where

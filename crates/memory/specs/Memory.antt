@@ -8,10 +8,10 @@ use Rattle.cells.specs.Cells.{cellOf}
 
 -- how many words the memory has, how many slots, and how many words a key
 abbrev pub wordCount : ℕ
-wordCount = 262080
+wordCount = 215040
 
 abbrev pub slotCount : ℕ
-slotCount = 6552
+slotCount = 5376
 
 abbrev pub keySize : ℕ
 keySize = 38

@@ -13,9 +13,9 @@ pub struct Memory {}
 
 impl Memory {
     // how many words the memory has
-    pub const WORDS: usize = 262080;
+    pub const WORDS: usize = 215040;
     // how many sets of slots there are
-    const SETS: usize = 1638;
+    const SETS: usize = 1344;
     // the slots of a set
     const WAYS: usize = 4;
     // the words of a slot

@@ -5,3 +5,6 @@ pub mod Same
 pub mod Sent
 pub mod Names
 pub mod Clean
+pub mod Placed
+pub mod Memory
+pub mod Known

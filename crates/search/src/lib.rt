@@ -5,11 +5,16 @@ ghost use lib.ListN.{length, getD, take};
 ghost use Rattle.semantics.specs.Basic.{total};
 ghost use Rattle.semantics.specs.Answer.{accepted};
 ghost use Rattle.semantics.specs.Scenario.{Scenario, opened};
+ghost use Rattle.semantics.specs.State.{initial, eventsLeft};
+ghost use Rattle.semantics.specs.Moves.{movesOf};
+ghost use Rattle.semantics.specs.Tree.{listed};
 ghost use Rattle.semantics.specs.Verdict.{verdict, searched, written, bufferAfter};
 ghost use Rattle.scenario.specs.Opened.{layoutOf};
+ghost use Rattle.breaks.specs.Walk.{Finds};
 ghost use Rattle.search.specs.Search.{verdictAs, searchedAs};
 use breaks::Break;
 use breaks::Walked;
+use memory::Memory;
 use runs::Runs;
 use scenario::Layout;
 use scenario::Opened;
@@ -33,7 +38,7 @@ pub enum Searched {
 // How many events the runs have together.
 fn event_count(r: Runs) -> usize
     requires { ⌜ (r .count ≤ 4) × ((k : ℕ) → k < 4 → getD (r .events) k 0 ≤ 8) ⌝ }
-    ensures { λ n. ⌜ n ≡ total (take (r .count) (r .events)) ⌝ }
+    ensures { λ n. ⌜ (n ≡ total (take (r .count) (r .events))) × (n ≤ 32) ⌝ }
 {
     let mut sum = 0;
     let mut k = 0;
@@ -44,34 +49,49 @@ fn event_count(r: Runs) -> usize
     sum
 }
 
-// The verdict on an accepted file.
-fn judged(file: &[u8], l: Layout, trace: &mut [u8]) -> Searched
-    requires { ⌜ ((sc : Scenario) × (opened (now file) ≡ accepted sc) × (l ≡ layoutOf (now file) sc)) × (128 ≤ length (now trace)) ⌝ }
-    ensures { λ r. ⌜ ((sc : Scenario) → opened (now (file .entry)) ≡ accepted sc → l ≡ layoutOf (now (file .entry)) sc → (r ≡ verdictAs (verdict sc)) × (now (trace .exit) ≡ written (now (trace .entry)) (accepted (verdict sc)))) ⌝ }
+// Walks through the whole list of an accepted file, with a memory that is empty at first.
+fn walk_all(trace: &mut [u8], file: &[u8], l: Layout, left: usize) -> Walked
+    requires { ⌜ ((sc : Scenario) × (opened (now file) ≡ accepted sc) × (l ≡ layoutOf (now file) sc)) × ((128 ≤ length (now trace)) × (left < 4294967296)) ⌝ }
+    ensures { λ w. ⌜ ((sc : Scenario) → opened (now (file .entry)) ≡ accepted sc → l ≡ layoutOf (now (file .entry)) sc → Finds sc left (listed (movesOf sc) (eventsLeft sc (initial sc)) (initial sc)) (now (trace .entry)) 0 (now (trace .exit)) w) ⌝ }
 {
     let r = runs::runs_of(file, l);
     let n = l.terms.count;
     let t = frame::block_of(file, 0);
     let s = State::initial(file, t, n, r, frame::block_of(file, 3));
-    let budget = frame::budget(file);
-    let done = s.done;
+    let done = [State::NONE_DONE; 4];
     let names = s.names;
     let classes = s.classes;
     let marks = s.marks;
-    let walked = walk::walk(
+    let variables = memory::variable_rows(t, n);
+    let mut memory = [0; Memory::WORDS];
+    walk::walk(
         trace,
+        &mut memory,
         file,
         t,
         n,
         r,
+        variables,
         done,
         &names,
         &classes,
         marks,
-        budget,
+        left,
         0,
         event_count(r),
-    );
+    )
+}
+
+// The verdict on an accepted file. Without a budget no memory is cleared.
+fn judged(file: &[u8], l: Layout, trace: &mut [u8]) -> Searched
+    requires { ⌜ ((sc : Scenario) × (opened (now file) ≡ accepted sc) × (l ≡ layoutOf (now file) sc)) × (128 ≤ length (now trace)) ⌝ }
+    ensures { λ r. ⌜ ((sc : Scenario) → opened (now (file .entry)) ≡ accepted sc → l ≡ layoutOf (now (file .entry)) sc → (r ≡ verdictAs (verdict sc)) × (now (trace .exit) ≡ written (now (trace .entry)) (accepted (verdict sc)))) ⌝ }
+{
+    let budget = frame::budget(file);
+    if budget == 0 {
+        return Searched::Stopped(0);
+    }
+    let walked = walk_all(trace, file, l, budget);
     match walked {
         Walked::Broken(b) => Searched::Broken(b),
         Walked::Clean(m) => Searched::Held(m),

@@ -36,10 +36,5 @@ pub fn run() {
 }
 
 fn case(name: &str, table: &[u8], list: &[u8], target: u8) {
-    compare(
-        name,
-        200,
-        || library::derive(table, list, u64::from(target)),
-        || knowledge::derive(table, list, u64::from(target)),
-    );
+    compare(name, 200, || library::derive(table, list, u64::from(target)), || knowledge::derive(table, list, u64::from(target)));
 }

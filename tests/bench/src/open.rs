@@ -435,7 +435,11 @@ fn valid(random: &mut Random, seeds: &[Vec<u8>], count: usize) -> Vec<Vec<u8>> {
         .map(|i| {
             let seed = &seeds[i % seeds.len()];
             let changed = changed(random, seed);
-            if open(&changed) == ACCEPTED { changed } else { seed.clone() }
+            if open(&changed) == ACCEPTED {
+                changed
+            } else {
+                seed.clone()
+            }
         })
         .collect()
 }

@@ -65,15 +65,26 @@ impl Reads {
         self.parts.push(row);
     }
 
-    /// The file, with the largest budget.
+    /// All that the run reads, as one row.
+    fn pattern(&mut self) -> u8 {
+        self.tuple(&self.parts.clone())
+    }
+
+    /// The file of one run that reads the pattern, with the largest budget.
     pub fn file(mut self) -> Vec<u8> {
-        let pattern = self.tuple(&self.parts.clone());
+        let read = [1, 0, 1, self.pattern()];
+        self.played(&[&[read], &[]], &[0])
+    }
+
+    /// The file of two roles with their events and of runs that play them, with the largest budget.
+    fn played(mut self, roles: &[&[[u8; 4]]; 2], runs: &[u8]) -> Vec<u8> {
         assert!(self.rows.len() <= 96);
         self.known.sort();
         self.known.dedup();
-        let role = [5, ROLES[0], ROLES[1], ROLE_KEYS[0], ROLE_KEYS[1], GLOBAL, 1, 1, 0, 1, pattern];
+        let role = |events: &&[[u8; 4]]| [&[5, ROLES[0], ROLES[1], ROLE_KEYS[0], ROLE_KEYS[1], GLOBAL, events.len() as u8][..], &events.concat()].concat();
+        let runs: Vec<u8> = runs.iter().flat_map(|&role| [role, AGENTS[0], AGENTS[1]]).collect();
         let mut file = vec![1, 255, 255, 255, 255];
-        for block in [&self.rows.concat()[..], &[&role[..], &[0, 0]].concat(), &[0, AGENTS[0], AGENTS[1]], &self.known] {
+        for block in [&self.rows.concat()[..], &roles.iter().map(role).collect::<Vec<_>>().concat(), &runs, &self.known] {
             file.extend((block.len() as u16).to_be_bytes());
             file.extend(block);
         }
@@ -152,6 +163,10 @@ fn sealed_twice(reads: &mut Reads, variable: u8, key: usize) -> u8 {
 
 /// Free variables, then encryptions of pairs of others; of pairs of constants so many are known.
 pub fn tied(free: usize, pairs: &[(usize, usize)], known: &[(usize, usize)]) -> Vec<u8> {
+    ties(free, pairs, known).file()
+}
+
+fn ties(free: usize, pairs: &[(usize, usize)], known: &[(usize, usize)]) -> Reads {
     let mut reads = Reads::new();
     for v in 0..free {
         let variable = reads.fresh(v);
@@ -169,14 +184,30 @@ pub fn tied(free: usize, pairs: &[(usize, usize)], known: &[(usize, usize)]) -> 
         let given = reads.encrypted(content, KEYS[0]);
         reads.knows(given);
     }
-    reads.file()
+    reads
 }
 
 /// A cycle of variables over a graph of two halves in which each constant of one half is tied to each of the other: there is none if it is odd.
 pub fn cycle(free: usize, length: usize, half: usize) -> Vec<u8> {
-    let pairs: Vec<_> = (0..length).map(|i| (i, (i + 1) % length)).collect();
-    let known: Vec<_> = (0..half * half).flat_map(|e| [(e / half, half + e % half), (half + e % half, e / half)]).collect();
-    tied(free, &pairs, &known)
+    tied(free, &around(length), &between(half))
+}
+
+fn around(length: usize) -> Vec<(usize, usize)> {
+    (0..length).map(|i| (i, (i + 1) % length)).collect()
+}
+
+fn between(half: usize) -> Vec<(usize, usize)> {
+    (0..half * half).flat_map(|e| [(e / half, half + e % half), (half + e % half, e / half)]).collect()
+}
+
+/// Runs of as many moves as there can be: so many with a read for each variable, then claims, and at the end a read of eight variables that are tied to each other.
+pub fn deepest(readers: usize) -> Vec<u8> {
+    let mut reads = ties(0, &around(8), &between(2));
+    let variables: Vec<[u8; 4]> = (0..8).map(|v| [1, 0, 1, reads.fresh(v)]).collect();
+    let mut last = vec![[2, 0, 0, ROLE_KEYS[0]]; 7];
+    last.push([1, 0, 0, reads.pattern()]);
+    let runs: Vec<u8> = (0..4).map(|run| u8::from(run >= readers)).collect();
+    reads.played(&[&variables, &last], &runs)
 }
 
 /// Four variables all tied to each other over a graph of three parts of two constants: there are none.
@@ -184,6 +215,22 @@ pub fn four_in_three_parts() -> Vec<u8> {
     let pairs = [(0, 1), (0, 2), (0, 3), (1, 2), (1, 3), (2, 3)];
     let known: Vec<_> = (0..36).map(|e| (e / 6, e % 6)).filter(|(i, j)| i / 2 != j / 2).collect();
     tied(4, &pairs, &known)
+}
+
+/// Runs that claim so often, and no more: their traces are many and their states few.
+pub fn claims(events: usize, runs: usize) -> Vec<u8> {
+    let claims = vec![[2, 0, 0, ROLE_KEYS[0]]; events];
+    Reads::new().played(&[&claims, &[]], &vec![0; runs])
+}
+
+/// Two runs that read so many variables each, of so many constants: their states are many.
+pub fn values(first: usize, second: usize, constants: usize) -> Vec<u8> {
+    let mut reads = Reads::new();
+    for c in 0..constants {
+        reads.constant(c);
+    }
+    let read: Vec<[u8; 4]> = (0..first.max(second)).map(|v| [1, 0, 1, reads.fresh(v)]).collect();
+    reads.played(&[&read[..first], &read[..second]], &[0, 1])
 }
 
 /// A random read of two to five variables with some known encryptions.

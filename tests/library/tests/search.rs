@@ -283,3 +283,31 @@ fn reads_of_several_variables_answer_as_the_reference() {
     assert!(lengths.len() > 10, "{lengths:?}");
     assert!(lengths["HELD 1"] > 100 && lengths["HELD 1"] < 2_900, "{lengths:?}");
 }
+
+/// The stack that the header states is enough, for the deepest walks and for tests of choices at their end.
+#[test]
+fn a_call_needs_no_more_stack_than_stated() {
+    let header = include_str!("../../../include/tejorva.h");
+    let stated = header.split("#define TEJORVA_SEARCH_STACK ").nth(1).unwrap().split_whitespace().next().unwrap();
+    for readers in 0..=4 {
+        let call = move || answered(&with_budget(&reads::deepest(readers), 3000), 128);
+        let thread = std::thread::Builder::new().stack_size(stated.parse().unwrap()).spawn(call).unwrap();
+        assert_eq!(thread.join().unwrap(), "STOPPED 3000");
+    }
+}
+
+/// More states than the memory has slots, and lists that only a memory counts.
+#[test]
+fn long_lists_answer_as_the_reference() {
+    let mut verdicts = vec![];
+    for file in [reads::values(4, 3, 5), reads::values(2, 5, 4), reads::claims(8, 2), reads::claims(4, 4), reads::claims(8, 4)] {
+        let whole = agrees(&with_budget(&file, u32::MAX), 128);
+        for budget in [1, 1000, 100_000, number(&whole) - 1, number(&whole)] {
+            agrees(&with_budget(&file, budget), 128);
+        }
+        verdicts.push(whole);
+    }
+    assert_eq!(verdicts[4], format!("STOPPED {}", u32::MAX));
+    assert!(verdicts[..4].iter().all(|verdict| verdict.starts_with("HELD ")), "{verdicts:?}");
+    assert!(number(&verdicts[3]) > 100_000_000, "{verdicts:?}");
+}

@@ -66,6 +66,14 @@ performed-yes {sc} {k = k} {names = names} {classes = classes} {moved = moved} (
     (d′, f, subst (λ (l : List ℕ). IsState sc d′ (stateOf l names classes (moved .marks))) (sym (advanced ∙ ap (λ (l : List ℕ). set l k (getD l k 0 + 1)) same)) g)
 performed-yes (notAllowed e f) h same advanced = absurd (true≢false (sym h ∙ e))
 
+-- positions stay low where a low one is put in
+set-low : (l : List ℕ) (k v j : ℕ) → getD l j 0 ≤ 8 → v ≤ 8 → getD (set l k v) j 0 ≤ 8
+set-low [] k v j h w = h
+set-low (x ∷ l) zero v zero h w = w
+set-low (x ∷ l) zero v (suc j) h w = h
+set-low (x ∷ l) (suc k) v zero h w = h
+set-low (x ∷ l) (suc k) v (suc j) h w = set-low l k v j h w
+
 -- a trace's end is within the longest trace
 pub place-low : {file t : List ℕ} {n : ℕ} {r : Runs} {sc : Scenario} {d : State} {s : CodeState} {ms : List Move} {at : ℕ} → Here file t n r sc d s ms at → at ≤ mostTraceBytes
 place-low {sc = sc} {d = d} {ms = ms} here = omega (arith, here .place, trace-bytes sc (here .given .good) ms d (here .allowed))
@@ -74,6 +82,10 @@ module _ {file t : List ℕ} {n : ℕ} {r : Runs} {sc : Scenario} {d : State} {s
     {vs : List Value} {names classes : List ℕ} {marks : List Bool} {values : Values} (chosen : Chosen sc d a e vs names classes marks values) where
   abbrev pub taken : Move
   taken = record { run = suc k; values = vs }
+
+  -- how far the runs have come after it
+  pub next-low : {done next : List ℕ} → done ≡ s .done → next ≡ set done k (getD done k 0 + 1) → (j : ℕ) → j < 4 → getD next j 0 ≤ 8
+  next-low e f j l = rw (f, e) (set-low (s .done) k (getD (s .done) k 0 + 1) j (move .here .low j l) (omega (arith, move .few)))
 
   -- how many bytes the step has
   pub step-size : {bytes : ℕ} → bytes ≡ 2 + 2 * values .count → bytes ≡ length (moveBytes taken)
@@ -87,18 +99,23 @@ module _ {file t : List ℕ} {n : ℕ} {r : Runs} {sc : Scenario} {d : State} {s
   few-chosen = omega (arith, chosen .are .many, takes-length (chosen .takes), set-few sc (move .here .given .good) a)
 
   -- a move that is not allowed
-  pub move-refused : (left depth : ℕ) {done : List ℕ} {moved : Moved} → Performed sc d a vs done k names classes moved → moved .allowed ≡ false → (b : List ℕ) → Finds sc left (below sc depth (branches sc d (suc k) a vs [])) b at b (Clean 0)
-  move-refused left depth did no-move b = finds-nil sc left (branches-refused sc depth d (suc k) a vs (performed-no did no-move)) b at
+  pub move-refused : (left depth : ℕ) → performed sc d a vs ≡ none → (b : List ℕ) → Finds sc left (below sc depth (branches sc d (suc k) a vs [])) b at b (Clean 0)
+  move-refused left depth no-move b = finds-nil sc left (branches-refused sc depth d (suc k) a vs no-move) b at
 
   -- one that is: the state after it is reached by the longer trace
   pub move-step : {d′ : State} → performed sc d a vs ≡ some d′ → Step sc d taken d′
   move-step {d′} e = let w = performed-exact sc d a vs d′ .0 e in step (move .next .isActive) (chosen .takes) (w .1) (w .2)
 
-  pub move-here : {d′ : State} {s′ : CodeState} → performed sc d a vs ≡ some d′ → IsState sc d′ s′ → {at′ : ℕ} → at′ ≡ at + length (moveBytes taken) → Here file t n r sc d′ s′ (ms ++ (taken ∷ [])) at′
-  move-here e state place = record {
+  pub move-allowed : {d′ : State} → performed sc d a vs ≡ some d′ → AllowedTrace sc (ms ++ (taken ∷ [])) d′
+  move-allowed e = follows-append (move .here .allowed) (moves (move-step e) stays)
+
+  pub move-here : {d′ : State} {s′ : CodeState} → performed sc d a vs ≡ some d′ → IsState sc d′ s′ → ((j : ℕ) → j < 4 → getD (s′ .done) j 0 ≤ 8) → {at′ : ℕ} → at′ ≡ at + length (moveBytes taken) → Here file t n r sc d′ s′ (ms ++ (taken ∷ [])) at′
+  move-here e state low place = record {
+    isOpened = move .here .isOpened;
     given = move .here .given;
     state = state;
-    allowed = follows-append (move .here .allowed) (moves (move-step e) stays);
+    low = low;
+    allowed = move-allowed e;
     place = place ∙ (λ i. move .here .place i + length (sym (trace-one taken) i)) ∙ sym (ap length (trace-append ms (taken ∷ [])) ∙ length-append (traceBytes ms) (traceBytes (taken ∷ [])));
   }
 

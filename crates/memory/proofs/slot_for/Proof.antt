@@ -7,7 +7,7 @@ use Rattle.memory.proofs.slot_for.Statement.{statement}
 use Rattle.memory.proofs.slot_for.Tie as tie
 
 abbrev Inv-loop : tie.InvT-loop
-Inv-loop memory key first slot₀ least₀ way₀ slot least way = (way ≤ 4) × (slot < 6552)
+Inv-loop memory key first slot₀ least₀ way₀ slot least way = (way ≤ 4) × (slot < 5376)
 
 abbrev μ-loop : tie.MeasureT-loop
 μ-loop memory key first slot₀ least₀ way₀ slot least way = 4 - way

@@ -17,14 +17,13 @@ use Rattle.semantics.specs.laws.List.{mem-getElem, getElem-below}
 use Rattle.semantics.specs.laws.Tree.{listed-first}
 use Rattle.semantics.specs.laws.Verdict as walks
 use Rattle.semantics.specs.laws.Verdict.{walkedFound, walkedAll, walkedCut, walked-view}
-use Rattle.state.specs.declared.State.{State as CodeState}
-use Rattle.state.specs.State.{IsState}
 use Rattle.breaks.specs.declared.Walked.{Walked}
 use Rattle.breaks.specs.declared.Walked.the-variants as answers
 use Rattle.breaks.specs.Walk.{judged, walkedAs, bufferAs, Finds}
+use Rattle.breaks.specs.laws.Walked.{nothing-within}
 use Rattle.breaks.specs.laws.Finds.{answer-clean}
 use Rattle.same.specs.Same.{Each, cons, SameEntry}
-use Rattle.same.specs.Clean.{Clean, SamePositions, SameNames}
+use Rattle.same.specs.Clean.{Clean, Placed, SamePositions, SameNames}
 use Rattle.same.specs.laws.Each.{each-length}
 use Rattle.same.specs.laws.Same.{listed-same, broken-same}
 use Rattle.same.specs.laws.Sent.{same-reached}
@@ -55,6 +54,12 @@ clean-found {sc} {left} {es} finds =
     let a = answer-clean es (walked (judged sc) left es) (finds .answer) in
     record { unbroken = nothing-breaks sc left es (walked-view (judged sc) left es) (a .0); counted = sym (a .1) }
 
+-- They are within the budget.
+pub clean-within : {sc : Scenario} {left : ℕ} {es : List Entry} {before after : List ℕ} {at m : ℕ} → Finds sc left es before at after (answers.Clean m) → m ≤ left
+clean-within {sc} {left} {es} finds =
+    let a = answer-clean es (walked (judged sc) left es) (finds .answer) in
+    omega (arith, nothing-within (judged sc) left es (a .0), a .1)
+
 -- It leaves the buffer as it was.
 pub clean-buffer : {sc : Scenario} {left : ℕ} {es : List Entry} {before after : List ℕ} {at m : ℕ} → Finds sc left es before at after (answers.Clean m) → after ≡ before
 clean-buffer {sc} {left} {es} {before} {at = at} finds = finds .buffer ∙ ap (bufferAs before at) (answer-clean es (walked (judged sc) left es) (finds .answer) .0)
@@ -82,9 +87,9 @@ module _ {sc : Scenario} (g : Guarantee sc) where
   unbroken-same (cons r rs) h e (List·Memᴰ·tail m) = unbroken-same rs (λ x n. h x (List·Memᴰ·tail n)) e m
 
   -- Below reached states with equal positions and names are equally many entries that break no claim.
-  pub clean-same : {ms ms′ : List Move} {d d′ : State} {s s′ : CodeState} → AllowedTrace sc ms d → AllowedTrace sc ms′ d′ → IsState sc d s → IsState sc d′ s′
-      → SamePositions sc (s .done) (s′ .done) → SameNames sc (s .names) (s′ .names) → (depth : ℕ) {m : ℕ} → Clean sc (listed (movesOf sc) depth d) m → Clean sc (listed (movesOf sc) depth d′) m
-  clean-same {d = d} {d′ = d′} t t′ state state′ positions names depth clean =
+  pub clean-same : {ms ms′ : List Move} {d d′ : State} {done done′ names names′ : List ℕ} → AllowedTrace sc ms d → AllowedTrace sc ms′ d′ → Placed sc d done names → Placed sc d′ done′ names′
+      → SamePositions sc done done′ → SameNames sc names names′ → (depth : ℕ) {m : ℕ} → Clean sc (listed (movesOf sc) depth d) m → Clean sc (listed (movesOf sc) depth d′) m
+  clean-same {d = d} {d′ = d′} t t′ placed placed′ positions names depth clean =
       let same : Each (SameEntry (sc .rows)) (listed (movesOf sc) depth d) (listed (movesOf sc) depth d′) =
-      listed-same sc (g .table) depth d d′ (same-reached g t t′ (same-names g state state′ positions names)) in
+      listed-same sc (g .table) depth d d′ (same-reached g t t′ (same-names g placed placed′ positions names)) in
       record { unbroken = unbroken-same same (clean .unbroken); counted = sym (each-length same) ∙ clean .counted }

@@ -1,4 +1,4 @@
--- States of the code with equal positions and names stand for states with equal positions and values. Assumes nothing.
+-- Equal positions and names stand for states with equal positions and values. Assumes nothing.
 use Prim.Native.Nat.{ℕ, suc, _<_, _≤_}
 use native.Mathlib.Omega.{arith}
 use mathlib.Core.Path.{_≡_, refl, sym, ap, _∙_, subst}
@@ -17,13 +17,11 @@ use Rattle.semantics.specs.laws.Test.{There, none-there}
 use Rattle.semantics.specs.laws.List.{getElem-below, getElem-there}
 use Rattle.cells.specs.Cells.{cellOf}
 use Rattle.classes.specs.Classes.{Named, unnamed, named}
-use Rattle.state.specs.declared.State.{State as CodeState}
-use Rattle.state.specs.State.{IsState}
 use Rattle.state.specs.Readings.{setsIn, setsOf, readings}
 use Rattle.state.specs.laws.Readings.{reading-run}
 use Rattle.state.specs.laws.Start.{atom-below}
 use Rattle.same.specs.Same.{Both, noneOf, someOf, Each, SameValue, SameSets, SameRun}
-use Rattle.same.specs.Clean.{SamePositions, SameNames}
+use Rattle.same.specs.Clean.{Placed, SamePositions, SameNames}
 use Rattle.same.specs.laws.Each.{each-from}
 
 -- a cell fixes its row and its run
@@ -48,32 +46,32 @@ both-read rows none (some w) h h′ e = let t = h′ w refl in none-there (t .0,
 both-read rows (some v) none h h′ e = let t = h v refl in none-there (t .0, sym e ∙ t .1)
 both-read rows (some v) (some w) h h′ e = someOf e
 
-module _ {sc : Scenario} (g : Guarantee sc) {d d′ : State} {s s′ : CodeState} (state : IsState sc d s) (state′ : IsState sc d′ s′) (positions : SamePositions sc (s .done) (s′ .done)) (names : SameNames sc (s .names) (s′ .names)) where
+module _ {sc : Scenario} (g : Guarantee sc) {d d′ : State} {done done′ names names′ : List ℕ} (placed : Placed sc d done names) (placed′ : Placed sc d′ done′ names′) (positions : SamePositions sc done done′) (same : SameNames sc names names′) where
   -- a variable of the table stands for the same in a run
   variable-same : (k : ℕ) → k < length (sc .runs) → (x n : ℕ) (type : VariableType) → atomAt (sc .rows) x ≡ some (variable n type)
       → andThen (assigned (variable n type) (setsOf (d .progress) k)) (termOf (sc .rows)) ≡ andThen (assigned (variable n type) (setsOf (d′ .progress) k)) (termOf (sc .rows))
   unfolding readingIn
   variable-same k l x n type f =
       let run = getElem-there (sc .runs) k l in
-      let same : readings sc (setsOf (d .progress)) (suc k) (variable n type) ≡ readings sc (setsOf (d′ .progress)) (suc k) (variable n type) =
-      named-once (g .table .few) (g .fewRuns) (state .arrays .named x (suc k) (variable n type) l f) (state′ .arrays .named x (suc k) (variable n type) l f) (names x k n type l (atom-below (sc .rows) x f) f) in
-      sym (ap (λ (ρ : Reading). ρ (variable n type)) (reading-run sc (setsOf (d .progress)) k (run .1))) ∙ same ∙ ap (λ (ρ : Reading). ρ (variable n type)) (reading-run sc (setsOf (d′ .progress)) k (run .1))
+      let read : readings sc (setsOf (d .progress)) (suc k) (variable n type) ≡ readings sc (setsOf (d′ .progress)) (suc k) (variable n type) =
+      named-once (g .table .few) (g .fewRuns) (placed .named x (suc k) (variable n type) l f) (placed′ .named x (suc k) (variable n type) l f) (same x k n type l (atom-below (sc .rows) x f) f) in
+      sym (ap (λ (ρ : Reading). ρ (variable n type)) (reading-run sc (setsOf (d .progress)) k (run .1))) ∙ read ∙ ap (λ (ρ : Reading). ρ (variable n type)) (reading-run sc (setsOf (d′ .progress)) k (run .1))
 
   -- so the run's values are equal
   sets-same : (k : ℕ) → k < length (sc .runs) → SameSets (sc .rows) (setsOf (d .progress) k) (setsOf (d′ .progress) k)
   sets-same k l x n type f =
-      both-read (sc .rows) (assigned (variable n type) (setsOf (d .progress) k)) (assigned (variable n type) (setsOf (d′ .progress) k)) (state .valued k (variable n type)) (state′ .valued k (variable n type))
+      both-read (sc .rows) (assigned (variable n type) (setsOf (d .progress) k)) (assigned (variable n type) (setsOf (d′ .progress) k)) (placed .valued k (variable n type)) (placed′ .valued k (variable n type))
       (variable-same k l x n type f)
 
   -- and so is how far it has come
   run-same : (k : ℕ) (p q : Progress) → getElem? (d .progress) k ≡ some p → getElem? (d′ .progress) k ≡ some q → SameRun (sc .rows) p q
   run-same k p q e e′ =
-      let l : k < length (sc .runs) = omega (arith, getElem-below (d .progress) k e, state .progress) in
+      let l : k < length (sc .runs) = omega (arith, getElem-below (d .progress) k e, placed .progress) in
       record {
-        done = sym (state .done k p e) ∙ positions k l ∙ state′ .done k q e′;
+        done = sym (placed .positions k p e) ∙ positions k l ∙ placed′ .positions k q e′;
         sets = subst (λ (o : Option Progress). SameSets (sc .rows) (p .values) (setsIn o)) e′ (subst (λ (o : Option Progress). SameSets (sc .rows) (setsIn o) (setsOf (d′ .progress) k)) e (sets-same k l));
       }
 
   -- Every run has come equally far with equal values.
   pub same-names : Each (SameRun (sc .rows)) (d .progress) (d′ .progress)
-  same-names = each-from (d .progress) (d′ .progress) (state .progress ∙ sym (state′ .progress)) run-same
+  same-names = each-from (d .progress) (d′ .progress) (placed .progress ∙ sym (placed′ .progress)) run-same

@@ -27,7 +27,7 @@ loop-again c =
 
 returns : tie.Need-returns Inv-loop μ-loop
 returns c = let same : c .before .loop .k ≡ c .before .before .args .t1 .count = omega arith in
-    c .before .loop .inv .1 .0 ∙ ap (λ (m : ℕ). total (take m (c .before .before .args .t1 .events))) same
+    (c .before .loop .inv .1 .0 ∙ ap (λ (m : ℕ). total (take m (c .before .before .args .t1 .events))) same, omega arith)
 
 pub event-count-spec : {M : Type 1} → statement M
 event-count-spec =

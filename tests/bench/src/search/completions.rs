@@ -1,6 +1,6 @@
 //! The test of a partial choice as a whole: the classes that each unset variable may still get are narrowed until none falls away, and tried
 //! one by one where variables are tied to each other.
-use super::possible::matches;
+use super::possible::matchings;
 use super::scenario::{Scenario, State};
 use crate::knowledge::{cell, second, ABSENT};
 use std::ops::Range;
@@ -45,7 +45,7 @@ impl Set {
 /// For each unset variable the classes that it may get.
 type Domains = [Set; 8];
 
-/// How a row without a class becomes derivable: as a variable, by both parts, or by the value of a marked cell, of which the test has a range.
+/// How a row without a class becomes derivable: as a variable, by both parts, or by one of a range of matchings.
 enum Way {
     Variable(usize),
     Pair([usize; 2]),
@@ -58,25 +58,26 @@ struct Test {
     // The rows of the unset variables, and which classes of theirs are marked.
     rows: Vec<usize>,
     marked: Domains,
-    // The rows beneath the pattern that have no class, from low to high.
+    // The rows beneath the pattern that have no class, from low to high, and the pattern itself.
     open: Vec<(usize, Way)>,
-    // The classes that variables need where a row gets the value of a marked cell.
-    matches: Vec<[u16; 8]>,
-    // The variables beneath each key and encryption without a class, as bits.
-    ties: Vec<u8>,
     pattern: usize,
+    // The classes that variables need where a row gets the value of a marked cell.
+    matchings: Vec<[u16; 8]>,
+    // The variables beneath each key and encryption that has no class, as bits.
+    ties: Vec<u8>,
 }
 
 /// Whether the unset variables of run u beneath row x may get values with which the row is derivable: true wherever they may. With one such
 /// variable alone its values are as soon tried.
 pub fn completes(sc: &Scenario, s: &State, u: usize, x: usize) -> bool {
-    let rows: Vec<_> = sc.variables().filter(|&y| sc.beneath[x][y] && sc.is_unset(s.values, y, u)).collect();
-    if rows.len() < 2 {
+    if sc.unset(s.values, x, u).nth(1).is_none() {
         return true;
     }
-    let mut domains = [Set::NONE; 8];
-    let mut marked = [Set::NONE; 8];
+    let rows: Vec<_> = sc.unset(s.values, x, u).collect();
+    // Places without a variable have all classes, so that they never count as empty.
+    let (mut domains, mut marked) = ([Set::ALL; 8], [Set::ALL; 8]);
     for (i, &y) in rows.iter().enumerate() {
+        (domains[i], marked[i]) = (Set::NONE, Set::NONE);
         for &(r, w) in sc.values_of(y) {
             let class = s.values.classes[cell(r, w)];
             domains[i].insert(class);
@@ -86,7 +87,7 @@ pub fn completes(sc: &Scenario, s: &State, u: usize, x: usize) -> bool {
         }
     }
     let mut sets = [Set::ALL; 96];
-    let mut test = Test { rows, marked, open: vec![], matches: vec![], ties: vec![], pattern: x };
+    let mut test = Test { rows, marked, open: vec![], pattern: x, matchings: vec![], ties: vec![] };
     for r in (0..=x).filter(|&r| sc.beneath[x][r]) {
         if s.values.classes[cell(r, u)] < ABSENT {
             sets[r] = Set::all_if(s.marks[cell(r, u)]);
@@ -103,8 +104,8 @@ impl Test {
         let parts = [sc.t[3 * r + 1].into(), second(sc.t, r)];
         let way = match sc.t[3 * r] {
             11 => Way::Pair(parts),
-            12 => Way::Encryption(parts, self.add_matches(sc, s, u, r)),
-            8..=10 => Way::Key(self.add_matches(sc, s, u, r)),
+            12 => Way::Encryption(parts, self.add_matchings(sc, s, u, r)),
+            8..=10 => Way::Key(self.add_matchings(sc, s, u, r)),
             _ => Way::Variable(self.rows.iter().position(|&y| y == r).expect("an unset variable")),
         };
         if matches!(way, Way::Encryption(..) | Way::Key(_)) {
@@ -115,22 +116,22 @@ impl Test {
     }
 
     /// Adds what the variables need where row r gets the value of a marked cell.
-    fn add_matches(&mut self, sc: &Scenario, s: &State, u: usize, r: usize) -> Range<usize> {
-        let begin = self.matches.len();
-        for needs in matches(sc, s, u, r) {
+    fn add_matchings(&mut self, sc: &Scenario, s: &State, u: usize, r: usize) -> Range<usize> {
+        let begin = self.matchings.len();
+        for needs in matchings(sc, s, u, r) {
             let mut of_variables = [ABSENT; 8];
             for (need, &y) in of_variables.iter_mut().zip(&self.rows) {
                 *need = needs[y];
             }
-            self.matches.push(of_variables);
+            self.matchings.push(of_variables);
         }
-        begin..self.matches.len()
+        begin..self.matchings.len()
     }
 
     /// Whether the variables may get classes of the domains with which the pattern is derivable.
     fn completable(&self, sets: &mut [Set; 96], mut domains: Domains) -> bool {
         self.settle(sets, &mut domains);
-        if self.domains(&domains).iter().any(|domain| domain.size() == 0) {
+        if domains.contains(&Set::NONE) {
             return false;
         }
         let Some(i) = self.tied(&domains) else { return true };
@@ -140,10 +141,6 @@ impl Test {
             domains[i].insert(class);
             self.completable(sets, domains)
         })
-    }
-
-    fn domains<'d>(&self, domains: &'d Domains) -> &'d [Set] {
-        &domains[..self.rows.len()]
     }
 
     /// Narrows the domains until no class falls away.
@@ -180,7 +177,7 @@ impl Test {
     /// The classes that variable i gets where a row gets the value of a marked cell, if the domains have what variables need.
     fn matched(&self, domains: &Domains, i: usize, range: &Range<usize>) -> Set {
         let mut set = Set::NONE;
-        for needs in &self.matches[range.clone()] {
+        for needs in &self.matchings[range.clone()] {
             if needs.iter().zip(domains).all(|(&need, domain)| need == ABSENT || domain.has(need)) {
                 if needs[i] == ABSENT {
                     return Set::ALL;
@@ -196,7 +193,7 @@ impl Test {
         let sizes = domains.map(|domain| domain.size());
         let mut best = None;
         for bits in &self.ties {
-            let open = (0..self.rows.len()).filter(|i| bits >> i & 1 == 1 && sizes[*i] > 1);
+            let open = (0..8).filter(|&i| bits >> i & 1 == 1 && sizes[i] > 1);
             if open.clone().count() > 1 {
                 best = best.into_iter().chain(open).min_by_key(|&i| sizes[i]);
             }

@@ -23,19 +23,18 @@ fn test(sc: &Scenario, s: &State, can: &[bool; 96], u: usize, r: usize) -> bool 
     match sc.t[3 * r] {
         0..=7 => true,
         11 => both(),
-        12 => both() || matches(sc, s, u, r).next().is_some(),
-        _ => matches(sc, s, u, r).next().is_some(),
+        12 => both() || matchings(sc, s, u, r).next().is_some(),
+        _ => matchings(sc, s, u, r).next().is_some(),
     }
 }
 
 /// For each marked value of its kind that row r of run u can still get, what the rows need for it.
-pub fn matches<'a>(sc: &'a Scenario, s: &'a State, u: usize, r: usize) -> impl Iterator<Item = Needs> + 'a {
+pub fn matchings<'a>(sc: &'a Scenario, s: &'a State, u: usize, r: usize) -> impl Iterator<Item = Needs> + 'a {
     let kind = sc.t[3 * r];
     let cells = (0..sc.n).filter(move |&y| sc.t[3 * y] == kind);
     let cells = cells.flat_map(|y| (0..=sc.runs.len()).map(move |w| cell(y, w)));
-    cells
-        .filter(|&c| s.marks[c] && usize::from(s.values.classes[c]) == c)
-        .filter_map(move |c| needs(sc, &s.values.classes, u, r, c as u16))
+    let marked = cells.filter(|&c| s.marks[c] && usize::from(s.values.classes[c]) == c);
+    marked.filter_map(move |c| needs(sc, &s.values.classes, u, r, c as u16))
 }
 
 /// What the rows below row r of run u need so that it gets the value of a class, if none is refused it: one pass from the row down.

@@ -30,6 +30,8 @@ pub struct Scenario<'a> {
     known: &'a [u8],
     // For each row the rows beneath it, itself and key positions included.
     pub beneath: Vec<[bool; 96]>,
+    // The rows of variables.
+    pub variables: Vec<usize>,
     // The values that an agent variable may take, and a fresh one: row and run.
     values: [Vec<(usize, usize)>; 2],
 }
@@ -65,8 +67,9 @@ impl<'a> Scenario<'a> {
         };
         let runs: Vec<_> = runs.bytes.chunks_exact(1 + roles.len()).map(run).collect();
         let beneath = (0..n).map(|x| beneath(t, x)).collect();
+        let variables = (0..n).filter(|&x| t[3 * x] == 6).collect();
         let values = [false, true].map(|fresh| values_of(t, runs.len(), fresh));
-        Scenario { t, n, runs, known: known.bytes, beneath, values }
+        Scenario { t, n, runs, known: known.bytes, beneath, variables, values }
     }
 
     /// The values before any move.
@@ -155,23 +158,15 @@ impl<'a> Scenario<'a> {
         None
     }
 
-    /// The next unset variable beneath row x in run u, from a row on.
-    pub fn next_unset(&self, v: &Values, x: usize, u: usize, from: usize) -> Option<usize> {
-        (from..self.n).find(|&y| self.beneath[x][y] && self.is_unset(v, y, u))
-    }
-
-    pub fn is_unset(&self, v: &Values, y: usize, u: usize) -> bool {
-        self.t[3 * y] == 6 && v.names[cell(y, u)] == ABSENT
+    /// The unset variables beneath row x in run u.
+    pub fn unset<'s>(&'s self, v: &'s Values, x: usize, u: usize) -> impl Iterator<Item = usize> + 's {
+        let unset = move |&y: &usize| self.beneath[x][y] && v.names[cell(y, u)] == ABSENT;
+        self.variables.iter().copied().filter(unset)
     }
 
     /// The values that the variable of row x may take, in their order.
     pub fn values_of(&self, x: usize) -> &[(usize, usize)] {
         &self.values[usize::from(self.t[3 * x + 2])]
-    }
-
-    /// The rows of variables.
-    pub fn variables(&self) -> impl Iterator<Item = usize> + '_ {
-        (0..self.n).filter(|&x| self.t[3 * x] == 6)
     }
 }
 

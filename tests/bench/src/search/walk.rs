@@ -77,7 +77,7 @@ impl Walk<'_> {
             self.trace[length + 1] = 0;
             self.length = length + 2;
             let walked = match event.kind {
-                READ if s.marks[run.own] && s.marks[event.peer] => self.read(s, k, event, length, 0),
+                READ if s.marks[run.own] && s.marks[event.peer] => self.read(s, k, event, length),
                 READ => Walked::Whole,
                 _ => self.make(s, k, event),
             };
@@ -89,11 +89,11 @@ impl Walk<'_> {
         Walked::Whole
     }
 
-    /// The traces that go on with a read, for each choice of values for its variables from a row on. The step began at an offset.
-    fn read(&mut self, s: &State, k: usize, event: Event, step: usize, from: usize) -> Walked {
+    /// The traces that go on with a read, for each choice of values for its unset variables. The step began at an offset.
+    fn read(&mut self, s: &State, k: usize, event: Event, step: usize) -> Walked {
         let scenario = self.scenario;
         let u = k + 1;
-        let Some(x) = scenario.next_unset(s.values, event.row, u, from) else {
+        let Some(x) = scenario.unset(s.values, event.row, u).next() else {
             return if s.marks[cell(event.row, u)] { self.make(s, k, event) } else { Walked::Whole };
         };
         if !possible(scenario, s, u, event.row) || !completes(scenario, s, u, event.row) {
@@ -105,7 +105,7 @@ impl Walk<'_> {
             let values = scenario.with_value(s.values, x, u, (r, w));
             self.trace[length..length + 2].copy_from_slice(&[r as u8, w as u8]);
             self.length = length + 2;
-            let walked = self.read(&scenario.with_values(s, &values), k, event, step, x + 1);
+            let walked = self.read(&scenario.with_values(s, &values), k, event, step);
             if !matches!(walked, Walked::Whole) {
                 return walked;
             }
@@ -120,10 +120,8 @@ impl Walk<'_> {
         let Some(memory) = &self.memory else {
             return self.extend(&self.scenario.after(s, k, event));
         };
-        let mut done = s.done;
-        done[k] += 1;
-        let key = memory.key(&done, &s.values.names);
-        let count = memory.look_up(&key);
+        let place = memory.place(s, k);
+        let count = memory.look_up(&place);
         if count > self.left {
             return Walked::Stopped;
         }
@@ -134,7 +132,7 @@ impl Walk<'_> {
         let before = self.left;
         let walked = self.extend(&self.scenario.after(s, k, event));
         if let (Walked::Whole, Some(memory)) = (&walked, &mut self.memory) {
-            memory.store(&key, before - self.left);
+            memory.store(&place, before - self.left);
         }
         walked
     }

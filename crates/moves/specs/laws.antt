@@ -1,0 +1,2 @@
+-- The laws of moves that are only tested, with their proofs.
+pub mod Allowed

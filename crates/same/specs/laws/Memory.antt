@@ -1,0 +1,98 @@
+-- A memory that is right: at the start, for a key that is looked up, and once an entry is stored. Assumes nothing.
+use Prim.Native.Nat.{ℕ, zero, suc, _+_, _*_, _<_, _≤_}
+use native.Mathlib.Numerals.{add-one}
+use native.Mathlib.Omega.{arith}
+use mathlib.Core.Path.{_≡_, refl, sym, ap, _∙_, subst}
+use mathlib.Core.List.{List}
+use mathlib.Core.Logic.{⊎-elim}
+use mathlib.Core.Option.{none, some}
+use lib.ListN.{length, getD, replicate, length-replicate}
+use Rattle.semantics.specs.Answer.{accepted}
+use Rattle.semantics.specs.Term.{VariableType, variable}
+use Rattle.semantics.specs.Table.{Row}
+use Rattle.semantics.specs.Runs.{atomOf, atomAt}
+use Rattle.semantics.specs.Scenario.{Scenario, opened}
+use Rattle.semantics.specs.State.{State}
+use Rattle.semantics.specs.Moves.{Move, movesOf}
+use Rattle.semantics.specs.Tree.{listed}
+use Rattle.semantics.specs.laws.List.{getElem-there}
+use Rattle.rows.specs.Rows.{rowsOf}
+use Rattle.rows.specs.laws.Decodes.{Decodes, isTrusted, isUntrusted, isGlobal, isIntruder, isRole, isAgentVariable, isFreshVariable, isLocal, isPk, isSk, isShared, isPair, isEncrypted, table-row}
+use Rattle.cells.specs.Cells.{cellOf, cellCount, absent}
+use Rattle.cells.specs.laws.Cells.{getD-any}
+use Rattle.runs.specs.declared.Runs.{Runs}
+use Rattle.state.specs.State.{Given}
+use Rattle.memory.specs.Memory.{wordCount, Variables, nameOf, IsKey, Agree, SameWords, Says, LookedUp, Stored}
+use Rattle.memory.specs.laws.Keys.{keys-agree}
+use Rattle.memory.specs.laws.Slots.{zeros-say-nothing}
+use Rattle.same.specs.Clean.{Clean, SamePositions, SameNames}
+use Rattle.same.specs.Memory.{Reached, Remembers}
+use Rattle.same.specs.laws.Clean.{clean-same}
+
+-- the row of a variable has kind 6
+variable-six : {k l q num : ℕ} {type : VariableType} {row : Row} → Decodes k l q row → atomOf (some row) ≡ some (variable num type) → k ≡ 6
+variable-six isTrusted e = let z : _≡_ {A = ℕ} 0 1 = cc in absurd (omega arith)
+variable-six isUntrusted e = let z : _≡_ {A = ℕ} 0 1 = cc in absurd (omega arith)
+variable-six isGlobal e = let z : _≡_ {A = ℕ} 0 1 = cc in absurd (omega arith)
+variable-six isIntruder e = let z : _≡_ {A = ℕ} 0 1 = cc in absurd (omega arith)
+variable-six (isRole l) e = let z : _≡_ {A = ℕ} 0 1 = cc in absurd (omega arith)
+variable-six isAgentVariable e = refl
+variable-six isFreshVariable e = refl
+variable-six isLocal e = let z : _≡_ {A = ℕ} 0 1 = cc in absurd (omega arith)
+variable-six isPk e = let z : _≡_ {A = ℕ} 0 1 = cc in absurd (omega arith)
+variable-six isSk e = let z : _≡_ {A = ℕ} 0 1 = cc in absurd (omega arith)
+variable-six isShared e = let z : _≡_ {A = ℕ} 0 1 = cc in absurd (omega arith)
+variable-six isPair e = let z : _≡_ {A = ℕ} 0 1 = cc in absurd (omega arith)
+variable-six isEncrypted e = let z : _≡_ {A = ℕ} 0 1 = cc in absurd (omega arith)
+
+-- an array of zeros is right, as it says nothing
+pub remembers-start : (file t : List ℕ) (n : ℕ) (r : Runs) {variables memory : List ℕ} → Variables t n variables → memory ≡ replicate {A = ℕ} wordCount 0 → Remembers file t n r variables memory
+remembers-start file t n r rows zeros = record {
+  size = ap length zeros ∙ length-replicate {A = ℕ} wordCount 0;
+  rows = rows;
+  right = λ key count says. absurd (zeros-say-nothing wordCount (rw zeros at says));
+}
+
+module _ {file t : List ℕ} {n : ℕ} {r : Runs} {variables memory : List ℕ} (remembers : Remembers file t n r variables memory)
+    {sc : Scenario} {d : State} {ms : List Move} {done names : List ℕ} (reached : Reached file t n r sc d ms done names) {depth : ℕ} {key : List ℕ} (isKey : IsKey variables done names depth key) where
+  -- what is found of a state's key is so below the state
+  pub remembered : {count : ℕ} → LookedUp memory key count → 0 < count → Clean sc (listed (movesOf sc) depth d) count
+  remembered {count} found l = remembers .right key count (found .says l) sc d ms done names depth reached isKey
+
+  -- states of which the keys agree have equal positions and names of variables
+  module _ {done′ names′ : List ℕ} {depth′ : ℕ} (size′ : length names′ ≡ cellCount) (agree : Agree variables done done′ names names′ depth depth′) where
+    agree-positions : SamePositions sc done done′
+    agree-positions k l = agree .positions k (omega (arith, reached .given .good .fewRuns))
+
+    agree-names : SameNames sc names names′
+    agree-names x k num type l h e =
+        let below : x < n = omega (arith, ap length (reached .given .rows), reached .given .shape .count) in
+        let inside : x < length (rowsOf t) = omega (arith, reached .given .shape .count) in
+        let row = getElem-there (rowsOf t) x inside in
+        let its : atomAt (rowsOf t) x ≡ some (variable num type) = ap (λ (rows : List Row). atomAt rows x) (sym (reached .given .rows)) ∙ e in
+        let place = remembers .rows .all x below (variable-six (table-row t (reached .given .shape .table) x (row .0) (row .1) inside) (ap atomOf (sym (row .1)) ∙ its)) in
+        let runs : k < 4 = omega (arith, reached .given .good .fewRuns) in
+        let cell : cellOf (getD variables (place .0) 0) (k + 1) ≡ cellOf x (suc k) = ap (λ (y : ℕ). cellOf y (k + 1)) (place .2) ∙ ap (cellOf x) (add-one k) in
+        let low : cellOf x (suc k) < 480 = omega (arith, reached .given .shape .few) in
+        getD-any names (cellOf x (suc k)) absent 0 (omega (arith, reached .placed .sized)) ∙ ap (λ (c : ℕ). getD names c 0) (sym cell) ∙ agree .values k (place .0) runs (place .1)
+        ∙ ap (λ (c : ℕ). getD names′ c 0) cell ∙ getD-any names′ (cellOf x (suc k)) 0 absent (omega (arith, size′))
+
+  -- a memory stays right once the count below a state is stored with its key
+  pub remembers-stored : {after : List ℕ} {count : ℕ} → Stored memory after key count → Clean sc (listed (movesOf sc) depth d) count → Remembers file t n r variables after
+  remembers-stored {after} {count} stored clean = record {
+    size = stored .size ∙ remembers .size;
+    rows = remembers .rows;
+    right = λ key′ count′ says sc′ d′ ms′ done′ names′ depth′ reached′ isKey′. ⊎-elim
+        (λ before. remembers .right key′ count′ before sc′ d′ ms′ done′ names′ depth′ reached′ isKey′)
+        (λ new. own key′ (new .0) (new .1) reached′ isKey′)
+        (stored .says key′ count′ says);
+  }
+    where
+      own : (key′ : List ℕ) → SameWords key′ key → {count′ : ℕ} → count′ ≡ count → {sc′ : Scenario} {d′ : State} {ms′ : List Move} {done′ names′ : List ℕ} {depth′ : ℕ}
+          → Reached file t n r sc′ d′ ms′ done′ names′ → IsKey variables done′ names′ depth′ key′ → Clean sc′ (listed (movesOf sc′) depth′ d′) count′
+      own key′ words {count′} e {sc′} {d′} {ms′} {done′} {names′} {depth′} reached′ isKey′ =
+          let same : sc′ ≡ sc = cc (reached .isOpened, reached′ .isOpened) in
+          let agree : Agree variables done done′ names names′ depth depth′ = keys-agree isKey isKey′ (λ j l. sym (words j l)) in
+          let it : Reached file t n r sc d′ ms′ done′ names′ = rw same at reached′ in
+          let moved = clean-same (reached .given .good) (reached .allowed) (it .allowed) (reached .placed) (it .placed) (agree-positions (it .placed .sized) agree) (agree-names (it .placed .sized) agree) depth clean in
+          rw (same, e, ← agree .moves) moved
