@@ -1,6 +1,7 @@
 // Unset variables of a run, the classes of the values that they may take, and sets of classes: what a test of partial choices narrows.
 ghost use mathlib.Core.Path.{_≡_};
 ghost use mathlib.Core.Bool.{true};
+ghost use mathlib.Core.List.{List};
 ghost use Prim.Native.Nat.{ℕ, _+_, _*_, _<_, _≤_};
 ghost use lib.ListN.{length, getD};
 ghost use Rattle.cells.specs.Cells.{Shape, cellCount, absent};
@@ -54,20 +55,16 @@ pub fn unset_rows(
     Variables { rows, count }
 }
 
-// The set with the class of cell c, if its row and run are a value that the variable of row q may take, and marked where only marked ones count.
+// The set with the class of cell c, if it is marked where only marked ones count.
 fn with_value(
     set: [bool; 480],
-    t: &[u8],
-    n: usize,
-    runs: usize,
     classes: &[u16],
     marks: &[bool],
     only: bool,
-    q: usize,
     c: usize,
 ) -> [bool; 480]
-    requires { ⌜ Shape (now t) n runs × ((length (now classes) ≡ cellCount) × ((length (now marks) ≡ cellCount) × ((q < n) × ((kindAt (now t) q ≡ 6) × (c < cellCount))))) ⌝ }
-    ensures { λ more. ⌜ ListedAt (now (t .entry)) n runs (now (classes .entry)) (now (marks .entry)) only q c set more ⌝ }
+    requires { ⌜ (length (now classes) ≡ cellCount) × ((length (now marks) ≡ cellCount) × (c < cellCount)) ⌝ }
+    ensures { λ more. ⌜ ((t : List ℕ) (n runs q : ℕ) → ListedAt t n runs (now (classes .entry)) (now (marks .entry)) only q c set more) ⌝ }
 {
     let mut more = set;
     if only {
@@ -77,9 +74,7 @@ fn with_value(
     }
     let class = knowledge::class_at(classes, c % 96, c / 96);
     if class < Cells::ABSENT {
-        if variables::may_take(t, n, runs, q, c % 96, c / 96) {
-            more[class as usize] = true;
-        }
+        more[class as usize] = true;
     }
     more
 }
@@ -100,8 +95,10 @@ fn values_of(
     let mut set = [false; 480];
     let mut c = 0;
     while c < Cells::COUNT {
-        let more = with_value(set, t, n, runs, classes, marks, only, q, c);
-        set = more;
+        if variables::may_take(t, n, runs, q, c % 96, c / 96) {
+            let more = with_value(set, classes, marks, only, c);
+            set = more;
+        }
         c += 1;
     }
     set

@@ -1,7 +1,8 @@
 -- `domains::values_of` meets its contract. The loop's invariant: the set has the classes of the values whose cell is below c.
 -- The measure is how many cells are left. Assumes nothing.
+use Rattle.domains.specs.laws.Values.{ListedTo, listed-more, listed-other, listed-all}
+use mathlib.Core.Logic.{⊎-elim}
 use Prim.Native.Nat.{_-_, _≤_}
-use Rattle.domains.specs.laws.Values.{ListedTo, listed-more, listed-all}
 use native.Mathlib.Omega.{arith}
 use borrow.Author.Needs.{needs}
 use Rattle.domains.proofs.values_of.Statement.{statement}
@@ -16,11 +17,14 @@ abbrev μ-loop : tie.MeasureT-loop
 loop-holds : tie.Need-loop-holds Inv-loop μ-loop
 loop-holds c = (omega arith, λ y w l. absurd (omega arith))
 
+loop-less : tie.Need-loop-less Inv-loop μ-loop
+loop-less c = omega (arith, c .before .before .loop-test .taken)
+
 loop-again : tie.Need-loop-again Inv-loop μ-loop
 loop-again c =
-    let l = c .before .before in
+    let l = c .before .before .before in
     let s = l .before .before .before .before in
-    (omega (arith, c .before .loop-test .taken), listed-more (s .args .t .now) (s .args .n) (s .args .runs) (s .args .classes .now) (s .args .marks .now) (s .args .only) (s .args .q) (l .loop .inv .1) (c .with-value .ensures))
+    (omega (arith, c .before .before .loop-test .taken), ⊎-elim (λ w. rw (w .2) (listed-more (s .args .t .now) (s .args .n) (s .args .runs) (s .args .classes .now) (s .args .marks .now) (s .args .only) (s .args .q) (l .loop .inv .1) (w .1 .ensures (s .args .t .now) (s .args .n) (s .args .runs) (s .args .q)))) (λ w. rw (w .1) (listed-more (s .args .t .now) (s .args .n) (s .args .runs) (s .args .classes .now) (s .args .marks .now) (s .args .only) (s .args .q) (l .loop .inv .1) (listed-other (s .args .t .now) (s .args .n) (s .args .runs) (s .args .classes .now) (s .args .marks .now) (s .args .only) (s .args .q) (l .loop .c) (l .loop .set) (s .pre .0) (c .before .may-take .ensures) (w .0 .left)))) (c .if1 .came))
 
 returns : tie.Need-returns Inv-loop μ-loop
 returns c =
@@ -31,4 +35,13 @@ returns c =
 pub values-of-spec : {M : Type 1} → statement M
 values-of-spec =
     tie.close
-    (tie.spec Inv-loop μ-loop loop-holds (λ c κs. search needs) (λ c. search needs) (λ c. search needs) loop-again returns)
+    (tie.spec
+    Inv-loop
+    μ-loop
+    loop-holds
+    (λ c κs. search needs)
+    (λ c κs. search needs)
+    (λ c. search needs)
+    loop-less
+    loop-again
+    returns)

@@ -1,29 +1,25 @@
--- `domains::with_value` meets its contract: a cell that is not marked, has no class or is no value of the variable adds nothing, and any other adds its class. Assumes nothing.
+-- `domains::with_value` meets its contract: a cell that is not marked or has no class adds nothing, and any other adds its class. Assumes nothing.
+use Rattle.domains.specs.laws.Values.{listed-unmarked, listed-set, listed-absent}
 use borrow.Author.Tests.{not-true}
-use Rattle.domains.specs.laws.Values.{listed-unmarked, listed-set, listed-other, listed-absent}
+use native.Mathlib.Omega.{arith}
 use borrow.Author.Needs.{needs}
 use Rattle.domains.proofs.with_value.Statement.{statement}
 use Rattle.domains.proofs.with_value.Tie as tie
 
 returns : tie.Need-returns
-returns c =
-    let s = c .before .before .before .before .before .before in
-    listed-unmarked (s .args .t .now) (s .args .n) (s .args .runs) (s .args .classes .now) (s .args .marks .now) (s .args .only) (s .args .q) (s .args .c) (s .args .set) (c .before .before .if1 .taken) (not-true _ (c .if2 .taken))
+returns c t n runs q =
+    let s = c .before .before .before .before .before in
+    listed-unmarked t n runs (s .args .classes .now) (s .args .marks .now) (s .args .only) q (s .args .c) (s .args .set) (c .before .before .if1 .taken) (not-true _ (c .if2 .taken))
 
 returns-2 : tie.Need-returns-2
-returns-2 c =
-    let s = c .before .before .before .before .before .before .before .before in
-    listed-set (s .args .t .now) (s .args .n) (s .args .runs) (s .args .classes .now) (s .args .marks .now) (s .args .only) (s .args .q) (s .args .c) (s .args .set) (s .good .0 .1 .0 .1) (c .before .before .before .class-at .ensures) (c .before .before .if3 .taken)
+returns-2 c t n runs q =
+    let s = c .before .before .before .before .before in
+    listed-set t n runs (s .args .classes .now) (s .args .marks .now) (s .args .only) q (s .args .c) (s .args .set) (s .good .0 .1 .0 .1) (c .before .class-at .ensures) (c .if3 .taken)
 
 returns-3 : tie.Need-returns-3
-returns-3 c =
-    let s = c .before .before .before .before .before .before .before .before in
-    listed-other (s .args .t .now) (s .args .n) (s .args .runs) (s .args .classes .now) (s .args .marks .now) (s .args .only) (s .args .q) (s .args .c) (s .args .set) (s .pre .0) (c .before .may-take .ensures) (c .if4 .left)
-
-returns-4 : tie.Need-returns-4
-returns-4 c =
-    let s = c .before .before .before .before .before .before in
-    listed-absent (s .args .t .now) (s .args .n) (s .args .runs) (s .args .classes .now) (s .args .marks .now) (s .args .only) (s .args .q) (s .args .c) (s .args .set) (c .before .class-at .ensures) (c .if3 .left)
+returns-3 c t n runs q =
+    let s = c .before .before .before .before .before in
+    listed-absent t n runs (s .args .classes .now) (s .args .marks .now) (s .args .only) q (s .args .c) (s .args .set) (c .before .class-at .ensures) (c .if3 .left)
 
 pub with-value-spec : {M : Type 1} → statement M
 with-value-spec =
@@ -32,9 +28,7 @@ with-value-spec =
     (λ c. search needs)
     returns
     (λ c κs. search needs)
-    (λ c κs. search needs)
     (λ c. search needs)
     (λ c. search needs)
     returns-2
-    returns-3
-    returns-4)
+    returns-3)
