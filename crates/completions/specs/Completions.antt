@@ -82,13 +82,13 @@ module _ (bytes : List ℕ) (n runs : ℕ) (classes : List ℕ) (marks : List Bo
         (k : Completion bytes n runs classes marks u vars) → Held k dom → (y w : ℕ) → FromMark k r y w → (c : ℕ) → GetsClass k i c → In set c
 
     -- the classes that it gets where row r is derivable
-    abbrev pub Hoped : ℕ → ℕ → (ℕ → Type 0) → Type 0
-    Hoped i r P = (k : Completion bytes n runs classes marks u vars) → Held k dom → Derived k r → (c : ℕ) → GetsClass k i c → P c
+    abbrev pub Covered : ℕ → ℕ → (ℕ → Type 0) → Type 0
+    Covered i r P = (k : Completion bytes n runs classes marks u vars) → Held k dom → Derived k r → (c : ℕ) → GetsClass k i c → P c
 
     -- a set for each row
-    pub record Hopes (i : ℕ) (sets : List Bool) : Type 0 where
+    pub record CoveredRows (i : ℕ) (sets : List Bool) : Type 0 where
       pub size : length sets ≡ 46080
-      pub each : (y : ℕ) → y < 96 → Hoped i y (InRow sets y)
+      pub each : (y : ℕ) → y < 96 → Covered i y (InRow sets y)
 
     -- domains that miss no completion with which row x is derivable, where those before miss none
     abbrev pub Kept : ℕ → List Bool → Type 0

@@ -9,7 +9,7 @@ ghost use Rattle.rows.specs.Rows.{rowsOf, Sized};
 ghost use Rattle.cells.specs.Cells.{Shape, cellCount};
 ghost use Rattle.variables.specs.Variables.{Beneath};
 ghost use Rattle.domains.specs.Domains.{In, InRow, Low};
-ghost use Rattle.completions.specs.Completions.{Scene, Open, Allowed, Admitted, Matched, Hoped, Hopes, Kept, Passed, Completes};
+ghost use Rattle.completions.specs.Completions.{Scene, Open, Allowed, Admitted, Matched, Covered, CoveredRows, Kept, Passed, Completes};
 use cells::Cells;
 use cells::cell;
 use domains::Variables;
@@ -121,7 +121,7 @@ fn leaf(
     r: usize,
 ) -> [bool; 480]
     requires { ⌜ (i < vars .count) × (vars .count ≤ 8) ⌝ }
-    ensures { λ set. ⌜ ((t : List ℕ) (n runs : ℕ) (classes : List ℕ) (marks : List Bool) (u : ℕ) → Scene t n runs classes marks u vars → Open t n runs classes marks u vars (now (marked .entry)) → Hoped t n runs classes marks u vars (now (dom .entry)) i r (In set)) ⌝ }
+    ensures { λ set. ⌜ ((t : List ℕ) (n runs : ℕ) (classes : List ℕ) (marks : List Bool) (u : ℕ) → Scene t n runs classes marks u vars → Open t n runs classes marks u vars (now (marked .entry)) → Covered t n runs classes marks u vars (now (dom .entry)) i r (In set)) ⌝ }
 {
     let slot = domains::slot_of(vars, r);
     if slot == vars.count {
@@ -137,7 +137,7 @@ fn leaf(
 }
 
 // The classes that variable i gets where row r is derivable, by those of its parts.
-fn hope_at(
+fn set_at(
     sets: &[bool],
     t: &[u8],
     n: usize,
@@ -151,8 +151,8 @@ fn hope_at(
     i: usize,
     r: usize,
 ) -> [bool; 480]
-    requires { ⌜ Scene (now t) n runs (now classes) (now marks) u vars × (Open (now t) n runs (now classes) (now marks) u vars (now marked) × (Hopes (now t) n runs (now classes) (now marks) u vars (now dom) i (now sets) × ((i < vars .count) × (r < n)))) ⌝ }
-    ensures { λ set. ⌜ Hoped (now (t .entry)) n runs (now (classes .entry)) (now (marks .entry)) u vars (now (dom .entry)) i r (In set) ⌝ }
+    requires { ⌜ Scene (now t) n runs (now classes) (now marks) u vars × (Open (now t) n runs (now classes) (now marks) u vars (now marked) × (CoveredRows (now t) n runs (now classes) (now marks) u vars (now dom) i (now sets) × ((i < vars .count) × (r < n)))) ⌝ }
+    ensures { λ set. ⌜ Covered (now (t .entry)) n runs (now (classes .entry)) (now (marks .entry)) u vars (now (dom .entry)) i r (In set) ⌝ }
 {
     if knowledge::class_at(classes, r, u) < Cells::ABSENT {
         let mark = marks[cell(r, u)];
@@ -178,7 +178,7 @@ fn hope_at(
 }
 
 // The classes that variable i gets where row x is derivable.
-fn hope(
+fn set_of(
     t: &[u8],
     n: usize,
     runs: usize,
@@ -193,13 +193,13 @@ fn hope(
     x: usize,
 ) -> [bool; 480]
     requires { ⌜ Scene (now t) n runs (now classes) (now marks) u vars × (Open (now t) n runs (now classes) (now marks) u vars (now marked) × ((i < vars .count) × (x < n))) ⌝ }
-    ensures { λ set. ⌜ Hoped (now (t .entry)) n runs (now (classes .entry)) (now (marks .entry)) u vars (now (dom .entry)) i x (In set) ⌝ }
+    ensures { λ set. ⌜ Covered (now (t .entry)) n runs (now (classes .entry)) (now (marks .entry)) u vars (now (dom .entry)) i x (In set) ⌝ }
 {
     let mut sets = [true; 46080];
     let mut r = 0;
     while r <= x {
         if below[r] {
-            let set = hope_at(
+            let set = set_at(
                 &sets,
                 t,
                 n,
@@ -251,7 +251,7 @@ fn narrowed(
     let mut i = 0;
     while i < vars.count {
         if is_open(&less, i) {
-            let set = hope(
+            let set = set_of(
                 t,
                 n,
                 runs,

@@ -1,5 +1,5 @@
 -- `completions::leaf` meets its contract. Assumes nothing.
-use Rattle.completions.specs.laws.Rows.{slot-at, hoped-all, hoped-own, hoped-never}
+use Rattle.completions.specs.laws.Rows.{slot-at, covered-all, covered-own, covered-never}
 use lib.ListN.{getD}
 use mathlib.Core.Path.{sym, ap, _∙_}
 use Prim.Native.Nat.{ℕ}
@@ -11,13 +11,13 @@ use Rattle.completions.proofs.leaf.Tie as tie
 returns : tie.Need-returns
 returns c t n runs classes marks u scene opens =
     let s = c .before .before .before in
-    hoped-all scene (s .args .dom .now) (s .args .i) (s .args .r)
+    covered-all scene (s .args .dom .now) (s .args .i) (s .args .r)
 
 returns-2 : tie.Need-returns-2
 returns-2 c t n runs classes marks u scene opens =
     let s = c .before .before .before .before .before in
     let at = slot-at (c .before .before .before .before .slot-of .ensures) (c .before .before .if1 .left) in
-    hoped-own scene (s .args .dom .now) (s .args .i) (s .args .r) (s .args .marked .now) opens (s .pre .0) (ap (λ (j : ℕ). getD (s .args .vars .rows) j 0) (sym (c .before .if2 .taken)) ∙ at .1) (c .domain-of .result) (c .domain-of .ensures)
+    covered-own scene (s .args .dom .now) (s .args .i) (s .args .r) (s .args .marked .now) opens (s .pre .0) (ap (λ (j : ℕ). getD (s .args .vars .rows) j 0) (sym (c .before .if2 .taken)) ∙ at .1) (c .domain-of .result) (c .domain-of .ensures)
 
 meet-requires : tie.Need-meet-requires
 meet-requires c κs =
@@ -27,13 +27,13 @@ meet-requires c κs =
 returns-3 : tie.Need-returns-3
 returns-3 c t n runs classes marks u scene opens =
     let s = c .before .before .before .before .before .before in
-    hoped-all scene (s .args .dom .now) (s .args .i) (s .args .r)
+    covered-all scene (s .args .dom .now) (s .args .i) (s .args .r)
 
 returns-4 : tie.Need-returns-4
 returns-4 c t n runs classes marks u scene opens =
     let s = c .before .before .before .before .before .before in
     let at = slot-at (c .before .before .before .before .before .slot-of .ensures) (c .before .before .before .if1 .left) in
-    hoped-never scene (s .args .dom .now) (s .args .i) (s .args .r) (s .args .marked .now) opens (at .0) (at .1) (c .before .meet .ensures) (c .if3 .left) _
+    covered-never scene (s .args .dom .now) (s .args .i) (s .args .r) (s .args .marked .now) opens (at .0) (at .1) (c .before .meet .ensures) (c .if3 .left) _
 
 pub leaf-spec : {M : Type 1} → statement M
 leaf-spec =

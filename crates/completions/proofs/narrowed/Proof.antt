@@ -22,8 +22,8 @@ is-open-requires c κs =
     let s = c .before .before .before .before .before .before .before in
     omega (arith, s .pre .0 .low .few, c .before .if1 .taken)
 
-hope-requires : tie.Need-hope-requires Inv-loop μ-loop
-hope-requires c κs =
+set-of-requires : tie.Need-set-of-requires Inv-loop μ-loop
+set-of-requires c κs =
     let s = c .before .before .before .before .before .before .before .before .before .before in
     (s .pre .0, (s .pre .1 .0, (c .before .before .before .before .if1 .taken, s .pre .1 .1)))
 
@@ -52,7 +52,7 @@ narrowed-spec =
     μ-loop
     loop-holds
     is-open-requires
-    hope-requires
+    set-of-requires
     narrow-requires
     (λ c. search needs)
     loop-less

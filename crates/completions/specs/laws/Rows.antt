@@ -25,7 +25,7 @@ use Rattle.possible.specs.laws.Tests.{kind-most, pair-parts}
 use Rattle.domains.specs.declared.Variables.{Variables}
 use Rattle.domains.specs.laws.Sets.{stays}
 use Rattle.domains.specs.Domains.{In, InRow, Listed, Fit, Slot, isAt, isNone, Joins, Written}
-use Rattle.completions.specs.Completions.{Scene, TakesCell, Completion, GetsClass, Held, Derived, FromMark, Open, Allowed, Matched, Hoped, Hopes, Admitted}
+use Rattle.completions.specs.Completions.{Scene, TakesCell, Completion, GetsClass, Held, Derived, FromMark, Open, Allowed, Matched, Covered, CoveredRows, Admitted}
 
 -- every class is in a set of all
 pub in-all : (n : ℕ) {c : ℕ} → c < n → In (replicate n true) c
@@ -172,70 +172,70 @@ module _ {bytes : List ℕ} {n runs : ℕ} {classes : List ℕ} {marks : List Bo
         before k held y w (omega (arith, from .inside .0, from .inside .1)) from
 
     -- every class
-    pub hoped-all : Hoped bytes n runs classes marks u vars dom i r (In (replicate 480 true))
-    hoped-all k held d c g = in-all 480 (gets-low scene k _ g)
+    pub covered-all : Covered bytes n runs classes marks u vars dom i r (In (replicate 480 true))
+    covered-all k held d c g = in-all 480 (gets-low scene k _ g)
 
     -- a row that has a value
-    pub hoped-set : r < n → {class cell : ℕ} → class ≡ classAt classes r u → class < absent → cell ≡ cellOf r u → Hoped bytes n runs classes marks u vars dom i r (In (replicate 480 (getD marks cell false)))
-    hoped-set low e l ec k held d c g = in-mark (gets-low scene k _ g) (derived-marked scene k low e l ec d)
+    pub covered-set : r < n → {class cell : ℕ} → class ≡ classAt classes r u → class < absent → cell ≡ cellOf r u → Covered bytes n runs classes marks u vars dom i r (In (replicate 480 (getD marks cell false)))
+    covered-set low e l ec k held d c g = in-mark (gets-low scene k _ g) (derived-marked scene k low e l ec d)
 
     module _ (marked : List Bool) (opens : Open bytes n runs classes marks u vars marked) where
       -- the variable itself
-      pub hoped-own : i < vars .count → getD (vars .rows) i 0 ≡ r → (set : List Bool) → ((c : ℕ) → c < 480 → InRow marked i c → In set c) → Hoped bytes n runs classes marks u vars dom i r (In set)
-      hoped-own l e set f k held d c g = f c (gets-low scene k _ g) (opens k i l (rw e d) c g)
+      pub covered-own : i < vars .count → getD (vars .rows) i 0 ≡ r → (set : List Bool) → ((c : ℕ) → c < 480 → InRow marked i c → In set c) → Covered bytes n runs classes marks u vars dom i r (In set)
+      covered-own l e set f k held d c g = f c (gets-low scene k _ g) (opens k i l (rw e d) c g)
 
       -- another variable, of which no class is in its domain and marked
-      pub hoped-never : {slot : ℕ} → slot < vars .count → getD (vars .rows) slot 0 ≡ r → {b : Bool} → ((c : ℕ) → c < 480 → InRow dom slot c → InRow marked slot c → b ≡ true) → b ≡ false
-          → (P : ℕ → Type 0) → Hoped bytes n runs classes marks u vars dom i r P
-      hoped-never {slot} l e f z P k held d c g =
+      pub covered-never : {slot : ℕ} → slot < vars .count → getD (vars .rows) slot 0 ≡ r → {b : Bool} → ((c : ℕ) → c < 480 → InRow dom slot c → InRow marked slot c → b ≡ true) → b ≡ false
+          → (P : ℕ → Type 0) → Covered bytes n runs classes marks u vars dom i r P
+      covered-never {slot} l e f z P k held d c g =
           let h = takes-gets scene k (k .filled slot l) in
           absurd (false≢true (sym z ∙ f _ (gets-low scene k _ h) (held slot l _ h) (opens k slot l (rw e d) _ h)))
 
-    module _ {sets : List Bool} (hopes : Hopes bytes n runs classes marks u vars dom i sets) (low : r < n) {l s : ℕ} (el : l ≡ leftAt bytes r) (es : s ≡ secondOf bytes r) where
+    module _ {sets : List Bool} (each-row : CoveredRows bytes n runs classes marks u vars dom i sets) (low : r < n) {l s : ℕ} (el : l ≡ leftAt bytes r) (es : s ≡ secondOf bytes r) where
       part-low : 8 ≤ kindAt bytes r → (leftAt bytes r < 96) × (secondOf bytes r < 96)
       part-low high =
           let few = scene .shape .few in
           (omega (arith, left-lower bytes n runs (scene .shape) r low high), omega (arith, second-lower bytes n runs (scene .shape) r low high))
 
-      both-hoped : 8 ≤ kindAt bytes r → {set more : List Bool} → Joins set sets l s more → (k : Completion bytes n runs classes marks u vars) → Held k dom → Derived k (leftAt bytes r) → Derived k (secondOf bytes r)
+      both-covered : 8 ≤ kindAt bytes r → {set more : List Bool} → Joins set sets l s more → (k : Completion bytes n runs classes marks u vars) → Held k dom → Derived k (leftAt bytes r) → Derived k (secondOf bytes r)
           → (c : ℕ) → GetsClass k i c → In more c
-      both-hoped high joins k held a b c g =
+      both-covered high joins k held a b c g =
           let p = part-low high in
-          joins .adds c (gets-low scene k _ g) (rw el (hopes .each (leftAt bytes r) (p .0) k held a c g)) (rw es (hopes .each (secondOf bytes r) (p .1) k held b c g))
+          joins .adds c (gets-low scene k _ g) (rw el (each-row .each (leftAt bytes r) (p .0) k held a c g)) (rw es (each-row .each (secondOf bytes r) (p .1) k held b c g))
 
       -- a pair, by its parts
-      pub hoped-pair : kindAt bytes r ≡ 11 → {set more : List Bool} → Joins set sets l s more → Hoped bytes n runs classes marks u vars dom i r (In more)
-      hoped-pair e joins k held d c g = let p = derived-pair scene k low e d in both-hoped (omega arith) joins k held (p .0) (p .1) c g
+      pub covered-pair : kindAt bytes r ≡ 11 → {set more : List Bool} → Joins set sets l s more → Covered bytes n runs classes marks u vars dom i r (In more)
+      covered-pair e joins k held d c g = let p = derived-pair scene k low e d in both-covered (omega arith) joins k held (p .0) (p .1) c g
 
       -- an encryption, by its parts or a marked cell
-      pub hoped-encryption : kindAt bytes r ≡ 12 → {set more : List Bool} → Matched bytes n runs classes marks u vars dom i r set → Joins set sets l s more → Hoped bytes n runs classes marks u vars dom i r (In more)
-      hoped-encryption e {set} {more} matched joins k held d c g = go (ways scene k low (omega arith) (λ z. omega arith) d)
+      pub covered-encryption : kindAt bytes r ≡ 12 → {set more : List Bool} → Matched bytes n runs classes marks u vars dom i r set → Joins set sets l s more → Covered bytes n runs classes marks u vars dom i r (In more)
+      covered-encryption e {set} {more} matched joins k held d c g = go (ways scene k low (omega arith) (λ z. omega arith) d)
         where
           go : Ways scene k r → In more c
           go (fromMark y w from) = joins .keeps c (gets-low scene k _ g) (matched k held y w from c g)
-          go (fromParts q a b) = both-hoped (omega arith) joins k held a b c g
+          go (fromParts q a b) = both-covered (omega arith) joins k held a b c g
 
     -- a key, by a marked cell
-    pub hoped-key : r < n → 8 ≤ kindAt bytes r → (kindAt bytes r ≡ 11 → ⊥) → (kindAt bytes r ≡ 12 → ⊥) → (set : List Bool) → Matched bytes n runs classes marks u vars dom i r set
-        → Hoped bytes n runs classes marks u vars dom i r (In set)
-    hoped-key low high other another set matched k held d c g = go (ways scene k low high other d)
+    pub covered-key : r < n → 8 ≤ kindAt bytes r → (kindAt bytes r ≡ 11 → ⊥) → (kindAt bytes r ≡ 12 → ⊥) → (set : List Bool) → Matched bytes n runs classes marks u vars dom i r set
+        → Covered bytes n runs classes marks u vars dom i r (In set)
+    covered-key low high other another set matched k held d c g = go (ways scene k low high other d)
       where
         go : Ways scene k r → In set c
         go (fromMark y w from) = matched k held y w from c g
         go (fromParts q a b) = absurd (another q)
 
   -- sets of all classes, and one row more
-  pub hopes-start : (i : ℕ) → Hopes bytes n runs classes marks u vars dom i (replicate 46080 true)
-  hopes-start i =
+  pub rows-start : (i : ℕ) → CoveredRows bytes n runs classes marks u vars dom i (replicate 46080 true)
+  rows-start i =
       record { size = length-replicate {A = Bool} 46080 true; each = λ y l k held d c g. getD-replicate {A = Bool} 46080 (y * 480 + c) true false (omega (arith, gets-low scene k _ g)) }
 
-  pub hopes-more : {i r : ℕ} {sets set after : List Bool} → Hopes bytes n runs classes marks u vars dom i sets → Hoped bytes n runs classes marks u vars dom i r (In set) → Written sets r set after
-      → Hopes bytes n runs classes marks u vars dom i after
-  hopes-more {i} {r} {sets} {set} {after} hopes hoped written = record { size = written .size ∙ hopes .size; each = λ y l. go y l (ℕ-discrete y r) }
+  pub rows-more : {i r : ℕ} {sets set after : List Bool} → CoveredRows bytes n runs classes marks u vars dom i sets → Covered bytes n runs classes marks u vars dom i r (In set) → Written sets r set after
+      → CoveredRows bytes n runs classes marks u vars dom i after
+  rows-more {i} {r} {sets} {set} {after} each-row covered written = record { size = written .size ∙ each-row .size; each = λ y l. go y l (ℕ-discrete y r) }
     where
-      go : (y : ℕ) → y < 96 → Dec (y ≡ r) → Hoped bytes n runs classes marks u vars dom i y (InRow after y)
-      go y l (yes e) k held d c g = rw e (written .own c (gets-low scene k _ g) (hoped k held (rw e at d) c g))
-      go y l (no z) k held d c g = written .others y c (gets-low scene k _ g) z (hopes .each y l k held d c g)
+      go : (y : ℕ) → y < 96 → Dec (y ≡ r) → Covered bytes n runs classes marks u vars dom i y (InRow after y)
+      go y l (yes e) k held d c g = rw e (written .own c (gets-low scene k _ g) (covered k held (rw e at d) c g))
+      go y l (no z) k held d c g = written .others y c (gets-low scene k _ g) z (each-row .each y l k held d c g)
 
 -- a place that is not the number of variables is that of the row
 pub slot-at : {vars : Variables} {q slot : ℕ} → Slot vars q slot → (slot ≡ vars .count → ⊥) → (slot < vars .count) × (getD (vars .rows) slot 0 ≡ q)
@@ -243,6 +243,6 @@ slot-at (isAt l e) d = (l, e)
 slot-at (isNone e) d = absurd (d e)
 
 -- the set of one row
-pub hopes-row : {bytes : List ℕ} {n runs : ℕ} {classes : List ℕ} {marks : List Bool} {u : ℕ} {vars : Variables} (scene : Scene bytes n runs classes marks u vars) (dom : List Bool) {i x : ℕ} {start sets more : List Bool}
-    → Hopes bytes n runs classes marks u vars dom i sets → x < 96 → Joins start sets x x more → Hoped bytes n runs classes marks u vars dom i x (In more)
-hopes-row scene dom {x = x} hopes l joins k held d c g = let h = hopes .each x l k held d c g in joins .adds c (gets-low scene k _ g) h h
+pub rows-one : {bytes : List ℕ} {n runs : ℕ} {classes : List ℕ} {marks : List Bool} {u : ℕ} {vars : Variables} (scene : Scene bytes n runs classes marks u vars) (dom : List Bool) {i x : ℕ} {start sets more : List Bool}
+    → CoveredRows bytes n runs classes marks u vars dom i sets → x < 96 → Joins start sets x x more → Covered bytes n runs classes marks u vars dom i x (In more)
+rows-one scene dom {x = x} each-row l joins k held d c g = let h = each-row .each x l k held d c g in joins .adds c (gets-low scene k _ g) h h

@@ -20,7 +20,7 @@ use Rattle.fits.specs.Fits.{Setting, Gets}
 use Rattle.fits.specs.laws.Fits.{gets-one}
 use Rattle.domains.specs.declared.Variables.{Variables}
 use Rattle.domains.specs.Domains.{In, InRow, Low, Unset, Listed, Narrows}
-use Rattle.completions.specs.Completions.{Scene, TakesCell, Completion, GetsClass, Held, Derived, Open, Hoped, Kept, Passed, Filled, Completes}
+use Rattle.completions.specs.Completions.{Scene, TakesCell, Completion, GetsClass, Held, Derived, Open, Covered, Kept, Passed, Filled, Completes}
 use Rattle.completions.specs.laws.Rows.{gets-low, takes-gets, takes-class, takes-marked, in-set}
 
 -- tests
@@ -51,11 +51,11 @@ module _ {bytes : List ℕ} {n runs : ℕ} {classes : List ℕ} {marks : List Bo
 
   module _ (dom : List Bool) (x : ℕ) where
     -- one domain is narrowed
-    pub kept-more : {i : ℕ} → i < vars .count → (less : List Bool) (set next : List Bool) → Kept bytes n runs classes marks u vars dom x less → Hoped bytes n runs classes marks u vars less i x (In set)
+    pub kept-more : {i : ℕ} → i < vars .count → (less : List Bool) (set next : List Bool) → Kept bytes n runs classes marks u vars dom x less → Covered bytes n runs classes marks u vars less i x (In set)
         → Narrows less i set next → Kept bytes n runs classes marks u vars dom x next
-    kept-more {i} l less set next kept hoped narrows k held d j m c g =
+    kept-more {i} l less set next kept covered narrows k held d j m c g =
         let before = kept k held d in
-        narrows j c (omega (arith, scene .low .few)) (gets-low scene k _ g) (before j m c g) (λ e. hoped k before d c (rw e at g))
+        narrows j c (omega (arith, scene .low .few)) (gets-low scene k _ g) (before j m c g) (λ e. covered k before d c (rw e at g))
 
     -- one more round
     pub kept-both : (less next : List Bool) → Kept bytes n runs classes marks u vars dom x less → Kept bytes n runs classes marks u vars less x next → Kept bytes n runs classes marks u vars dom x next

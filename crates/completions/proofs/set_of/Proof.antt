@@ -1,17 +1,17 @@
--- `completions::hope` meets its contract. The loop's invariant: the set of each row below r misses no class, and the others have every class.
+-- `completions::set_of` meets its contract. The loop's invariant: the set of each row below r misses no class, and the others have every class.
 -- The measure is how many rows are left. Assumes nothing.
 use mathlib.Core.Path.{sym}
-use Rattle.completions.specs.laws.Rows.{hopes-start, hopes-more, hopes-row}
-use Rattle.completions.specs.Completions.{Hopes}
+use Rattle.completions.specs.laws.Rows.{rows-start, rows-more, rows-one}
+use Rattle.completions.specs.Completions.{CoveredRows}
 use mathlib.Core.Logic.{⊎-elim}
 use Prim.Native.Nat.{_+_, _-_, _≤_}
 use native.Mathlib.Omega.{arith}
 use borrow.Author.Needs.{needs}
-use Rattle.completions.proofs.hope.Statement.{statement}
-use Rattle.completions.proofs.hope.Tie as tie
+use Rattle.completions.proofs.set_of.Statement.{statement}
+use Rattle.completions.proofs.set_of.Tie as tie
 
 abbrev Inv-loop : tie.InvT-loop
-Inv-loop t n runs classes marks u vars dom marked below i x sets₀ r₀ sets r = (r ≤ x + 1) × Hopes t n runs classes marks u vars dom i sets
+Inv-loop t n runs classes marks u vars dom marked below i x sets₀ r₀ sets r = (r ≤ x + 1) × CoveredRows t n runs classes marks u vars dom i sets
 
 abbrev μ-loop : tie.MeasureT-loop
 μ-loop t n runs classes marks u vars dom marked below i x sets₀ r₀ sets r = x + 1 - r
@@ -19,13 +19,13 @@ abbrev μ-loop : tie.MeasureT-loop
 loop-holds : tie.Need-loop-holds Inv-loop μ-loop
 loop-holds c =
     let s = c .before .before .before in
-    (omega arith, hopes-start (s .pre .0) (s .args .dom .now) (s .args .i))
+    (omega arith, rows-start (s .pre .0) (s .args .dom .now) (s .args .i))
 
-slice-aggregate-hope-at : tie.Need-slice-aggregate-hope-at Inv-loop μ-loop
-slice-aggregate-hope-at c = sym (c .before .before .before .before .loop .inv .1 .size)
+slice-aggregate-set-at : tie.Need-slice-aggregate-set-at Inv-loop μ-loop
+slice-aggregate-set-at c = sym (c .before .before .before .before .loop .inv .1 .size)
 
-hope-at-requires : tie.Need-hope-at-requires Inv-loop μ-loop
-hope-at-requires c κs =
+set-at-requires : tie.Need-set-at-requires Inv-loop μ-loop
+set-at-requires c κs =
     let s = c .before .before .before .before .before .before .before .before in
     (s .pre .0, (s .pre .1 .0, (c .before .before .before .before .loop .inv .1, (s .pre .1 .1 .0, omega (arith, s .pre .1 .1 .1, c .before .before .before .loop-test .taken)))))
 
@@ -44,7 +44,7 @@ loop-again : tie.Need-loop-again Inv-loop μ-loop
 loop-again c =
     let s = c .before .before .before .before .before .before .before in
     let l = c .before .before .before .loop in
-    (omega (arith, c .before .before .loop-test .taken), ⊎-elim (λ w. rw (w .6) (hopes-more (s .pre .0) (s .args .dom .now) (l .inv .1) (w .2 .ensures) (w .4 .ensures))) (λ w. rw (w .1) (l .inv .1)) (c .if1 .came))
+    (omega (arith, c .before .before .loop-test .taken), ⊎-elim (λ w. rw (w .6) (rows-more (s .pre .0) (s .args .dom .now) (l .inv .1) (w .2 .ensures) (w .4 .ensures))) (λ w. rw (w .1) (l .inv .1)) (c .if1 .came))
 
 slice-aggregate-join : tie.Need-slice-aggregate-join Inv-loop μ-loop
 slice-aggregate-join c = sym (c .before .before .loop .inv .1 .size)
@@ -57,18 +57,18 @@ join-requires c κs =
 returns : tie.Need-returns Inv-loop μ-loop
 returns c =
     let s = c .before .before .before .before .before .before .before in
-    hopes-row (s .pre .0) (s .args .dom .now) (c .before .before .before .loop .inv .1) (omega (arith, s .pre .1 .1 .1, s .pre .0 .shape .few)) (c .join .ensures)
+    rows-one (s .pre .0) (s .args .dom .now) (c .before .before .before .loop .inv .1) (omega (arith, s .pre .1 .1 .1, s .pre .0 .shape .few)) (c .join .ensures)
 
-pub hope-spec : {M : Type 1} → statement M
-hope-spec =
+pub set-of-spec : {M : Type 1} → statement M
+set-of-spec =
     tie.close
     (tie.spec
     Inv-loop
     μ-loop
     loop-holds
     (λ c. search needs)
-    slice-aggregate-hope-at
-    hope-at-requires
+    slice-aggregate-set-at
+    set-at-requires
     slice-aggregate-put
     put-requires
     (λ c. search needs)

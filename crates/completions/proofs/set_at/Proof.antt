@@ -1,16 +1,16 @@
--- `completions::hope_at` meets its contract: a row with a value by its mark, a variable by those that are marked, any other by its parts and the marked cells. Assumes nothing.
-use Rattle.completions.specs.laws.Rows.{hoped-set, hoped-pair, hoped-encryption, hoped-key}
+-- `completions::set_at` meets its contract: a row with a value by its mark, a variable by those that are marked, any other by its parts and the marked cells. Assumes nothing.
+use Rattle.completions.specs.laws.Rows.{covered-set, covered-pair, covered-encryption, covered-key}
 use Rattle.possible.specs.laws.Tests.{parts-small}
 use mathlib.Core.Path.{sym, _∙_}
 use native.Mathlib.Omega.{arith}
 use borrow.Author.Needs.{needs}
-use Rattle.completions.proofs.hope_at.Statement.{statement}
-use Rattle.completions.proofs.hope_at.Tie as tie
+use Rattle.completions.proofs.set_at.Statement.{statement}
+use Rattle.completions.proofs.set_at.Tie as tie
 
 returns : tie.Need-returns
 returns c =
     let s = c .before .before .before .before .before .before .before .before in
-    hoped-set (s .pre .0) (s .args .dom .now) (s .args .i) (s .args .r) (s .pre .1 .1 .1 .1) (c .before .before .before .class-at .ensures) (c .before .before .if1 .taken) (c .before .cell .ensures .0)
+    covered-set (s .pre .0) (s .args .dom .now) (s .args .i) (s .args .r) (s .pre .1 .1 .1 .1) (c .before .before .before .class-at .ensures) (c .before .before .if1 .taken) (c .before .cell .ensures .0)
 
 returns-2 : tie.Need-returns-2
 returns-2 c =
@@ -26,7 +26,7 @@ join-requires c κs =
 returns-3 : tie.Need-returns-3
 returns-3 c =
     let s = c .before .before .before .before .before .before .before .before .before .before .before .before in
-    hoped-pair (s .pre .0) (s .args .dom .now) (s .args .i) (s .args .r) (s .pre .1 .1 .0) (s .pre .1 .1 .1 .1) (c .before .before .left-of .ensures .0) (c .before .second-of .ensures .0) (sym (c .before .before .before .before .before .kind-of .ensures .0) ∙ c .before .before .before .if3 .taken) (c .join .ensures)
+    covered-pair (s .pre .0) (s .args .dom .now) (s .args .i) (s .args .r) (s .pre .1 .1 .0) (s .pre .1 .1 .1 .1) (c .before .before .left-of .ensures .0) (c .before .second-of .ensures .0) (sym (c .before .before .before .before .before .kind-of .ensures .0) ∙ c .before .before .before .if3 .taken) (c .join .ensures)
 
 join-requires-2 : tie.Need-join-requires-2
 join-requires-2 c κs =
@@ -37,16 +37,16 @@ join-requires-2 c κs =
 returns-4 : tie.Need-returns-4
 returns-4 c =
     let s = c .before .before .before .before .before .before .before .before .before .before .before .before .before .before in
-    hoped-encryption (s .pre .0) (s .args .dom .now) (s .args .i) (s .args .r) (s .pre .1 .1 .0) (s .pre .1 .1 .1 .1) (c .before .before .left-of2 .ensures .0) (c .before .second-of2 .ensures .0) (sym (c .before .before .before .before .before .before .before .kind-of .ensures .0) ∙ c .before .before .before .if4 .taken) (c .before .before .before .before .matched .ensures) (c .join2 .ensures)
+    covered-encryption (s .pre .0) (s .args .dom .now) (s .args .i) (s .args .r) (s .pre .1 .1 .0) (s .pre .1 .1 .1 .1) (c .before .before .left-of2 .ensures .0) (c .before .second-of2 .ensures .0) (sym (c .before .before .before .before .before .before .before .kind-of .ensures .0) ∙ c .before .before .before .if4 .taken) (c .before .before .before .before .matched .ensures) (c .join2 .ensures)
 
 returns-5 : tie.Need-returns-5
 returns-5 c =
     let s = c .before .before .before .before .before .before .before .before .before .before .before in
     let k = c .before .before .before .before .kind-of .ensures .0 in
-    hoped-key (s .pre .0) (s .args .dom .now) (s .args .i) (s .args .r) (s .pre .1 .1 .1 .1) (omega (arith, k, c .before .before .before .if2 .left)) (λ e. c .before .before .if3 .left (k ∙ e)) (λ e. c .if4 .left (k ∙ e)) (c .before .matched .result) (c .before .matched .ensures)
+    covered-key (s .pre .0) (s .args .dom .now) (s .args .i) (s .args .r) (s .pre .1 .1 .1 .1) (omega (arith, k, c .before .before .before .if2 .left)) (λ e. c .before .before .if3 .left (k ∙ e)) (λ e. c .if4 .left (k ∙ e)) (c .before .matched .result) (c .before .matched .ensures)
 
-pub hope-at-spec : {M : Type 1} → statement M
-hope-at-spec =
+pub set-at-spec : {M : Type 1} → statement M
+set-at-spec =
     tie.close
     (tie.spec
     (λ c κs. search needs)
