@@ -150,7 +150,7 @@ impl Test {
             for i in 0..self.rows.len() {
                 // The first is always looked at, since any shows that there is no completion.
                 if i == 0 || domains[i].size() > 1 {
-                    domains[i] = domains[i].both(&self.hope(sets, domains, i));
+                    domains[i] = domains[i].both(&self.set_of(sets, domains, i));
                 }
             }
             if *domains == before {
@@ -160,7 +160,7 @@ impl Test {
     }
 
     /// The classes that variable i gets where the pattern is derivable. Rows with a class have their set already.
-    fn hope(&self, sets: &mut [Set; 96], domains: &Domains, i: usize) -> Set {
+    fn set_of(&self, sets: &mut [Set; 96], domains: &Domains, i: usize) -> Set {
         for (r, way) in &self.open {
             let both = |[left, right]: [usize; 2]| sets[left].both(&sets[right]);
             sets[*r] = match way {

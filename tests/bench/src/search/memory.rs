@@ -2,7 +2,7 @@
 use super::scenario::{Scenario, State};
 use crate::knowledge::cell;
 
-const SETS: usize = 1638;
+const SETS: usize = 1344;
 const WAYS: usize = 4;
 
 /// How far the runs have come, how many moves are left, a word that is not used, and the names of each run at the variables' rows.
