@@ -241,7 +241,7 @@ fn a_trace_may_need_all_128_bytes() {
 
 /// Eight variables under a key that stays unknown, with more than a hundred values for each.
 #[test]
-fn useless_choices_are_not_tried() {
+fn hopeless_choices_are_not_tried() {
     let mut rows = eight_variables();
     rows.extend((0..60).flat_map(|c| [7, c, 0]));
     rows.extend([11, 10, 11]);
