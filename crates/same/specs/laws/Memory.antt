@@ -17,9 +17,10 @@ use Rattle.semantics.specs.Moves.{Move, movesOf}
 use Rattle.semantics.specs.Tree.{listed}
 use Rattle.semantics.specs.laws.List.{getElem-there}
 use Rattle.rows.specs.Rows.{rowsOf}
-use Rattle.rows.specs.laws.Decodes.{Decodes, isTrusted, isUntrusted, isGlobal, isIntruder, isRole, isAgentVariable, isFreshVariable, isLocal, isPk, isSk, isShared, isPair, isEncrypted, table-row}
+use Rattle.rows.specs.laws.Decodes.{table-row}
 use Rattle.cells.specs.Cells.{cellOf, cellCount, absent}
 use Rattle.cells.specs.laws.Cells.{getD-any}
+use Rattle.values.specs.laws.Next.{variable-six}
 use Rattle.runs.specs.declared.Runs.{Runs}
 use Rattle.state.specs.State.{Given}
 use Rattle.memory.specs.Memory.{wordCount, Variables, nameOf, IsKey, Agree, SameWords, Says, LookedUp, Stored}
@@ -28,22 +29,6 @@ use Rattle.memory.specs.laws.Slots.{zeros-say-nothing}
 use Rattle.same.specs.Clean.{Clean, SamePositions, SameNames}
 use Rattle.same.specs.Memory.{Reached, Remembers}
 use Rattle.same.specs.laws.Clean.{clean-same}
-
--- the row of a variable has kind 6
-variable-six : {k l q num : ℕ} {type : VariableType} {row : Row} → Decodes k l q row → atomOf (some row) ≡ some (variable num type) → k ≡ 6
-variable-six isTrusted e = let z : _≡_ {A = ℕ} 0 1 = cc in absurd (omega arith)
-variable-six isUntrusted e = let z : _≡_ {A = ℕ} 0 1 = cc in absurd (omega arith)
-variable-six isGlobal e = let z : _≡_ {A = ℕ} 0 1 = cc in absurd (omega arith)
-variable-six isIntruder e = let z : _≡_ {A = ℕ} 0 1 = cc in absurd (omega arith)
-variable-six (isRole l) e = let z : _≡_ {A = ℕ} 0 1 = cc in absurd (omega arith)
-variable-six isAgentVariable e = refl
-variable-six isFreshVariable e = refl
-variable-six isLocal e = let z : _≡_ {A = ℕ} 0 1 = cc in absurd (omega arith)
-variable-six isPk e = let z : _≡_ {A = ℕ} 0 1 = cc in absurd (omega arith)
-variable-six isSk e = let z : _≡_ {A = ℕ} 0 1 = cc in absurd (omega arith)
-variable-six isShared e = let z : _≡_ {A = ℕ} 0 1 = cc in absurd (omega arith)
-variable-six isPair e = let z : _≡_ {A = ℕ} 0 1 = cc in absurd (omega arith)
-variable-six isEncrypted e = let z : _≡_ {A = ℕ} 0 1 = cc in absurd (omega arith)
 
 -- an array of zeros is right, as it says nothing
 pub remembers-start : (file t : List ℕ) (n : ℕ) (r : Runs) {variables memory : List ℕ} → Variables t n variables → memory ≡ replicate {A = ℕ} wordCount 0 → Remembers file t n r variables memory
@@ -70,7 +55,7 @@ module _ {file t : List ℕ} {n : ℕ} {r : Runs} {variables memory : List ℕ} 
         let inside : x < length (rowsOf t) = omega (arith, reached .given .shape .count) in
         let row = getElem-there (rowsOf t) x inside in
         let its : atomAt (rowsOf t) x ≡ some (variable num type) = ap (λ (rows : List Row). atomAt rows x) (sym (reached .given .rows)) ∙ e in
-        let place = remembers .rows .all x below (variable-six (table-row t (reached .given .shape .table) x (row .0) (row .1) inside) (ap atomOf (sym (row .1)) ∙ its)) in
+        let place = remembers .rows .all x below (variable-six (variable num type) (table-row t (reached .given .shape .table) x (row .0) (row .1) inside) (ap atomOf (sym (row .1)) ∙ its) tt) in
         let runs : k < 4 = omega (arith, reached .given .good .fewRuns) in
         let cell : cellOf (getD variables (place .0) 0) (k + 1) ≡ cellOf x (suc k) = ap (λ (y : ℕ). cellOf y (k + 1)) (place .2) ∙ ap (cellOf x) (add-one k) in
         let low : cellOf x (suc k) < 480 = omega (arith, reached .given .shape .few) in

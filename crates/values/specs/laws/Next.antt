@@ -87,7 +87,7 @@ module _ {t : List ℕ} {runs k : ℕ} {e : RunEvent} {sc : Scenario} {d : State
       go claim b h n = refl
 
 -- the row of a variable has kind 6
-variable-six : {k l q : ℕ} {row : Row} (a : Atom) → Decodes k l q row → atomOf (some row) ≡ some a → T (variableAtom a) → k ≡ 6
+pub variable-six : {k l q : ℕ} {row : Row} (a : Atom) → Decodes k l q row → atomOf (some row) ≡ some a → T (variableAtom a) → k ≡ 6
 variable-six a (isTrusted {n}) e h = absurd (rw (← Option·some-injective (trusted n) a e) at h)
 variable-six a (isUntrusted {n}) e h = absurd (rw (← Option·some-injective (untrusted n) a e) at h)
 variable-six a (isGlobal {n}) e h = absurd (rw (← Option·some-injective (global n) a e) at h)
