@@ -200,7 +200,7 @@ fn write_key(memory: &mut [u16], at: usize, key: &[u16; 38])
 
 // The first half of a count.
 fn low_half(count: usize) -> u16
-    requires { ⌜ 0 < count ⌝ }
+    requires { ⌜ count < countEnd ⌝ }
     ensures { λ r. ⌜ r ≡ count % 65536 ⌝ }
 {
     (count % Memory::HALF) as u16
