@@ -1,7 +1,7 @@
 -- Small tools of the definitions: tests, lists and what may be missing. Assumes nothing.
 use Prim.Native.Nat.{ℕ, zero, suc, _+_, _*_}
 use mathlib.Core.Bool.{Bool, true, false, _&&_, _||_, not}
-use mathlib.Core.List.{List, [], _∷_, _++_, map}
+use mathlib.Core.List.{List, [], _∷_, _++_, map, List·Memᴰ}
 use mathlib.Core.Option.{Option, none, some}
 use lib.Dec.{ltb, eqb}
 
@@ -74,3 +74,8 @@ rising (a ∷ b ∷ bs) = ltb a b && rising (b ∷ bs)
 abbrev pub total : List ℕ → ℕ
 total [] = 0
 total (n ∷ ns) = n + total ns
+
+-- Every element stands in the relation to each later one.
+pub data Ordered {A : Type 0} (R : A → A → Type 0) : List A → Type 0 where
+  ordered-none : Ordered R []
+  ordered-more : {x : A} {xs : List A} → ((y : A) → List·Memᴰ y xs → R x y) → Ordered R xs → Ordered R (x ∷ xs)

@@ -20,6 +20,9 @@ pub mod Derive
 pub mod Allowed
 pub mod Demand
 pub mod Guarantee
+pub mod Meaning
+pub mod Encoding
+pub mod Refusals
 pub mod Worked
 pub mod laws
 pub mod Theorems

@@ -7,6 +7,7 @@ use mathlib.Core.List.{List, [], _∷_, _++_, List·Memᴰ}
 use mathlib.Core.Option.{Option, none, some}
 use lib.Dec.{T}
 use lib.ListN.{length, getElem?}
+use Rattle.semantics.specs.Basic.{Ordered}
 use Rattle.semantics.specs.Limits.{mostTraceBytes}
 use Rattle.semantics.specs.Term.{Term, inverse, pk, sk, encrypted}
 use Rattle.semantics.specs.Inference.{Derives, derivable}
@@ -25,7 +26,6 @@ use Rattle.semantics.specs.Allowed.{Readable, WellFormed, Takes, Step, A
 use Rattle.semantics.specs.Demand.{SomeBreak, FirstBreak, NoBreak}
 use Rattle.semantics.specs.Guarantee.{Guarantee}
 use Rattle.semantics.specs.Worked.{AllHold, cases, p1File, p1Bytes}
-use Rattle.semantics.specs.laws.List.{Ordered}
 use Rattle.semantics.specs.laws.Inference
 use Rattle.semantics.specs.laws.WellFormed as well
 use Rattle.semantics.specs.laws.Open as accept

@@ -8,6 +8,9 @@ pub mod Value
 pub mod Frame
 pub mod WellFormed
 pub mod Open
+pub mod Encoding
+pub mod Conditions
+pub mod Refusals
 pub mod Tree
 pub mod Moves
 pub mod Traces
@@ -16,4 +19,6 @@ pub mod Bytes
 pub mod Broken
 pub mod Verdict
 pub mod Demand
+pub mod Replay
+pub mod Operations
 pub mod Worked

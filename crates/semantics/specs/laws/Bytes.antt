@@ -142,7 +142,7 @@ abbrev bytesLeft : Scenario → Run → Progress → ℕ
 bytesLeft sc run p = 2 * (length (eventsOf sc run) - p .done) + 2 * unset (sc .rows) (p .values)
 
 -- two bytes for each value
-value-bytes : (vs : List Value) → length (valueBytes vs) ≡ 2 * length vs
+pub value-bytes : (vs : List Value) → length (valueBytes vs) ≡ 2 * length vs
 value-bytes [] = refl
 value-bytes (v ∷ vs) = let h = value-bytes vs in omega arith
 

@@ -10,7 +10,7 @@ use mathlib.Core.List.{List, [], _∷_, _++_, map, List·Memᴰ, List·Memᴰ·h
 use mathlib.Core.List.{List·Memᴰ·append-cases, Memᴰ·append-left, Memᴰ·append-right}
 use lib.Dec.{T}
 use lib.ListN.{length, getElem?, getD, set}
-use Rattle.semantics.specs.Basic.{joined, keep, presentOnes, numbersFrom, every}
+use Rattle.semantics.specs.Basic.{joined, keep, presentOnes, numbersFrom, every, Ordered, ordered-none, ordered-more}
 use Rattle.semantics.specs.laws.Test.{both-left, both-right, both}
 
 -- an element is the first one or a later one
@@ -90,10 +90,12 @@ mem-numbersFrom a (suc n) = (
   λ w. ⊎-elim (λ e. List·Memᴰ·head (sym e)) (λ l. List·Memᴰ·tail (mem-numbersFrom (suc a) n .1 (omega arith))) (eq-or-lt-of-le (w .0)),
 )
 
--- Every element stands in the relation to each later one.
-pub data Ordered {A : Type 0} (R : A → A → Type 0) : List A → Type 0 where
-  ordered-none : Ordered R []
-  ordered-more : {x : A} {xs : List A} → ((y : A) → List·Memᴰ y xs → R x y) → Ordered R xs → Ordered R (x ∷ xs)
+-- the first element stands in the relation to each later one, and those are in order
+pub ordered-first : {A : Type 0} {R : A → A → Type 0} {x : A} {xs : List A} → Ordered R (x ∷ xs) → (y : A) → List·Memᴰ y xs → R x y
+ordered-first (ordered-more a o) = a
+
+pub ordered-rest : {A : Type 0} {R : A → A → Type 0} {x : A} {xs : List A} → Ordered R (x ∷ xs) → Ordered R xs
+ordered-rest (ordered-more a o) = o
 
 -- n numbers from a on are in order
 pub ordered-numbersFrom : (a n : ℕ) → Ordered _<_ (numbersFrom a n)
@@ -263,3 +265,20 @@ module _ {A : Type 0} where
   pub map-places : {B : Type 0} (h : Option B → A) (xs : List B) → map (λ i. h (getElem? xs i)) (numbersFrom 0 (length xs)) ≡ map (λ x. h (some x)) xs
   map-places h [] = refl
   map-places h (x ∷ xs) = ap (λ r. h (some x) ∷ r) (map-shift (λ i. h (getElem? (x ∷ xs) i)) 0 (length xs) ∙ map-places h xs)
+
+module _ {A : Type 0} where
+  -- an element stands where it stood with others behind
+  pub getElem-append : (xs ys : List A) (i : ℕ) {x : A} → getElem? xs i ≡ some x → getElem? (xs ++ ys) i ≡ some x
+  getElem-append [] ys i {x} e = absurd (Option·none-ne-some x e)
+  getElem-append (y ∷ xs) ys zero e = e
+  getElem-append (y ∷ xs) ys (suc i) e = getElem-append xs ys i e
+
+  -- how many elements of two lists pass a test
+  pub keep-append : (p : A → Bool) (xs ys : List A) → length (keep p (xs ++ ys)) ≡ length (keep p xs) + length (keep p ys)
+  keep-append p [] ys = omega arith
+  keep-append p (x ∷ xs) ys = let e = keep-append p xs ys in let f = keep-cons p x (xs ++ ys) in let g = keep-cons p x xs in omega arith
+
+  -- values that are all there
+  pub present-all : (xs : List A) → presentOnes (map some xs) ≡ xs
+  present-all [] = refl
+  present-all (x ∷ xs) = ap (λ r. x ∷ r) (present-all xs)

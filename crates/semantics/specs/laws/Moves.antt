@@ -8,7 +8,7 @@ use mathlib.Core.Option.{Option, none, some, Option·some-injective, Option·non
 use mathlib.Core.List.{List, [], _∷_, map, List·Memᴰ, List·Memᴰ·head, List·Memᴰ·tail, List·Memᴰ·not-nil, List·Memᴰ·eq-of-singleton}
 use lib.Dec.{T, eqb, eqb→eq, eqb-refl}
 use lib.ListN.{length, getElem?}
-use Rattle.semantics.specs.Basic.{mapped, numbersFrom}
+use Rattle.semantics.specs.Basic.{mapped, numbersFrom, Ordered, ordered-none}
 use Rattle.semantics.specs.Term.{VariableType, agentType, freshType, Atom, trusted, untrusted, global, intruder, role, variable, local, Term}
 use Rattle.semantics.specs.Inference.{Derives, derivable}
 use Rattle.semantics.specs.Table.{Row}
@@ -21,7 +21,7 @@ use Rattle.semantics.specs.Tree.{Earlier, differs, agrees}
 use Rattle.semantics.specs.Replay.{sameValue, isValueOf, suits, after}
 use Rattle.semantics.specs.Allowed.{MayTake, anAgent, anIntruder, aLocal, Takes, takesNone, takesMore, Performs, sends, reads, claims, Step, step, ValueBefore, byRow, byRun, MoveBefore, earlierRun, earlierValues}
 use Rattle.semantics.specs.laws.Test.{both-left, both-right, both, all-three, guarded-some, either-left, either-right, either-cases, provided-some, andThen-some, mapped-some}
-use Rattle.semantics.specs.laws.List.{mem-cases, mem-joined, mem-map, mem-present, mem-numbersFrom, getElem-below, Ordered, ordered-none, ordered-one, ordered-imply, ordered-map, ordered-joined, ordered-present, ordered-numbersFrom}
+use Rattle.semantics.specs.laws.List.{mem-cases, mem-joined, mem-map, mem-present, mem-numbersFrom, getElem-below, ordered-one, ordered-imply, ordered-map, ordered-joined, ordered-present, ordered-numbersFrom}
 use Rattle.semantics.specs.laws.Inference.{derivable-exact}
 use Rattle.semantics.specs.laws.Tree.{earlier-asymmetric}
 

@@ -1,10 +1,11 @@
 -- Laws of tests, decisions and what may be missing. Assumes nothing.
 use mathlib.Core.Path.{_≡_, refl, sym, ap}
-use mathlib.Core.Logic.{_↔_, _⊎_, inl, inr}
+use mathlib.Core.Logic.{_↔_, _⊎_, inl, inr, ⊎-elim}
 use mathlib.Core.Bool.{Bool, true, false, _&&_, _||_, not}
 use mathlib.Core.List.{[], _∷_}
 use mathlib.Core.Option.{Option, none, some, Option·some-injective, Option·none-ne-some}
-use lib.Dec.{T}
+use Prim.Native.Nat.{ℕ, _<_, _≤_}
+use lib.Dec.{T, ltb, leb, eqb, ltb→lt, lt→ltb, leb→le, le→leb, eqb→eq, eqb-refl}
 use Rattle.semantics.specs.Basic.{decided, present, andThen, mapped, mapped₂, provided, firstOf}
 
 -- two tests pass
@@ -152,3 +153,23 @@ module _ {A B : Type 0} where
   mapped₂-there f none p = (none-there, λ w. none-there (w .0))
   mapped₂-there f (some x) none = (none-there, λ w. none-there (w .1))
   mapped₂-there f (some x) (some y) = (λ w. ((x, refl), (y, refl)), λ w. (f x y, refl))
+
+-- what numbers are compared by
+pub ltb-iff : (m n : ℕ) → T (ltb m n) ↔ (m < n)
+ltb-iff m n = (ltb→lt m n, lt→ltb m n)
+
+pub leb-iff : (m n : ℕ) → T (leb m n) ↔ (m ≤ n)
+leb-iff m n = (leb→le m n, le→leb m n)
+
+pub eqb-iff : (m n : ℕ) → T (eqb m n) ↔ (m ≡ n)
+eqb-iff m n = (eqb→eq m n, λ e. rw e (eqb-refl n))
+
+-- both of two tests, and what each says
+pub both-iff : {A B : Type 0} (a b : Bool) → T a ↔ A → T b ↔ B → T (a && b) ↔ (A × B)
+both-iff a b e f = (λ t. (e .0 (both-left a b t), f .0 (both-right a b t)), λ w. both a b (e .1 (w .0)) (f .1 (w .1)))
+
+-- where a failed test gives a value, what is given is that, or what there is otherwise
+pub choice-some : {A : Type 0} (b : Bool) (o : Option A) (x y : A)
+    → (_≡_ {A = Option A} (elim b [ true ↦ o | false ↦ some x ]) (some y)) ↔ ((T b × (o ≡ some y)) ⊎ ((¬ T b) × (y ≡ x)))
+choice-some true o x y = (λ e. inl (tt, e), λ w. ⊎-elim (λ h. h .1) (λ h. absurd (h .0 tt)) w)
+choice-some false o x y = (λ e. inr ((λ t. t), sym (Option·some-injective x y e)), λ w. ⊎-elim (λ h. absurd (h .0)) (λ h. ap some (sym (h .1))) w)

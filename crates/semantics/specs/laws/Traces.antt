@@ -7,6 +7,7 @@ use mathlib.Core.Logic.{_↔_}
 use mathlib.Core.Option.{some, Option·some-injective, Option·none-ne-some}
 use mathlib.Core.List.{List, [], _∷_, _++_, List·Memᴰ}
 use lib.ListN.{length, getElem?, set}
+use Rattle.semantics.specs.Basic.{Ordered}
 use Rattle.semantics.specs.Roles.{Event}
 use Rattle.semantics.specs.Runs.{Run}
 use Rattle.semantics.specs.Scenario.{Scenario}
@@ -15,7 +16,7 @@ use Rattle.semantics.specs.Moves.{Move, advanced, movesOf}
 use Rattle.semantics.specs.Tree.{Earlier}
 use Rattle.semantics.specs.Verdict.{Entry, traceList}
 use Rattle.semantics.specs.Allowed.{Step, step, AllowedTrace, MoveBefore}
-use Rattle.semantics.specs.laws.List.{Ordered, getElem-below}
+use Rattle.semantics.specs.laws.List.{getElem-below}
 use Rattle.semantics.specs.laws.Tree.{follows-determined, follows-map, earlier-prefix, places-order, places-once, listed-first, listed-sound, listed-complete, listed-ordered}
 use Rattle.semantics.specs.laws.Moves.{ActiveIn, active-in, moves-exact, after-exact, moveBefore-asymmetric, moves-ordered}
 

@@ -7,9 +7,9 @@ use mathlib.Core.Logic.{_↔_, _⊎_, inl, inr, ⊎-elim}
 use mathlib.Core.Option.{some}
 use mathlib.Core.List.{List, [], _∷_, _++_, map, List·Memᴰ, List·Memᴰ·head, List·Memᴰ·tail, List·Memᴰ·not-nil}
 use lib.ListN.{getElem?}
-use Rattle.semantics.specs.Basic.{joined}
+use Rattle.semantics.specs.Basic.{joined, Ordered, ordered-none, ordered-more}
 use Rattle.semantics.specs.Tree.{Follows, stays, moves, Earlier, shorter, differs, agrees, listed}
-use Rattle.semantics.specs.laws.List.{mem-cases, mem-joined, mem-map, Ordered, ordered-none, ordered-more, ordered-imply, ordered-map, ordered-joined, ordered-at}
+use Rattle.semantics.specs.laws.List.{mem-cases, mem-joined, mem-map, ordered-imply, ordered-map, ordered-joined, ordered-at}
 
 module _ {State Move : Type 0} {Step : State → Move → State → Type 0} where
   -- a sequence in two parts passes through a state between them

@@ -1,0 +1,187 @@
+-- The laws of Search, Derive and Replay on bytes: what each answer says, and what is left in the buffer. Assumes nothing.
+use Prim.Native.Nat.{ℕ, zero, suc, _+_, _≤_, _<_}
+use native.Mathlib.Decide.{decLt}
+use native.Mathlib.Omega.{arith}
+use mathlib.Core.Path.{_≡_, refl, sym, ap, _∙_}
+use mathlib.Core.Logic.{_↔_, _⊎_, inl, inr, ⊎-elim}
+use mathlib.Core.Bool.{Bool, true, false, not}
+use mathlib.Core.Option.{Option, none, some, Option·none-ne-some, Option·some-injective}
+use mathlib.Core.List.{List, [], _∷_, _++_, map, List·Memᴰ}
+use lib.Dec.{T, ltb}
+use lib.ListN.{length, take, drop, length-append, length-drop}
+use lib.Seq.{take-append-seam, drop-append-seam}
+use Rattle.semantics.specs.Basic.{presentOnes}
+use Rattle.semantics.specs.Answer.{Refusal, Answer, refused, accepted, refuse, checked, _>>=_, _>>_}
+use Rattle.semantics.specs.Term.{Term}
+use Rattle.semantics.specs.Inference.{Derives, derivable}
+use Rattle.semantics.specs.Table.{Row, rowsFrom}
+use Rattle.semantics.specs.Value.{valueOf, asAtoms}
+use Rattle.semantics.specs.Frame.{budgetOf}
+use Rattle.semantics.specs.Scenario.{Scenario, scenarioOf, opened}
+use Rattle.semantics.specs.State.{State, initial}
+use Rattle.semantics.specs.Moves.{Move}
+use Rattle.semantics.specs.Verdict.{Entry, Claim, traceList, broken, Verdict, brokenAt, held, stopped, verdict, traceBytes, shortBuffer, searched, written, bufferAfter}
+use Rattle.semantics.specs.Replay.{replayedFrom, replayed}
+use Rattle.semantics.specs.Derive.{absentFrom, derivableRow, derived}
+use Rattle.semantics.specs.Allowed.{AllowedTrace, Names}
+use Rattle.semantics.specs.Demand.{SomeBreak, FirstBreak, NoBreak}
+use Rattle.semantics.specs.Refusals.{SearchRefuses, openRefuses, tooShort, ReplayRefuses, fileRefused, stepRefused}
+use Rattle.semantics.specs.laws.Test.{provided-some, provided-none, not-iff, ltb-iff}
+use Rattle.semantics.specs.laws.List.{mem-present, mem-map, mem-getElem}
+use Rattle.semantics.specs.laws.Answer.{refused-not-accepted, refused-same, accepted-same, checked-passed, bound-refused, bound-accepted}
+use Rattle.semantics.specs.laws.Inference.{derivable-exact, derives-monotone}
+use Rattle.semantics.specs.laws.Table.{rows-good}
+use Rattle.semantics.specs.laws.Value.{asAtoms-value}
+use Rattle.semantics.specs.laws.Refusals.{open-refuses, open-accepts}
+use Rattle.semantics.specs.laws.Traces.{traces-exact}
+use Rattle.semantics.specs.laws.Bytes.{trace-bytes}
+use Rattle.semantics.specs.laws.Open.{opened-guarantee}
+use Rattle.semantics.specs.laws.Demand.{verdict-broken, verdict-held, verdict-stopped, verdict-breaks}
+use Rattle.semantics.specs.laws.Replay.{replay-reaches, replay-breaks-off}
+
+-- the scenario of an accepted file has the file's budget
+pub budget-of : (file : List ℕ) (sc : Scenario) → opened file ≡ accepted sc → sc .budget ≡ budgetOf file
+unfolding scenarioOf
+budget-of file sc e = ap (λ x. x .budget) (open-accepts file sc .0 e .1 .3)
+
+-- the trace of the first break is allowed
+first-allowed : (sc : Scenario) (place : ℕ) (ms : List Move) {c : Claim} (f : FirstBreak sc place ms c) → AllowedTrace sc ms (f .end)
+first-allowed sc zero ms f = absurd (Option·none-ne-some (ms, f .end) (f .listed))
+first-allowed sc (suc i) ms f = traces-exact sc ms (f .end) .0 (mem-getElem (traceList sc) .1 (i, f .listed))
+
+module _ (file buffer : List ℕ) where
+  -- what Search goes on with
+  abbrev afterOpen : Scenario → Answer Verdict
+  afterOpen sc = _>>_ (checked 10 (shortBuffer buffer)) (accepted (verdict sc))
+
+  searched-bound : searched file buffer ≡ _>>=_ (opened file) afterOpen
+  unfolding searched
+  searched-bound = refl
+
+  -- a buffer is too short exactly if it has fewer than 128 bytes
+  short-exactly : (at : ℕ) → (shortBuffer buffer ≡ some at) ↔ ((length buffer < 128) × (at ≡ length buffer))
+  unfolding shortBuffer
+  short-exactly at = (
+    λ e. let w = provided-some (ltb (length buffer) 128) .0 e in (ltb-iff (length buffer) 128 .0 (w .0), w .1),
+    λ w. provided-some (ltb (length buffer) 128) .1 (ltb-iff (length buffer) 128 .1 (w .0), w .1),
+  )
+
+  -- and else it is long enough
+  short-or-long : (128 ≤ length buffer) ⊎ (length buffer < 128)
+  short-or-long = go (decLt (length buffer) 128)
+    where
+      go : Dec (length buffer < 128) → (128 ≤ length buffer) ⊎ (length buffer < 128)
+      go (yes l) = inr l
+      go (no n) = inl (omega arith)
+
+  long-enough : 128 ≤ length buffer → shortBuffer buffer ≡ none
+  long-enough l = go (shortBuffer buffer) refl
+    where
+      go : (o : Option ℕ) → shortBuffer buffer ≡ o → o ≡ none
+      go none e = refl
+      go (some at) e = let h = short-exactly at .0 e .0 in absurd (omega arith)
+
+  enough-long : shortBuffer buffer ≡ none → 128 ≤ length buffer
+  enough-long e = ⊎-elim (λ l. l) (λ l. absurd (Option·none-ne-some (length buffer) (sym e ∙ short-exactly (length buffer) .1 (l, refl)))) short-or-long
+
+  -- Search gives a verdict exactly if the file is accepted and the buffer is long enough: the scenario's verdict.
+  pub search-answers : (v : Verdict) → (searched file buffer ≡ accepted v) ↔ ((sc : Scenario) × (opened file ≡ accepted sc) × (128 ≤ length buffer) × (verdict sc ≡ v))
+  search-answers v = (
+    λ e.
+      let w = bound-accepted (opened file) afterOpen .0 (sym searched-bound ∙ e) in
+      let c = checked-passed 10 (shortBuffer buffer) (accepted (verdict (w .0))) (w .2) in
+      (w .0, w .1, enough-long (c .0), accepted-same (c .1)),
+    λ w. searched-bound ∙ bound-accepted (opened file) afterOpen .1 (w .0, w .1, ap (λ o. _>>_ (checked 10 o) (accepted (verdict (w .0)))) (long-enough (w .2)) ∙ ap accepted (w .3)),
+  )
+
+  -- Search refuses as Open, then 10.
+  pub search-refuses : (n at : ℕ) → (searched file buffer ≡ refuse n at) ↔ SearchRefuses file buffer n at
+  search-refuses n at = (λ e. ⊎-elim (λ r. openRefuses (open-refuses file n at .0 r)) by-buffer (bound-refused (opened file) afterOpen .0 (sym searched-bound ∙ e)), refuses)
+    where
+      by-buffer : (sc : Scenario) × (opened file ≡ accepted sc) × (afterOpen sc ≡ refuse n at) → SearchRefuses file buffer n at
+      by-buffer w = go (shortBuffer buffer) refl (w .2)
+        where
+          go : (o : Option ℕ) → shortBuffer buffer ≡ o → _>>_ (checked 10 o) (accepted (verdict (w .0))) ≡ refuse n at → SearchRefuses file buffer n at
+          go none q e = absurd (refused-not-accepted (sym e))
+          go (some p) q e = let v = refused-same e in let x = short-exactly p .0 q in tooShort (w .1) (x .0) (sym (v .0)) (sym (v .1) ∙ x .1)
+
+      refuses : SearchRefuses file buffer n at → searched file buffer ≡ refuse n at
+      refuses (openRefuses h) = searched-bound ∙ bound-refused (opened file) afterOpen .1 (inl (open-refuses file n at .1 h))
+      refuses (tooShort {sc} e l q p) =
+          searched-bound
+          ∙ bound-refused (opened file) afterOpen .1 (inr (sc, e, ap (λ o. _>>_ (checked 10 o) (accepted (verdict sc))) (short-exactly at .1 (l, p)) ∙ (λ i. refuse (sym q i) at)))
+
+  -- HELD on bytes
+  pub search-held : (n : ℕ) → (searched file buffer ≡ accepted (held n))
+      ↔ ((sc : Scenario) × (opened file ≡ accepted sc) × (128 ≤ length buffer) × NoBreak sc × (length (traceList sc) ≤ budgetOf file) × (n ≡ length (traceList sc)))
+  search-held n = (
+    λ e.
+      let w = search-answers (held n) .0 e in
+      let h = verdict-held (w .0) n .0 (w .3) in
+      let l = h .1 in
+      (w .0, w .1, w .2, h .0, omega (arith, budget-of file (w .0) (w .1)), h .2),
+    λ w. search-answers (held n) .1 (w .0, w .1, w .2, verdict-held (w .0) n .1 (w .3, (let l = w .4 in omega (arith, budget-of file (w .0) (w .1))), w .5)),
+  )
+
+  -- BROKEN on bytes
+  pub search-broken : (place : ℕ) (ms : List Move) (c : Claim) → (searched file buffer ≡ accepted (brokenAt place ms c))
+      ↔ ((sc : Scenario) × (opened file ≡ accepted sc) × (128 ≤ length buffer) × FirstBreak sc place ms c)
+  search-broken place ms c = (
+    λ e. let w = search-answers (brokenAt place ms c) .0 e in (w .0, w .1, w .2, verdict-broken (w .0) place ms c .0 (w .3)),
+    λ w. search-answers (brokenAt place ms c) .1 (w .0, w .1, w .2, verdict-broken (w .0) place ms c .1 (w .3)),
+  )
+
+  -- STOPPED on bytes
+  pub search-stopped : (n : ℕ) → (searched file buffer ≡ accepted (stopped n))
+      ↔ ((sc : Scenario) × (opened file ≡ accepted sc) × (128 ≤ length buffer) × (n ≡ budgetOf file) × (¬ SomeBreak sc) × (¬ (NoBreak sc × (length (traceList sc) ≤ budgetOf file))))
+  search-stopped n = (
+    λ e.
+      let w = search-answers (stopped n) .0 e in
+      let h = verdict-stopped (w .0) n .0 (w .3) in
+      let b = budget-of file (w .0) (w .1) in
+      (w .0, w .1, w .2, h .0 ∙ b, h .1, λ x. h .2 (x .0, (let l = x .1 in omega arith))),
+    λ w.
+      let b = budget-of file (w .0) (w .1) in
+      search-answers (stopped n) .1 (w .0, w .1, w .2, verdict-stopped (w .0) n .1 (w .3 ∙ sym b, w .4, λ x. w .5 (x .0, (let l = x .1 in omega arith)))),
+  )
+
+  -- A refusal, HELD and STOPPED leave the buffer as it was.
+  pub search-keeps : (a : Answer Verdict) → searched file buffer ≡ a → ((place : ℕ) (ms : List Move) (c : Claim) → ¬ (a ≡ accepted (brokenAt place ms c))) → bufferAfter file buffer ≡ buffer
+  unfolding bufferAfter
+  search-keeps (refused r) e n = rw e
+  search-keeps (accepted (brokenAt place ms c)) e n = absurd (n place ms c refl)
+  search-keeps (accepted (held k)) e n = rw e
+  search-keeps (accepted (stopped k)) e n = rw e
+
+  -- BROKEN leaves the trace at the buffer's front, the rest and the length as they were.
+  pub search-writes : (place : ℕ) (ms : List Move) (c : Claim) → searched file buffer ≡ accepted (brokenAt place ms c)
+      → (take (length (traceBytes ms)) (bufferAfter file buffer) ≡ traceBytes ms)
+      × (drop (length (traceBytes ms)) (bufferAfter file buffer) ≡ drop (length (traceBytes ms)) buffer)
+      × (length (bufferAfter file buffer) ≡ length buffer)
+  search-writes place ms c e = (
+    ap (take (length (traceBytes ms))) after ∙ take-append-seam (traceBytes ms) rest,
+    ap (drop (length (traceBytes ms))) after ∙ drop-append-seam (traceBytes ms) rest,
+    ap length after ∙ length-append (traceBytes ms) rest ∙ whole,
+  )
+    where
+      rest : List ℕ
+      rest = drop (length (traceBytes ms)) buffer
+
+      after : bufferAfter file buffer ≡ traceBytes ms ++ rest
+      after = unfold bufferAfter in ap (written buffer) e
+
+      found : (sc : Scenario) × (opened file ≡ accepted sc) × (128 ≤ length buffer) × FirstBreak sc place ms c
+      found = search-broken place ms c .0 e
+
+      fits : length (traceBytes ms) ≤ 128
+      fits = trace-bytes (found .0) (opened-guarantee file (found .0) (found .1)) ms (found .3 .end) (first-allowed (found .0) place ms (found .3))
+
+      whole : length (traceBytes ms) + length rest ≡ length buffer
+      whole = let l = found .2 in let k = length-drop (length (traceBytes ms)) buffer in omega (arith, fits)
+
+-- the terms of the listed rows
+pub mem-listed : (rows : List Row) (list : List ℕ) {t : Term} → List·Memᴰ t (presentOnes (map (valueOf asAtoms rows) list)) ↔ ((r : ℕ) × List·Memᴰ r list × (valueOf asAtoms rows r ≡ some t))
+mem-listed rows list {t} = (
+  λ m. let w = mem-map (valueOf asAtoms rows) list .0 (mem-present (map (valueOf asAtoms rows) list) .0 m) in (w .0, w .1, sym (w .2)),
+  λ w. mem-present (map (valueOf asAtoms rows) list) .1 (mem-map (valueOf asAtoms rows) list .1 (w .0, w .1, sym (w .2))),
+)
