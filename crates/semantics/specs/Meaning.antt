@@ -2,11 +2,12 @@
 use Prim.Native.Nat.{ℕ, zero, suc, _<_}
 use mathlib.Core.Path.{_≡_}
 use mathlib.Core.List.{List, [], _∷_, List·Memᴰ}
-use mathlib.Core.Option.{Option, some}
+use mathlib.Core.Logic.{_↔_}
+use mathlib.Core.Option.{Option, none, some}
 use lib.ListN.{length, getElem?}
 use Rattle.semantics.specs.Term.{VariableType, Atom, trusted, untrusted, global, intruder, role, variable, local, Term, atom, pk, sk, shared, pair, encrypted}
 use Rattle.semantics.specs.Table.{Row, atomic, pkOf, skOf, sharedOf, pairOf, encryptedOf}
-use Rattle.semantics.specs.Value.{Reading}
+use Rattle.semantics.specs.Value.{Reading, asAtoms, withoutRun}
 use Rattle.semantics.specs.Runs.{Run}
 use Rattle.semantics.specs.Scenario.{Scenario}
 use Rattle.semantics.specs.State.{Value, Progress, State, Active, assigned, eventsOf}
@@ -37,17 +38,23 @@ pub data Constant : Atom → Type 0 where
   globalConstant : {n : ℕ} → Constant (global n)
   intruderConstant : {n : ℕ} → Constant (intruder n)
 
--- "A value is written as row and run": the atom that a value stands for
+-- "A value is written as row and run": the atom that a value stands for, the row's own or, for a local constant c, c#u
 pub data ValueAtom (rows : List Row) (v : Value) : Atom → Type 0 where
-  constantOf : {a : Atom} → getElem? rows (v .row) ≡ some (atomic a) → Constant a → ValueAtom rows v a
-  localOf : {n w : ℕ} → getElem? rows (v .row) ≡ some (atomic (local n w)) → ValueAtom rows v (local n (v .run))
+  ownAtom : {a : Atom} → getElem? rows (v .row) ≡ some (atomic a) → ((n w : ℕ) → ¬ (a ≡ local n w)) → ValueAtom rows v a
+  localAtom : {n w : ℕ} → getElem? rows (v .row) ≡ some (atomic (local n w)) → ValueAtom rows v (local n (v .run))
 
 -- "In run u a role name stands for that agent, local constant c for c#u, a variable for its value."
 pub data StandsFor (rows : List Row) (u : ℕ) (run : Run) (sets : List (Atom × Value)) : Atom → Atom → Type 0 where
   standsItself : {a : Atom} → Constant a → StandsFor rows u run sets a a
-  standsAgent : {i r : ℕ} {a : Atom} → getElem? (run .agents) i ≡ some r → getElem? rows r ≡ some (atomic a) → Constant a → StandsFor rows u run sets (role i) a
+  standsAgent : {i r : ℕ} {a : Atom} → getElem? (run .agents) i ≡ some r → ValueAtom rows (record { row = r; run = 0 }) a → StandsFor rows u run sets (role i) a
   standsValue : {n : ℕ} {type : VariableType} {v : Value} {a : Atom} → assigned (variable n type) sets ≡ some v → ValueAtom rows v a → StandsFor rows u run sets (variable n type) a
   standsLocal : {n w : ℕ} → StandsFor rows u run sets (local n w) (local n u)
+
+-- a role-level atom that is no variable, and one that is neither role name, variable nor local constant
+pub data NoVariable : Atom → Type 0 where
+  constantFixed : {a : Atom} → Constant a → NoVariable a
+  roleFixed : {i : ℕ} → NoVariable (role i)
+  localFixed : {n u : ℕ} → NoVariable (local n u)
 
 -- A trace passes an event of a run, counted from 0, if the event is among the run's moves in it.
 pub data Passes (run : ℕ) : List Move → ℕ → Type 0 where
@@ -61,3 +68,19 @@ pub record ActiveIn (sc : Scenario) (s : State) (u : ℕ) (a : Active) : Type 0 
   pub ofRun : getElem? (sc .runs) (a .index) ≡ some (a .run)
   pub ofProgress : getElem? (s .progress) (a .index) ≡ some (a .progress)
   pub ofEvent : getElem? (eventsOf sc (a .run)) (a .progress .done) ≡ some (a .event)
+
+-- the terms of listed rows, role-level terms being atoms
+abbrev pub TermsOf : List Row → List ℕ → List Term → Type 0
+TermsOf rows list known = (t : Term) → List·Memᴰ t known ↔ ((r : ℕ) × List·Memᴰ r list × ValueIs asAtoms rows r t)
+
+-- "Knowledge starts as the file's list and all intruder constants of the table."
+pub data KnownAtStart (sc : Scenario) (t : Term) : Type 0 where
+  fromList : (r : ℕ) → List·Memᴰ r (sc .knowledge) → ValueIs withoutRun (sc .rows) r t → KnownAtStart sc t
+  anIntruderConstant : (r : ℕ) {n : ℕ} → getElem? (sc .rows) r ≡ some (atomic (intruder n)) → t ≡ atom (intruder n) → KnownAtStart sc t
+
+-- a variable beneath a pattern that is not set, at its row
+pub record UnsetAt (rows : List Row) (sets : List (Atom × Value)) (pattern x : ℕ) (a : Atom) : Type 0 where
+  pub atRow : getElem? rows x ≡ some (atomic a)
+  pub isVariable : (n : ℕ) × (type : VariableType) × (a ≡ variable n type)
+  pub notSet : assigned a sets ≡ none
+  pub liesBeneath : LiesBeneath rows x pattern

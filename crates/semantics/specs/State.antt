@@ -1,5 +1,6 @@
 -- The state of a scenario: knowledge, how far each run has come, and the values of its variables (document 01, 'Roles and moves'). Assumes nothing.
 use Prim.Native.Nat.{ℕ, zero, suc, _+_, _-_}
+use mathlib.Core.Path.{_≡_}
 use mathlib.Core.Bool.{Bool, true, false, _&&_, not}
 use mathlib.Core.List.{List, [], _∷_, _++_, map}
 use mathlib.Core.Option.{Option, none, some}
@@ -47,6 +48,10 @@ termOf rows v = mapped (λ a. atom (inRun (v .run) a)) (atomAt rows (v .row))
 unfoldable pub assigned : Atom → List (Atom × Value) → Option Value
 assigned x [] = none
 assigned x (set ∷ sets) = elim (decided (atom? x (set .0))) [ true ↦ some (set .1) | false ↦ assigned x sets ]
+
+-- each value that is set stands for a term
+abbrev pub Standing : List Row → List (Atom × Value) → Type 0
+Standing rows sets = (x : Atom) (v : Value) → assigned x sets ≡ some v → (t : Term) × (termOf rows v ≡ some t)
 
 -- "In run u a role name stands for that agent, local constant c for c#u, a variable for its value."
 unfoldable pub readingIn : List Row → ℕ → Run → List (Atom × Value) → Reading

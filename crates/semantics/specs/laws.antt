@@ -18,6 +18,7 @@ pub mod Reached
 pub mod Bytes
 pub mod Broken
 pub mod Verdict
+pub mod Meaning
 pub mod Demand
 pub mod Replay
 pub mod Operations

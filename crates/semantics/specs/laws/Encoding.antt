@@ -87,8 +87,12 @@ framed-four version b₃ b₂ b₁ b₀ rest (t ∷ r ∷ u ∷ []) e p = absurd
 framed-four version b₃ b₂ b₁ b₀ rest (t ∷ r ∷ u ∷ k ∷ []) e p = framedAs p
 framed-four version b₃ b₂ b₁ b₀ rest (t ∷ r ∷ u ∷ k ∷ x ∷ blocks) e p = absurd (omega arith)
 
--- a file with bytes for version and budget and four blocks behind them is framed
-file-frames : (file : List ℕ) → T (leb 5 (length file) && framed 4 (drop 5 file)) → (budget : ℕ) × (blocks : List (List ℕ)) × Framed file budget blocks
+-- whether a file has bytes for version and budget, and four blocks behind them
+abbrev hasFrame : List ℕ → Bool
+hasFrame file = leb 5 (length file) && framed 4 (drop 5 file)
+
+-- such a file is framed
+file-frames : (file : List ℕ) → T (hasFrame file) → (budget : ℕ) × (blocks : List (List ℕ)) × Framed file budget blocks
 file-frames [] t = absurd t
 file-frames (v ∷ []) t = absurd t
 file-frames (v ∷ b₃ ∷ []) t = absurd t
@@ -98,8 +102,8 @@ file-frames (v ∷ b₃ ∷ b₂ ∷ b₁ ∷ b₀ ∷ rest) t =
     let w = framed-cut 4 rest (both-right (leb 5 (length (v ∷ b₃ ∷ b₂ ∷ b₁ ∷ b₀ ∷ rest))) (framed 4 rest) t) in
     (_, w .0, framed-four v b₃ b₂ b₁ b₀ rest (w .0) (w .1) (w .2))
 
--- a framed file has those
-framed-file : {file : List ℕ} {budget : ℕ} {blocks : List (List ℕ)} → Framed file budget blocks → T (leb 5 (length file) && framed 4 (drop 5 file))
+-- and a framed file is such
+framed-file : {file : List ℕ} {budget : ℕ} {blocks : List (List ℕ)} → Framed file budget blocks → T (hasFrame file)
 framed-file (framedAs {rest = rest} p) = let n : ℕ = suc (suc (suc (suc (suc (length rest))))) in both (leb 5 n) (framed 4 rest) (le→leb 5 n (omega arith)) (blocks-frame p)
 
 -- a test that does not fail passes
@@ -116,23 +120,17 @@ failed-none false x n = refl
 pub framed-exactly : (file : List ℕ) → (misframed file ≡ none) ↔ ((budget : ℕ) × (blocks : List (List ℕ)) × Framed file budget blocks)
 unfolding misframed
 framed-exactly file = (
-  λ e. file-frames file (not-not whole (provided-none (not whole) (length file) e)),
-  λ w. failed-none (not whole) (length file) (λ t. not-iff whole .0 t (framed-file (w .2))),
+  λ e. file-frames file (not-not (hasFrame file) (provided-none (not (hasFrame file)) (length file) e)),
+  λ w. failed-none (not (hasFrame file)) (length file) (λ t. not-iff (hasFrame file) .0 t (framed-file (w .2))),
 )
-  where
-    whole : Bool
-    whole = leb 5 (length file) && framed 4 (drop 5 file)
 
 -- and refused, at its end, exactly if it is not
 pub misframed-exactly : (file : List ℕ) (at : ℕ) → (misframed file ≡ some at) ↔ ((at ≡ length file) × ((budget : ℕ) (blocks : List (List ℕ)) → ¬ Framed file budget blocks))
 unfolding misframed
 misframed-exactly file at = (
-  λ e. let w = provided-some (not whole) .0 e in (w .1, λ budget blocks f. not-iff whole .0 (w .0) (framed-file f)),
-  λ w. provided-some (not whole) .1 (not-iff whole .1 (λ t. let f = file-frames file t in w .1 (f .0) (f .1) (f .2)), w .0),
+  λ e. let w = provided-some (not (hasFrame file)) .0 e in (w .1, λ budget blocks f. not-iff (hasFrame file) .0 (w .0) (framed-file f)),
+  λ w. provided-some (not (hasFrame file)) .1 (not-iff (hasFrame file) .1 (λ t. let f = file-frames file t in w .1 (f .0) (f .1) (f .2)), w .0),
 )
-  where
-    whole : Bool
-    whole = leb 5 (length file) && framed 4 (drop 5 file)
 
 -- no blocks have no bytes
 no-blocks : {bytes : List ℕ} → Blocks [] bytes → length bytes ≡ 0
@@ -203,8 +201,8 @@ role-bytes left right e =
 
 -- a variable's row
 variable-bytes : (left right : ℕ) {row : Row} → mapped (λ type. atomic (variable left type)) (getElem? variableTypes right) ≡ some row → RowBytes 6 left right row
-variable-bytes left zero {row} e = rw (sym (Option·some-injective (atomic (variable left agentType)) row e)) agentVariableBytes
-variable-bytes left (suc zero) {row} e = rw (sym (Option·some-injective (atomic (variable left freshType)) row e)) freshVariableBytes
+variable-bytes left zero {row} e = rw (← Option·some-injective (atomic (variable left agentType)) row e) agentVariableBytes
+variable-bytes left (suc zero) {row} e = rw (← Option·some-injective (atomic (variable left freshType)) row e) freshVariableBytes
 variable-bytes left (suc (suc right)) {row} e = absurd (Option·none-ne-some row e)
 
 -- a decoded row has its three bytes in the table of kinds
@@ -220,9 +218,9 @@ decoded-bytes (suc (suc (suc (suc (suc (suc zero)))))) left right row e = variab
 decoded-bytes (suc (suc (suc (suc (suc (suc (suc zero))))))) left right row e = single-bytes (λ n. atomic (local n 0)) left right (λ n. localBytes) e
 decoded-bytes (suc (suc (suc (suc (suc (suc (suc (suc zero)))))))) left right row e = single-bytes pkOf left right (λ n. publicBytes) e
 decoded-bytes (suc (suc (suc (suc (suc (suc (suc (suc (suc zero))))))))) left right row e = single-bytes skOf left right (λ n. secretBytes) e
-decoded-bytes (suc (suc (suc (suc (suc (suc (suc (suc (suc (suc zero)))))))))) left right row e = rw (sym (Option·some-injective (sharedOf left right) row e)) sharedBytes
-decoded-bytes (suc (suc (suc (suc (suc (suc (suc (suc (suc (suc (suc zero))))))))))) left right row e = rw (sym (Option·some-injective (pairOf left right) row e)) pairBytes
-decoded-bytes (suc (suc (suc (suc (suc (suc (suc (suc (suc (suc (suc (suc zero)))))))))))) left right row e = rw (sym (Option·some-injective (encryptedOf left right) row e)) encryptedBytes
+decoded-bytes (suc (suc (suc (suc (suc (suc (suc (suc (suc (suc zero)))))))))) left right row e = rw (← Option·some-injective (sharedOf left right) row e) sharedBytes
+decoded-bytes (suc (suc (suc (suc (suc (suc (suc (suc (suc (suc (suc zero))))))))))) left right row e = rw (← Option·some-injective (pairOf left right) row e) pairBytes
+decoded-bytes (suc (suc (suc (suc (suc (suc (suc (suc (suc (suc (suc (suc zero)))))))))))) left right row e = rw (← Option·some-injective (encryptedOf left right) row e) encryptedBytes
 decoded-bytes (suc (suc (suc (suc (suc (suc (suc (suc (suc (suc (suc (suc (suc kind))))))))))))) left right row e = absurd (Option·none-ne-some row e)
 
 -- bytes in the table of kinds are decoded
@@ -398,11 +396,9 @@ role-cut : (at : ℕ) (bytes known : List ℕ) (n : ℕ) (events rest : List ℕ
     → T (every present (eventsIn (record { start = at; bytes = take (roleLength bytes) bytes }))) → RoleBytes (at + roleLength bytes) rs (drop (roleLength bytes) bytes)
     → RoleBytes at (roleIn (record { start = at; bytes = take (roleLength bytes) bytes }) ∷ rs) bytes
 role-cut at bytes known n events rest rs e l t p =
-    rw (e, shape-taken known n events rest l, shape-role at known n events l) (
-    role-before at known n events rest rs l
-    (rw (e, shape-taken known n events rest l, shape-events at known n events l) at t)
-    (rw (e, shape-dropped known n events rest l, shape-length known n (events ++ rest)) at p)
-    )
+    let t′ = rw (e, shape-taken known n events rest l, shape-events at known n events l) at t in
+    let p′ = rw (e, shape-dropped known n events rest l, shape-length known n (events ++ rest)) at p in
+    rw (e, shape-taken known n events rest l, shape-role at known n events l) (role-before at known n events rest rs l t′ p′)
 
 -- a record that is complete, with all its events of a kind
 abbrev Whole : Part → Type 0
@@ -441,9 +437,8 @@ complete-runs roles (suc n) at (b ∷ bytes) l h =
     let d = length-drop roles bytes in
     let all : length (take roles bytes) ≡ roles = omega arith in
     let run : Run = record { role = b; agents = take roles bytes } in
-    rw (take-append-drop roles bytes) at (
-    moreRuns {run = run} all (complete-runs roles n (at + suc roles) (drop roles bytes) (omega arith) (λ part m. h part (List·Memᴰ·tail m)))
-    )
+    let rest = complete-runs roles n (at + suc roles) (drop roles bytes) (omega arith) (λ part m. h part (List·Memᴰ·tail m)) in
+    rw (take-append-drop roles bytes) at (moreRuns {run = run} all rest)
 
 -- a block of run records that are all complete is the bytes of its runs
 pub runs-encoded : (roles : ℕ) (part : Part) → ((p : Part) → List·Memᴰ p (records (runLength roles) part) → T (complete (runLength roles) p))
@@ -660,10 +655,10 @@ knowledge-fits rows known t h =
 -- events of a good role fit
 events-fit : (rows : List Row) (roles : ℕ) (es : List Event) → ((e : Event) → List·Memᴰ e es → T (peerFits roles (e .kind) (e .peer)))
     → ((e : Event) → List·Memᴰ e es → e .row < length rows) → T (every (eventFits rows roles) (map some es))
-events-fit rows roles es p q = every-iff (eventFits rows roles) (map some es) .1 (λ o m.
-    let w = mem-map some es .0 m in
-    rw (w .2) (both (peerFits roles (w .0 .kind) (w .0 .peer)) (ltb (w .0 .row) (length rows)) (p (w .0) (w .1)) (lt→ltb (w .0 .row) (length rows) (q (w .0) (w .1))))
-    )
+events-fit rows roles es p q = every-iff (eventFits rows roles) (map some es) .1 (λ o m. let w = mem-map some es .0 m in rw (w .2) (fit (w .0) (w .1)))
+  where
+    fit : (e : Event) → List·Memᴰ e es → T (eventFits rows roles (some e))
+    fit e m = both (peerFits roles (e .kind) (e .peer)) (ltb (e .row) (length rows)) (p e m) (lt→ltb (e .row) (length rows) (q e m))
 
 -- a record that is that of a good role is good
 written-good : (rows : List Row) (roles i : ℕ) (part : Part) (r : Role) → Written part r → i < mostRoles → GoodRole rows roles r → T (goodRole rows roles i part)
@@ -677,33 +672,39 @@ written-good rows roles i part r w l g =
     (rw (w .listed) (events-fit rows roles (r .events) (g .peers) (g .present)))
 
 -- no role record is refused where they are those of good roles
-written-roles : (rows : List Row) (parts : List Part) (rs : List Role) → Matched Written parts rs → length rs ≤ mostRoles → ((r : Role) → List·Memᴰ r rs → GoodRole rows (length rs) r) → badRole rows parts ≡ none
+written-roles : (rows : List Row) (parts : List Part) (rs : List Role) → Matched Written parts rs → length rs ≤ mostRoles
+    → ((r : Role) → List·Memᴰ r rs → GoodRole rows (length rs) r) → badRole rows parts ≡ none
 unfolding badRole rolesPresent
-written-roles rows parts rs m l h =
-    let e = matched-length m in
-    let s : min mostRoles (length parts) ≡ length rs = omega arith in
-    firstBad-all (goodRole rows (min mostRoles (length parts))) 0 parts (λ k part f.
-    let w = matched-at m k f in
-    let b = getElem-below rs k (w .1) in
-    rw s (written-good rows (length rs) (0 + k) part (w .0) (w .2) (omega arith) (h (w .0) (mem-getElem rs .1 (k, w .1))))
-    )
+written-roles rows parts rs m l h = rw present (firstBad-all (goodRole rows (length rs)) 0 parts good)
+  where
+    present : min mostRoles (length parts) ≡ length rs
+    present = let e = matched-length m in omega arith
 
--- the bytes of a run are its record
+    good : (k : ℕ) (part : Part) → getElem? parts k ≡ some part → T (goodRole rows (length rs) (0 + k) part)
+    good k part e =
+        let w = matched-at m k e in
+        let b = getElem-below rs k (w .1) in
+        written-good rows (length rs) (0 + k) part (w .0) (w .2) (omega arith) (h (w .0) (mem-getElem rs .1 (k, w .1)))
+
+-- What the record of a run is, as the conditions on it see it.
 record WrittenRun (roles : ℕ) (part : Part) (run : Run) : Type 0 where
   isRun : runIn part ≡ run
   whole : T (complete (runLength roles) part)
 
+-- the bytes of a run are its record
+run-written : (roles at : ℕ) (run : Run) → length (run .agents) ≡ roles → WrittenRun roles (record { start = at; bytes = run .role ∷ run .agents }) run
+unfolding runIn
+run-written roles at run e = record { isRun = refl; whole = le→leb (suc roles) (suc (length (run .agents))) (omega arith) }
+
 -- the bytes of runs are cut into their records
 runs-read : {roles : ℕ} {runs : List Run} {bytes : List ℕ} (n at : ℕ) → length bytes ≤ n → RunBytes roles runs bytes → Matched (WrittenRun roles) (recordsFrom (runLength roles) n at bytes) runs
-unfolding recordsFrom runIn
+unfolding recordsFrom
 runs-read zero at l noRuns = noMatched
 runs-read (suc n) at l noRuns = noMatched
 runs-read zero at l (moreRuns e p) = absurd (omega arith)
 runs-read {roles} (suc n) at l (moreRuns {run = run} {bytes = rest} e p) =
     let a = length-append (run .agents) rest in
-    rw (take-at (run .agents) rest roles e, drop-at (run .agents) rest roles e) (
-    moreMatched (record { isRun = refl; whole = le→leb (suc roles) (suc (length (run .agents))) (omega arith) }) (runs-read n (at + suc roles) (omega arith) p)
-    )
+    rw (take-at (run .agents) rest roles e, drop-at (run .agents) rest roles e) (moreMatched (run-written roles at run e) (runs-read n (at + suc roles) (omega arith) p))
 
 -- a record that is that of a good run is good
 written-good-run : (rows : List Row) (roles i : ℕ) (part : Part) (run : Run) → WrittenRun roles part run → i < mostRuns → GoodRun rows roles run → T (goodRun rows roles i part)
@@ -716,14 +717,16 @@ written-good-run rows roles i part run w l g =
     (rw (w .isRun) (every-iff (λ r. isAgent (atomAt rows r)) (run .agents) .1 (g .areAgents)))
 
 -- no run record is refused where they are those of good runs
-written-runs : (rows : List Row) (roles : ℕ) (parts : List Part) (runs : List Run) → Matched (WrittenRun roles) parts runs → length runs ≤ mostRuns → ((run : Run) → List·Memᴰ run runs → GoodRun rows roles run) → badRun rows roles parts ≡ none
+written-runs : (rows : List Row) (roles : ℕ) (parts : List Part) (runs : List Run) → Matched (WrittenRun roles) parts runs → length runs ≤ mostRuns
+    → ((run : Run) → List·Memᴰ run runs → GoodRun rows roles run) → badRun rows roles parts ≡ none
 unfolding badRun
-written-runs rows roles parts runs m l h =
-    firstBad-all (goodRun rows roles) 0 parts (λ k part f.
-    let w = matched-at m k f in
-    let b = getElem-below runs k (w .1) in
-    written-good-run rows roles (0 + k) part (w .0) (w .2) (omega arith) (h (w .0) (mem-getElem runs .1 (k, w .1)))
-    )
+written-runs rows roles parts runs m l h = firstBad-all (goodRun rows roles) 0 parts good
+  where
+    good : (k : ℕ) (part : Part) → getElem? parts k ≡ some part → T (goodRun rows roles (0 + k) part)
+    good k part e =
+        let w = matched-at m k e in
+        let b = getElem-below runs k (w .1) in
+        written-good-run rows roles (0 + k) part (w .0) (w .2) (omega arith) (h (w .0) (mem-getElem runs .1 (k, w .1)))
 
 -- a row names a role that is present if it names no other
 names-present : (roles : ℕ) (row : Row) → ((i : ℕ) → row ≡ atomic (role i) → i < roles) → T (namesPresent roles row)

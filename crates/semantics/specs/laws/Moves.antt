@@ -20,6 +20,7 @@ use Rattle.semantics.specs.Moves.{Move, Message, runsFor, valuesAt, valu
 use Rattle.semantics.specs.Tree.{Earlier, differs, agrees}
 use Rattle.semantics.specs.Replay.{sameValue, isValueOf, suits, after}
 use Rattle.semantics.specs.Allowed.{MayTake, anAgent, anIntruder, aLocal, Takes, takesNone, takesMore, Performs, sends, reads, claims, Step, step, ValueBefore, byRow, byRun, MoveBefore, earlierRun, earlierValues}
+pub use Rattle.semantics.specs.Meaning.{ActiveIn}
 use Rattle.semantics.specs.laws.Test.{both-left, both-right, both, all-three, guarded-some, either-left, either-right, either-cases, provided-some, andThen-some, mapped-some}
 use Rattle.semantics.specs.laws.List.{mem-cases, mem-joined, mem-map, mem-present, mem-numbersFrom, getElem-below, ordered-one, ordered-imply, ordered-map, ordered-joined, ordered-present, ordered-numbersFrom}
 use Rattle.semantics.specs.laws.Inference.{derivable-exact}
@@ -205,13 +206,6 @@ mapped-branch u vs o {b} = (
   λ e. let w = mapped-some (branch u vs) o .0 e in (w .1 ∙ ap some (sym (ap (λ c. c .1) (w .2))), ap (λ c. c .0) (w .2)),
   λ w. mapped-some (branch u vs) o .1 (b .1, w .0, λ i. (w .1 i, b .1)),
 )
-
--- What it is for a run to be active in a state.
-pub record ActiveIn (sc : Scenario) (s : State) (u : ℕ) (a : Active) : Type 0 where
-  pub numbered : u ≡ suc (a .index)
-  pub ofRun : getElem? (sc .runs) (a .index) ≡ some (a .run)
-  pub ofProgress : getElem? (s .progress) (a .index) ≡ some (a .progress)
-  pub ofEvent : getElem? (eventsOf sc (a .run)) (a .progress .done) ≡ some (a .event)
 
 module _ (sc : Scenario) (s : State) where
   -- the state after an event

@@ -22,6 +22,7 @@ use Rattle.semantics.specs.State.{Value, Progress, State, inRun, termOf,
 use Rattle.semantics.specs.Moves.{Move, Message, message, toSet, setAfter, messageAfter, advanced}
 use Rattle.semantics.specs.Allowed.{MayTake, anAgent, anIntruder, aLocal, Takes, takesNone, takesMore, Step, step, AllowedTrace}
 use Rattle.semantics.specs.Guarantee.{HasValue, GoodRole, GoodRun, WellFormedEvents, noEvents, moreEvents, Guarantee}
+pub use Rattle.semantics.specs.State.{Standing}
 use Rattle.semantics.specs.laws.Test.{both, both-left, both-right, There, none-there, absent-none, andThen-there, andThen-some, mapped-there}
 use Rattle.semantics.specs.laws.List.{mem-cases, mem-keep, mem-present, mem-map, mem-numbersFrom, mem-getElem, getElem-below, getElem-there, set-cases}
 use Rattle.semantics.specs.laws.Inference.{derives-keeps, derivable-sound}
@@ -62,10 +63,6 @@ assigned-append x ((y, v) ∷ sets) more = go (atom? x y) (assigned-append x set
         → assigned x ((y, v) ∷ (sets ++ more)) ≡ orElse (assigned x ((y, v) ∷ sets)) (assigned x more)
     go (yes p) rest = rw (← p) (rw (assigned-first x v (sets ++ more), assigned-first x v sets))
     go (no n) rest = rw (assigned-later x y v (sets ++ more) n, assigned-later x y v sets n) rest
-
--- each value that is set stands for a term
-abbrev pub Standing : List Row → List (Atom × Value) → Type 0
-Standing rows sets = (x : Atom) (v : Value) → assigned x sets ≡ some v → There (termOf rows v)
 
 -- a set variable stays set
 pub assigned-stays : (x : Atom) (sets more : List (Atom × Value)) {v : Value} → assigned x sets ≡ some v → assigned x (sets ++ more) ≡ some v

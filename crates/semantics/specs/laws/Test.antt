@@ -96,6 +96,13 @@ module _ {A B : Type 0} where
   mapped-some f none {y} = (λ e. absurd (Option·none-ne-some y e), λ w. absurd (Option·none-ne-some (w .0) (w .1)))
   mapped-some f (some x) {y} = (λ e. (x, refl, sym (Option·some-injective (f x) y e)), λ w. cc)
 
+-- two values joined are there exactly if both are
+pub mapped₂-some : {A B C : Type 0} (f : A → B → C) (o : Option A) (p : Option B) {z : C}
+    → (mapped₂ f o p ≡ some z) ↔ ((x : A) × (y : B) × (o ≡ some x) × (p ≡ some y) × (z ≡ f x y))
+mapped₂-some f none p {z} = (λ e. absurd (Option·none-ne-some z e), λ w. absurd (Option·none-ne-some (w .0) (w .2)))
+mapped₂-some f (some x) none {z} = (λ e. absurd (Option·none-ne-some z e), λ w. absurd (Option·none-ne-some (w .1) (w .3)))
+mapped₂-some f (some x) (some y) {z} = (λ e. (x, y, refl, refl, sym (Option·some-injective (f x y) z e)), λ w. cc)
+
 -- a value that is there
 pub present-some : {A : Type 0} (o : Option A) → T (present o) → (a : A) × (o ≡ some a)
 present-some none t = absurd t
