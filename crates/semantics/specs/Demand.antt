@@ -1,13 +1,19 @@
--- The words of demand 3: a break at a place of the list, the first one, and no break at all. Assumes nothing.
-use Prim.Native.Nat.{ℕ, zero, suc, _≤_}
+-- The words of demand 2 and demand 3: what Derive's answer speaks of; a break at a place of the list, the first one, and no break at all. Assumes nothing.
+use Prim.Native.Nat.{ℕ, zero, suc, _≤_, _<_}
 use mathlib.Core.Path.{_≡_}
-use mathlib.Core.List.{List}
+use mathlib.Core.List.{List, List·Memᴰ}
 use mathlib.Core.Option.{Option, none, some}
-use lib.ListN.{getElem?}
+use lib.ListN.{length, getElem?}
+use Rattle.semantics.specs.Term.{Term}
+use Rattle.semantics.specs.Table.{Row}
+use Rattle.semantics.specs.Value.{asAtoms}
 use Rattle.semantics.specs.Scenario.{Scenario}
 use Rattle.semantics.specs.State.{State}
 use Rattle.semantics.specs.Moves.{Move}
 use Rattle.semantics.specs.Verdict.{Entry, Claim, traceList}
+use Rattle.semantics.specs.Guarantee.{GoodTable}
+use Rattle.semantics.specs.Meaning.{ValueIs, TermsOf}
+use Rattle.semantics.specs.Encoding.{TermBytes}
 use Rattle.semantics.specs.Allowed.{AllowedTrace, Breaks, Names}
 
 -- "It counts them from 1": what stands at a place of the list
@@ -37,3 +43,15 @@ pub record FirstBreak (sc : Scenario) (place : ℕ) (trace : List Move) (claim :
 -- "no allowed trace at all does so"
 abbrev pub NoBreak : Scenario → Type 0
 NoBreak sc = (trace : List Move) (end : State) → AllowedTrace sc trace end → (claim : Claim) → Breaks sc end claim → ⊥
+
+-- Demand 2: what an answer of Derive speaks of, the rows of an accepted table, the terms of the listed rows and the target's term, and what it says of them
+pub record DeriveAsks (table list : List ℕ) (target : ℕ) (Says : List Term → Term → Type 0) : Type 0 where
+  pub rows : List Row
+  pub known : List Term
+  pub term : Term
+  pub ofTable : TermBytes rows table
+  pub good : GoodTable rows
+  pub listedThere : (r : ℕ) → List·Memᴰ r list → r < length rows
+  pub targetIs : ValueIs asAtoms rows target term
+  pub knownAre : TermsOf rows list known
+  pub answer : Says known term

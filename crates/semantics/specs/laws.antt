@@ -22,4 +22,5 @@ pub mod Meaning
 pub mod Demand
 pub mod Replay
 pub mod Operations
+pub mod Derive
 pub mod Worked

@@ -23,7 +23,7 @@ use Rattle.semantics.specs.laws.Inference.{derivable-members}
 use Rattle.semantics.specs.laws.Tree.{follows-append, follows-good}
 use Rattle.semantics.specs.laws.Moves.{ActiveIn, active-in}
 use Rattle.semantics.specs.laws.Reached.{unmoved, passed-value}
-use Rattle.state.specs.laws.Readings.{set-same, set-other}
+use Rattle.semantics.specs.laws.List.{set-same, set-other}
 use Rattle.same.specs.Same.{Both, noneOf, someOf, Each, SameRun, Same}
 use Rattle.same.specs.laws.Each.{each-at, each-turned}
 use Rattle.same.specs.laws.Values.{value-stays, reading-stays, message-same, runs-turned}

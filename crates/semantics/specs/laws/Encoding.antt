@@ -27,7 +27,7 @@ use Rattle.semantics.specs.Encoding.{TermBytes, noRows, moreRows, KindBy
 use Rattle.semantics.specs.Guarantee.{GoodTable, HasValue, GoodRole, WellFormedEvents, noEvents as formedNone, moreEvents as formedMore, GoodRun, Guarantee}
 use Rattle.semantics.specs.laws.Test.{all-three, decided-holds, both-left, both-right, both, both-parts, not-iff, provided-none, provided-some}
 use Rattle.semantics.specs.laws.List.{every-iff, mem-getElem, mem-map, getElem-below, getElem-seam, getElem-append, keep-cons, keep-append, present-all}
-use Rattle.semantics.specs.laws.Table.{Reads, ends, reads, rowsFrom-reads}
+use Rattle.semantics.specs.laws.Table.{rows-good, Reads, ends, reads, rowsFrom-reads}
 use Rattle.semantics.specs.laws.Frame.{firstBad-none, firstBad-all, passed-gives}
 use Rattle.semantics.specs.laws.Open.{badRole-present, Opened, opened-inverts, opened-guarantee}
 
@@ -854,6 +854,10 @@ encodes-opened file sc c v s g =
 -- the bytes of a scenario that keeps the rules are accepted as that scenario, if the version and the length are right
 pub encodes-accepted : (file : List ℕ) (sc : Scenario) → Encodes file sc → unversioned file ≡ none → tooLong file ≡ none → Guarantee sc → opened file ≡ accepted sc
 encodes-accepted file sc c v s g = opened-passes file sc (encodes-opened file sc c v s g)
+
+-- the rows of some bytes are accepted exactly if the bytes are theirs and they are a good table
+pub table-exactly : (at : ℕ) (bytes : List ℕ) (rows : List Row) → (rowsFrom at [] bytes ≡ accepted rows) ↔ (TermBytes rows bytes × GoodTable rows)
+table-exactly at bytes rows = (λ e. (reads-terms (rowsFrom-reads at [] bytes rows e), rows-good at bytes rows e), λ w. terms-accepted at [] (w .0) (w .1))
 
 -- a file is accepted as a scenario exactly if its version and its length are right, its bytes are those of the scenario, and the scenario keeps the rules
 pub accepted-exactly : (file : List ℕ) (sc : Scenario) → (opened file ≡ accepted sc) ↔ ((unversioned file ≡ none) × (tooLong file ≡ none) × Encodes file sc × Guarantee sc)

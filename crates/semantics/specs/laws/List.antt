@@ -197,6 +197,19 @@ module _ {A : Type 0} where
   getElem-seam [] y ys = refl
   getElem-seam (x ∷ xs) y ys = getElem-seam xs y ys
 
+  -- what stands in a list after one element was replaced
+  pub set-same : (xs : List A) (i : ℕ) (y : A) → i < length xs → getElem? (set xs i y) i ≡ some y
+  set-same [] i y l = absurd (not-suc-le-zero l)
+  set-same (x ∷ xs) zero y l = refl
+  set-same (x ∷ xs) (suc i) y l = set-same xs i y (le-of-suc-le-suc l)
+
+  pub set-other : (xs : List A) (i : ℕ) (y : A) (j : ℕ) → (j ≡ i → ⊥) → getElem? (set xs i y) j ≡ getElem? xs j
+  set-other [] i y j d = refl
+  set-other (x ∷ xs) zero y zero d = absurd (d refl)
+  set-other (x ∷ xs) zero y (suc j) d = refl
+  set-other (x ∷ xs) (suc i) y zero d = refl
+  set-other (x ∷ xs) (suc i) y (suc j) d = set-other xs i y j (λ e. d (ap suc e))
+
   -- the elements after one has been replaced
   pub set-cases : (xs : List A) (i : ℕ) (y : A) (j : ℕ) {x : A} → getElem? (set xs i y) j ≡ some x → ((j ≡ i) × (x ≡ y)) ⊎ (getElem? xs j ≡ some x)
   set-cases [] i y j e = inr e

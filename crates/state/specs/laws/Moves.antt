@@ -35,7 +35,8 @@ use Rattle.start.specs.laws.Names.{agent-atom, agent-term}
 use Rattle.state.specs.declared.State.{State as CodeState}
 use Rattle.state.specs.Readings.{SetsOf, setsOf, withSets, readings}
 use Rattle.state.specs.State.{Arrays, IsState}
-use Rattle.state.specs.laws.Readings.{set-same, set-other, with-same, with-other, sets-advanced, reading-run}
+use Rattle.semantics.specs.laws.List.{set-same, set-other}
+use Rattle.state.specs.laws.Readings.{with-same, with-other, sets-advanced, reading-run}
 use Rattle.state.specs.laws.Learn.{marked-derives}
 
 -- an agent's row has its agent without a run, and so has a role name for which it stands

@@ -16,24 +16,11 @@ use Rattle.semantics.specs.Value.{Reading, valueOf, withoutRun}
 use Rattle.semantics.specs.Runs.{Run, atomAt, isAgent}
 use Rattle.semantics.specs.Scenario.{Scenario}
 use Rattle.semantics.specs.State.{Value, Progress, termOf, assigned, readingIn}
+use Rattle.semantics.specs.laws.List.{set-same, set-other}
 use Rattle.semantics.specs.laws.Reached.{assigned-stays}
 use Rattle.cells.specs.Cells.{Readings}
 use Rattle.classes.specs.Classes.{Grows}
 use Rattle.state.specs.Readings.{SetsOf, setsIn, setsOf, withSets, runReading, readings}
-
-module _ {A : Type 0} where
-  -- what stands in a list after one element was replaced
-  pub set-same : (xs : List A) (i : ℕ) (y : A) → i < length xs → getElem? (set xs i y) i ≡ some y
-  set-same [] i y l = absurd (omega arith)
-  set-same (x ∷ xs) zero y l = refl
-  set-same (x ∷ xs) (suc i) y l = set-same xs i y (omega arith)
-
-  pub set-other : (xs : List A) (i : ℕ) (y : A) (j : ℕ) → (j ≡ i → ⊥) → getElem? (set xs i y) j ≡ getElem? xs j
-  set-other [] i y j d = refl
-  set-other (x ∷ xs) zero y zero d = absurd (d refl)
-  set-other (x ∷ xs) zero y (suc j) d = refl
-  set-other (x ∷ xs) (suc i) y zero d = refl
-  set-other (x ∷ xs) (suc i) y (suc j) d = set-other xs i y j (λ e. d (ap suc e))
 
 -- the sets of the run that is replaced, and of every other
 pub with-same : (k : ℕ) (mine : List (Atom × Value)) (others : SetsOf) → withSets k mine others k ≡ mine
