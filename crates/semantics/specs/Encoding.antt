@@ -5,9 +5,10 @@ use mathlib.Core.List.{List, [], _∷_, _++_}
 use lib.ListN.{length}
 use Rattle.semantics.specs.Term.{agentType, freshType, trusted, untrusted, global, intruder, role, variable, local}
 use Rattle.semantics.specs.Table.{Row, atomic, pkOf, skOf, sharedOf, pairOf, encryptedOf}
+use Rattle.semantics.specs.Frame.{budgetOf}
 use Rattle.semantics.specs.Roles.{EventKind, send, read, claim, Event, Role}
 use Rattle.semantics.specs.Runs.{Run}
-use Rattle.semantics.specs.Scenario.{Scenario}
+use Rattle.semantics.specs.Scenario.{Scenario, termPart, rolePart, runPart, knowledgePart}
 
 -- "blocks, each with its length first in 2 bytes; everything is big-endian": blocks one after the other, and nothing else
 pub data Blocks : List (List ℕ) → List ℕ → Type 0 where
@@ -21,6 +22,15 @@ pub data Framed : List ℕ → ℕ → List (List ℕ) → Type 0 where
   framedAs :
       {version b₃ b₂ b₁ b₀ : ℕ} {terms roles runs knowledge rest : List ℕ} → Blocks (terms ∷ roles ∷ runs ∷ knowledge ∷ []) rest
       → Framed (version ∷ b₃ ∷ b₂ ∷ b₁ ∷ b₀ ∷ rest) (b₃ * 16777216 + b₂ * 65536 + b₁ * 256 + b₀) (terms ∷ roles ∷ runs ∷ knowledge ∷ [])
+
+-- What is read of a framed file: its budget, and its blocks, each right after its own two length bytes.
+pub record Parts (file : List ℕ) (budget : ℕ) (t r u k : List ℕ) : Type 0 where
+  pub ofBudget : budgetOf file ≡ budget
+  pub ofTerms : termPart file ≡ record { start = 7; bytes = t }
+  pub ofRoles : rolePart file ≡ record { start = 9 + length t; bytes = r }
+  pub ofRuns : runPart file ≡ record { start = 11 + length t + length r; bytes = u }
+  pub ofKnowledge : knowledgePart file ≡ record { start = 13 + length t + length r + length u; bytes = k }
+  pub long : length file ≡ 13 + length t + length r + length u + length k
 
 -- The table of kinds: kind, left and right of each row.
 pub data RowBytes : ℕ → ℕ → ℕ → Row → Type 0 where

@@ -17,6 +17,7 @@ pub mod Moves
 pub mod Verdict
 pub mod Replay
 pub mod Derive
+pub mod Packing
 pub mod Allowed
 pub mod Demand
 pub mod Guarantee

@@ -14,6 +14,12 @@ use Rattle.semantics.specs.State.{Value, Progress, State, Active, assign
 use Rattle.semantics.specs.Moves.{Move}
 use Rattle.semantics.specs.Guarantee.{refersTo}
 
+-- "Public and secret key of one agent are inverse to each other; every other term, compound ones too, is its own inverse."
+pub data InverseIs : Term → Term → Type 0 where
+  ofPublic : {a : Term} → InverseIs (pk a) (sk a)
+  ofSecret : {a : Term} → InverseIs (sk a) (pk a)
+  ofItself : {t : Term} → ((a : Term) → ¬ (t ≡ pk a)) → ((a : Term) → ¬ (t ≡ sk a)) → InverseIs t t
+
 -- The value of a row under a reading: that of its atom, or a term made of the values of the rows that it refers to.
 pub data ValueIs (reading : Reading) (rows : List Row) : ℕ → Term → Type 0 where
   atomValue : {r : ℕ} {a : Atom} {t : Term} → getElem? rows r ≡ some (atomic a) → reading a ≡ some t → ValueIs reading rows r t

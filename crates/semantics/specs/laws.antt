@@ -22,5 +22,8 @@ pub mod Meaning
 pub mod Demand
 pub mod Replay
 pub mod Operations
+pub mod Places
+pub mod Packing
+pub mod Caller
 pub mod Derive
 pub mod Worked

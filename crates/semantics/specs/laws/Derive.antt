@@ -25,7 +25,7 @@ use Rattle.semantics.specs.laws.Answer.{accepted-same, checked-passed, b
 use Rattle.semantics.specs.laws.Inference.{derivable-exact, derives-monotone}
 use Rattle.semantics.specs.laws.Encoding.{table-exactly}
 use Rattle.semantics.specs.laws.Value.{asAtoms-value, value-within}
-use Rattle.semantics.specs.laws.Meaning.{value-exactly}
+use Rattle.semantics.specs.laws.Meaning.{value-exactly, listed-terms}
 use Rattle.semantics.specs.laws.Conditions.{absentFrom-exactly}
 
 -- where nothing is absent, every listed row and the target are there
@@ -59,14 +59,6 @@ none-absent rows list target h t = go (absentFrom rows 0 list target) refl
 -- the terms of the listed rows
 abbrev listedTerms : List Row → List ℕ → List Term
 listedTerms rows list = presentOnes (map (valueOf asAtoms rows) list)
-
-terms-of : {rows : List Row} → GoodTable rows → (list : List ℕ) → TermsOf rows list (listedTerms rows list)
-terms-of {rows} good list t = (
-  λ m.
-    let w = mem-map (valueOf asAtoms rows) list .0 (mem-present (map (valueOf asAtoms rows) list) .0 m) in
-    (w .0, w .1, value-exactly good asAtoms (w .0) t .0 (sym (w .2))),
-  λ w. mem-present (map (valueOf asAtoms rows) list) .1 (mem-map (valueOf asAtoms rows) list .1 (w .0, w .1, sym (value-exactly good asAtoms (w .0) t .1 (w .2)))),
-)
 
 -- terms of the same rows derive the same
 same-terms : {rows : List Row} {list : List ℕ} {known other : List Term} → TermsOf rows list known → TermsOf rows list other → {t : Term} → Derives known t → Derives other t
@@ -110,7 +102,7 @@ module _ (table list : List ℕ) (target : ℕ) where
         good = g .1;
         listedThere = there .0;
         targetIs = value-exactly (g .1) asAtoms target (v .0) .0 (v .1);
-        knownAre = terms-of (g .1) list;
+        knownAre = listed-terms (g .1) list;
         answer = ap (derivableRow (w .0) list) (sym (v .1)) ∙ accepted-same (c .1);
       }
 
@@ -118,16 +110,17 @@ module _ (table list : List ℕ) (target : ℕ) where
   unfolding derivableRow
   asks-derived b d =
       let v = value-exactly (d .good) asAtoms target (d .term) .1 (d .targetIs) in
-      let same = same-test (derivable (listedTerms (d .rows) list) (d .term)) b
-          (λ t. d .answer .1 (same-terms (terms-of (d .good) list) (d .knownAre) (derivable-exact (listedTerms (d .rows) list) (d .term) .0 t)),
-           λ t. derivable-exact (listedTerms (d .rows) list) (d .term) .1 (same-terms (d .knownAre) (terms-of (d .good) list) (d .answer .0 t))) in
+      let same = same-test (derivable (listedTerms (d .rows) list) (d .term)) b (
+        λ t. d .answer .1 (same-terms (listed-terms (d .good) list) (d .knownAre) (derivable-exact (listedTerms (d .rows) list) (d .term) .0 t)),
+        λ t. derivable-exact (listedTerms (d .rows) list) (d .term) .1 (same-terms (d .knownAre) (listed-terms (d .good) list) (d .answer .0 t)),
+      ) in
       derived-bound
       ∙ bound-accepted (rowsFrom 0 [] table) afterTable .1 (
         d .rows,
         table-exactly 0 table (d .rows) .1 (d .ofTable, d .good),
         ap (λ o. _>>_ (checked 11 o) (accepted (derivableRow (d .rows) list (valueOf asAtoms (d .rows) target)))) (none-absent (d .rows) list target (d .listedThere) (value-within asAtoms (d .rows) target (d .term, v)))
-        ∙ ap (λ o. accepted (derivableRow (d .rows) list o)) v
-        ∙ ap accepted same,
+            ∙ ap (λ o. accepted (derivableRow (d .rows) list o)) v
+            ∙ ap accepted same,
       )
 
   -- Demand 2: DERIVABLE exactly if the rules derive the target's term from those of the listed rows,

@@ -21,7 +21,7 @@ use Rattle.semantics.specs.Roles.{EventKind, send, read, claim, eventKin
 use Rattle.semantics.specs.WellFormed.{wellFormed, learned, eventTerm, roleKnowledge, illFormedFrom, illFormed}
 use Rattle.semantics.specs.Runs.{Run, atomAt, isAgent, runLength, runIn, runRecords, goodRun, badRun, runsFrom, badKnowledgeFrom}
 use Rattle.semantics.specs.Scenario.{Scenario, termPart, rolePart, runPart, knowledgePart, roleParts, roleCount, runParts, scenarioOf, opened}
-use Rattle.semantics.specs.Encoding.{Blocks, noBlocks, moreBlocks, Framed, framedAs}
+use Rattle.semantics.specs.Encoding.{Parts, Blocks, noBlocks, moreBlocks, Framed, framedAs}
 use Rattle.semantics.specs.Encoding.{RowBytes, trustedBytes, untrustedBytes, globalBytes, intruderBytes, roleBytes, agentVariableBytes, freshVariableBytes, localBytes, publicBytes, secretBytes, sharedBytes, pairBytes, encryptedBytes}
 use Rattle.semantics.specs.Encoding.{TermBytes, noRows, moreRows, KindByte, sendByte, readByte, claimByte, EventBytes, noEvents, moreEvents, RoleBytes, noRoles, moreRoles, RunBytes, noRuns, moreRuns, Encodes}
 use Rattle.semantics.specs.Guarantee.{GoodTable, HasValue, GoodRole, WellFormedEvents, noEvents as formedNone, moreEvents as formedMore, GoodRun, Guarantee}
@@ -151,15 +151,6 @@ later-blocks (moreBlocks {high = high} {low = low} {block = b} {bytes = rest} e 
   rw length-append (omega arith),
   λ n at. rw (two-more high low (b ++ rest), e, drop-append-seam b rest) (ap (λ k. blockFrom n (at + k) rest) (omega arith)),
 )
-
--- What the reader of a framed file takes its parts for.
-pub record Parts (file : List ℕ) (budget : ℕ) (t r u k : List ℕ) : Type 0 where
-  pub ofBudget : budgetOf file ≡ budget
-  pub ofTerms : termPart file ≡ record { start = 7; bytes = t }
-  pub ofRoles : rolePart file ≡ record { start = 9 + length t; bytes = r }
-  pub ofRuns : runPart file ≡ record { start = 11 + length t + length r; bytes = u }
-  pub ofKnowledge : knowledgePart file ≡ record { start = 13 + length t + length r + length u; bytes = k }
-  pub long : length file ≡ 13 + length t + length r + length u + length k
 
 -- the parts of a framed file are its budget and its blocks
 pub framed-parts : {file : List ℕ} {budget : ℕ} {t r u k : List ℕ} → Framed file budget (t ∷ r ∷ u ∷ k ∷ []) → Parts file budget t r u k

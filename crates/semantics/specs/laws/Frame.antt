@@ -8,7 +8,7 @@ use mathlib.Core.Bool.{Bool, true, false}
 use mathlib.Core.Option.{Option, none, some, Option·none-ne-some, Option·some-injective}
 use mathlib.Core.List.{List, [], _∷_, List·Memᴰ, List·Memᴰ·not-nil}
 use lib.Dec.{T}
-use lib.ListN.{length, getElem?, take, drop}
+use lib.ListN.{length, getElem?, take, drop, length-take, length-drop}
 use Rattle.semantics.specs.Frame.{Part, recordsFrom, records, firstBad}
 use Rattle.semantics.specs.laws.Test.{passed-none}
 use Rattle.semantics.specs.laws.List.{mem-cases, getElem-there}
@@ -60,3 +60,29 @@ firstBad-all good i [] h = refl
 firstBad-all good i (p ∷ parts) h =
     passed-gives (good i p) (firstBad good (suc i) parts) (p .start) (rw add-zero at (h 0 p refl))
     (firstBad-all good (suc i) parts (λ k part e. let s : suc i + k ≡ i + suc k = omega arith in rw s (h (suc k) part e)))
+
+-- a part that begins in so many bytes from a place on, and ends in them
+abbrev pub StandsIn : ℕ → ℕ → Part → Type 0
+StandsIn at many part = (at ≤ part .start) × (part .start < at + many) × (part .start + length (part .bytes) ≤ at + many)
+
+module _ (size : List ℕ → ℕ) where
+  -- a record stands in the bytes from which it is cut
+  recordsFrom-within : (n at : ℕ) (bytes : List ℕ) {part : Part} → List·Memᴰ part (recordsFrom size n at bytes) → StandsIn at (length bytes) part
+  unfolding recordsFrom
+  recordsFrom-within zero at bytes m = absurd (List·Memᴰ·not-nil m)
+  recordsFrom-within (suc n) at [] m = absurd (List·Memᴰ·not-nil m)
+  recordsFrom-within (suc n) at (b ∷ bytes) {part} m = mem-cases m first (λ k. later (recordsFrom-within n (at + s) (drop s (b ∷ bytes)) k))
+    where
+      s : ℕ
+      s = size (b ∷ bytes)
+
+      first : part ≡ record { start = at; bytes = take s (b ∷ bytes) } → StandsIn at (suc (length bytes)) part
+      first e = let l = length-take s (b ∷ bytes) in rw e (omega arith)
+
+      later : StandsIn (at + s) (length (drop s (b ∷ bytes))) part → StandsIn at (suc (length bytes)) part
+      later w = let l = length-drop s (b ∷ bytes) in omega arith
+
+  -- a record stands in its part
+  pub records-within : (whole : Part) {part : Part} → List·Memᴰ part (records size whole) → StandsIn (whole .start) (length (whole .bytes)) part
+  unfolding records
+  records-within whole m = recordsFrom-within (length (whole .bytes)) (whole .start) (whole .bytes) m

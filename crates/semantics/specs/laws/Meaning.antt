@@ -11,25 +11,63 @@ use mathlib.Core.List.{List, [], _∷_, _++_, map, List·Memᴰ, List·Memᴰ·h
 use lib.Dec.{T, eqb}
 use lib.ListN.{length, getElem?, set, length-set, length-map}
 use lib.Seq.{lt-length-set}
-use Rattle.semantics.specs.Basic.{Ordered, present, andThen, mapped, mapped₂, keep, presentOnes, numbersFrom}
-use Rattle.semantics.specs.Term.{VariableType, Atom, trusted, untrusted, global, intruder, role, variable, local, Term, atom, pk, sk, shared, pair, encrypted}
+use Rattle.semantics.specs.Basic.{Ordered, decided, present, andThen, mapped, mapped₂, keep, presentOnes, numbersFrom}
+use Rattle.semantics.specs.Term.{VariableType, atom?, Atom, trusted, untrusted, global, intruder, role, variable, local, Term, atom, pk, sk, shared, pair, encrypted, inverse}
 use Rattle.semantics.specs.Table.{Row, atomic, pkOf, skOf, sharedOf, pairOf, encryptedOf, variableAtom}
 use Rattle.semantics.specs.Value.{Reading, valueOf, beneath, asAtoms, withoutVariables, withoutRun}
 use Rattle.semantics.specs.Runs.{Run, atomOf, atomAt, isTrusted}
-use Rattle.semantics.specs.Roles.{EventKind, send, read, claim}
+use Rattle.semantics.specs.Roles.{EventKind, send, read, claim, Event, Role}
+use Rattle.semantics.specs.WellFormed.{learned, roleKnowledge}
 use Rattle.semantics.specs.Scenario.{Scenario}
-use Rattle.semantics.specs.State.{Value, Progress, State, Active, active, inRun, termOf, assigned, readingIn, intruderAtom, atomsOf, initialKnowledge, initial, eventsOf, unsetBeneath, newVariables}
-use Rattle.semantics.specs.Moves.{Move, toSet, advanced, setAfter}
+use Rattle.semantics.specs.State.{Value, Progress, State, Active, active, inRun, termOf, assigned, readingIn, intruderAtom, atomsOf, initialKnowledge, initial, eventsOf, unsetBeneath, newVariables, paired}
+use Rattle.semantics.specs.Moves.{Move, Message, message, toSet, advanced, setAfter}
 use Rattle.semantics.specs.Tree.{Follows, stays, moves}
 use Rattle.semantics.specs.Verdict.{allTrusted}
 use Rattle.semantics.specs.Allowed.{Step, step, AllowedTrace}
 use Rattle.semantics.specs.Guarantee.{refersTo, GoodTable, HasValue}
-use Rattle.semantics.specs.Meaning.{ValueIs, atomValue, pkValue, skValue, sharedValue, pairValue, encryptedValue, LiesBeneath, itself, inside, Constant, trustedAgent, untrustedAgent, globalConstant, intruderConstant, ValueAtom, ownAtom, localAtom, StandsFor, standsItself, standsAgent, standsValue, standsLocal, NoVariable, constantFixed, roleFixed, localFixed, Passes, passesFirst, passesNext, passesOther, ActiveIn, KnownAtStart, fromList, anIntruderConstant, UnsetAt}
+use Rattle.semantics.specs.Meaning.{InverseIs, ofPublic, ofSecret, ofItself, ValueIs, atomValue, pkValue, skValue, sharedValue, pairValue, encryptedValue, LiesBeneath, itself, inside, Constant, trustedAgent, untrustedAgent, globalConstant, intruderConstant, ValueAtom, ownAtom, localAtom, StandsFor, standsItself, standsAgent, standsValue, standsLocal, NoVariable, constantFixed, roleFixed, localFixed, Passes, passesFirst, passesNext, passesOther, ActiveIn, KnownAtStart, fromList, anIntruderConstant, UnsetAt, TermsOf}
 use Rattle.semantics.specs.laws.Test.{same-test, andThen-some, mapped-some, mapped₂-some, eqb-iff}
 use Rattle.semantics.specs.laws.List.{mem-cases, mem-map, mem-present, mem-keep, mem-numbersFrom, mem-getElem, every-iff, getElem-below, getElem-there, set-same, set-other, keep-cons, ordered-keep, ordered-present, ordered-numbersFrom}
 use Rattle.semantics.specs.laws.Value.{rowValue, value-unfolds, beneath-iff, row-induction, value-within}
 use Rattle.semantics.specs.laws.Moves.{active-in}
-use Rattle.semantics.specs.laws.Reached.{unmoved, isUnset, unset-iff, unset-mem}
+use Rattle.semantics.specs.laws.Reached.{assigned-new, assigned-stays, unmoved, isUnset, unset-iff, unset-mem}
+
+-- a public key, a secret key, or another term
+abbrev keyKind : Term → ℕ
+keyKind (atom a) = 0
+keyKind (pk a) = 1
+keyKind (sk a) = 2
+keyKind (shared a b) = 0
+keyKind (pair a b) = 0
+keyKind (encrypted a b) = 0
+
+-- the inverse of a term
+pub inverse-exactly : (t u : Term) → (inverse t ≡ u) ↔ InverseIs t u
+inverse-exactly t u = (λ e. rw (← e) (is t), of)
+  where
+    apart : {n : ℕ} → ¬ (0 ≡ suc n)
+    apart e = omega arith
+
+    is : (t : Term) → InverseIs t (inverse t)
+    is (atom a) = ofItself (λ x e. apart (ap keyKind e)) (λ x e. apart (ap keyKind e))
+    is (pk a) = ofPublic
+    is (sk a) = ofSecret
+    is (shared a b) = ofItself (λ x e. apart (ap keyKind e)) (λ x e. apart (ap keyKind e))
+    is (pair a b) = ofItself (λ x e. apart (ap keyKind e)) (λ x e. apart (ap keyKind e))
+    is (encrypted a b) = ofItself (λ x e. apart (ap keyKind e)) (λ x e. apart (ap keyKind e))
+
+    own : (t : Term) → ((a : Term) → ¬ (t ≡ pk a)) → ((a : Term) → ¬ (t ≡ sk a)) → inverse t ≡ t
+    own (atom a) p s = refl
+    own (pk a) p s = absurd (p a refl)
+    own (sk a) p s = absurd (s a refl)
+    own (shared a b) p s = refl
+    own (pair a b) p s = refl
+    own (encrypted a b) p s = refl
+
+    of : {t u : Term} → InverseIs t u → inverse t ≡ u
+    of ofPublic = refl
+    of ofSecret = refl
+    of (ofItself {t} p s) = own t p s
 
 module _ {rows : List Row} (good : GoodTable rows) (reading : Reading) where
   -- the value of a row comes from its own bytes and the values of the rows that it refers to
@@ -67,6 +105,15 @@ module _ {rows : List Row} (good : GoodTable rows) (reading : Reading) where
   -- A row has a value exactly as its bytes say.
   pub value-exactly : (r : ℕ) (t : Term) → (valueOf reading rows r ≡ some t) ↔ ValueIs reading rows r t
   value-exactly r t = (value-is r t, is-value)
+
+-- the terms of listed rows
+pub listed-terms : {rows : List Row} → GoodTable rows → (list : List ℕ) → TermsOf rows list (presentOnes (map (valueOf asAtoms rows) list))
+listed-terms {rows} good list t = (
+  λ m.
+      let w = mem-map (valueOf asAtoms rows) list .0 (mem-present (map (valueOf asAtoms rows) list) .0 m) in
+      (w .0, w .1, value-exactly good asAtoms (w .0) t .0 (sym (w .2))),
+  λ w. mem-present (map (valueOf asAtoms rows) list) .1 (mem-map (valueOf asAtoms rows) list .1 (w .0, w .1, sym (value-exactly good asAtoms (w .0) t .1 (w .2)))),
+)
 
 -- A row lies beneath another exactly by references.
 module _ {rows : List Row} (good : GoodTable rows) (x : ℕ) where
@@ -334,7 +381,7 @@ module _ (sc : Scenario) (k : ℕ) where
       go (no n) =
           let same : q ≡ p = Option·some-injective q p (sym then ∙ set-other (s .progress) (a .index) after k (λ d. n (sym d)) ∙ f) in
           let counted : count (suc k) (m ∷ []) ≡ 0 =
-              rw (keep, same-test (eqb (m .run) (suc k)) false (λ t. n (let r = eqb-iff (m .run) (suc k) .0 t in let w = i .numbered in omega arith), λ t. absurd t)) in
+          rw (keep, same-test (eqb (m .run) (suc k)) false (λ t. n (let r = eqb-iff (m .run) (suc k) .0 t in let w = i .numbered in omega arith), λ t. absurd t)) in
           let x : q .done ≡ p .done = ap (λ y. y .done) same in
           omega arith
 
@@ -393,14 +440,14 @@ module _ {rows : List Row} (good : GoodTable rows) (sets : List (Atom × Value))
   unfolding unsetBeneath
   unset-exactly a = (
     λ m.
-      let w = mem-keep (isUnset sets) (presentOnes (map (atomAt rows) places)) .0 m in
-      let v = mem-map (atomAt rows) places .0 (mem-present (map (atomAt rows) places) .0 (w .0)) in
-      let x = mem-keep (λ x. beneath rows x pattern) (numbersFrom 0 (length rows)) .0 (v .1) in
-      let u = unset-iff sets a .0 (w .1) in
-      (v .0, record { atRow = atomOf-some (getElem? rows (v .0)) .0 (sym (v .2)); isVariable = variable-iff a .0 (u .0); notSet = u .1; liesBeneath = beneath-exactly good (v .0) pattern within .0 (x .1) }),
+        let w = mem-keep (isUnset sets) (presentOnes (map (atomAt rows) places)) .0 m in
+        let v = mem-map (atomAt rows) places .0 (mem-present (map (atomAt rows) places) .0 (w .0)) in
+        let x = mem-keep (λ x. beneath rows x pattern) (numbersFrom 0 (length rows)) .0 (v .1) in
+        let u = unset-iff sets a .0 (w .1) in
+        (v .0, record { atRow = atomOf-some (getElem? rows (v .0)) .0 (sym (v .2)); isVariable = variable-iff a .0 (u .0); notSet = u .1; liesBeneath = beneath-exactly good (v .0) pattern within .0 (x .1) }),
     λ w.
-      let u = w .1 in
-      unset-mem rows sets pattern (w .0) (atomOf-some (getElem? rows (w .0)) .1 (u .atRow)) (beneath-exactly good (w .0) pattern within .1 (u .liesBeneath)) (unset-iff sets a .1 (variable-iff a .1 (u .isVariable), u .notSet)),
+        let u = w .1 in
+        unset-mem rows sets pattern (w .0) (atomOf-some (getElem? rows (w .0)) .1 (u .atRow)) (beneath-exactly good (w .0) pattern within .1 (u .liesBeneath)) (unset-iff sets a .1 (variable-iff a .1 (u .isVariable), u .notSet)),
   )
 
   -- and they are in order of their rows
@@ -410,20 +457,87 @@ module _ {rows : List Row} (good : GoodTable rows) (sets : List (Atom × Value))
       ordered-keep (isUnset sets)
       (ordered-present (atomAt rows) (ordered-keep (λ x. beneath rows x pattern) (ordered-numbersFrom 0 (length rows)))
       (λ p q a b l e f x y g h.
-        let s = good .distinct x p (atomic a) g (atomOf-some (getElem? rows p) .0 e) in
-        let t = good .distinct y q (atomic b) h (atomOf-some (getElem? rows q) .0 f) in
-        omega arith))
+      let s = good .distinct x p (atomic a) g (atomOf-some (getElem? rows p) .0 e) in
+      let t = good .distinct y q (atomic b) h (atomOf-some (getElem? rows q) .0 f) in
+      omega arith))
+
+-- kinds of events differ
+send-not-read : ¬ (send ≡ read)
+send-not-read e = let z : _≡_ {A = ℕ} 0 1 = cc in omega arith
+
+claim-not-read : ¬ (claim ≡ read)
+claim-not-read e = let z : _≡_ {A = ℕ} 0 1 = cc in omega arith
 
 -- a send or claim sets none, a read those
 pub new-exactly : (rows : List Row) (sets : List (Atom × Value)) (kind : EventKind) (pattern : ℕ) (x : Atom)
     → List·Memᴰ x (newVariables rows sets kind pattern) ↔ ((kind ≡ read) × List·Memᴰ x (unsetBeneath rows sets pattern))
 unfolding newVariables
-new-exactly rows sets send pattern x = (λ m. absurd (List·Memᴰ·not-nil m), λ w. absurd (other (w .0)))
-  where
-    other : ¬ (send ≡ read)
-    other e = let z : _≡_ {A = ℕ} 0 1 = cc in omega arith
+new-exactly rows sets send pattern x = (λ m. absurd (List·Memᴰ·not-nil m), λ w. absurd (send-not-read (w .0)))
 new-exactly rows sets read pattern x = (λ m. (refl, m), λ w. w .1)
-new-exactly rows sets claim pattern x = (λ m. absurd (List·Memᴰ·not-nil m), λ w. absurd (other (w .0)))
+new-exactly rows sets claim pattern x = (λ m. absurd (List·Memᴰ·not-nil m), λ w. absurd (claim-not-read (w .0)))
+
+-- The events of a run are those of its role.
+pub events-exactly : (sc : Scenario) (run : Run) (r : Role) → getElem? (sc .roles) (run .role) ≡ some r → eventsOf sc run ≡ r .events
+unfolding eventsOf
+events-exactly sc run r e = rw (e, eventsOf)
+
+-- A message has the values of the role names of its sender and receiver and of its term.
+pub message-exactly : (rows : List Row) (reading : Reading) (run : Run) (e : Event) (m : Message)
+    → (message rows reading run e ≡ some m) ↔ ((reading (role (run .role)) ≡ some (m .sender)) × (reading (role (e .peer)) ≡ some (m .receiver)) × (valueOf reading rows (e .row) ≡ some (m .term)))
+unfolding message
+message-exactly rows reading run e m = (
+  λ h.
+      let a = andThen-some (reading (role (run .role))) _ .0 h in
+      let b = andThen-some (reading (role (e .peer))) _ .0 (a .2) in
+      let t = mapped-some _ (valueOf reading rows (e .row)) .0 (b .2) in
+      (a .1 ∙ ap (λ x. some (x .sender)) (sym (t .2)), b .1 ∙ ap (λ x. some (x .receiver)) (sym (t .2)), t .1 ∙ ap (λ x. some (x .term)) (sym (t .2))),
+  λ w. rw (w .0) (rw (w .1) (rw (w .2))),
+)
+
+-- the values of variables that are given with them
+paired-assigned : (xs : List Atom) (vs : List Value) (x : Atom) (v : Value) → assigned x (paired xs vs) ≡ some v → (i : ℕ) × (getElem? xs i ≡ some x) × (getElem? vs i ≡ some v)
+unfolding assigned
+paired-assigned [] vs x v e = absurd (Option·none-ne-some v e)
+paired-assigned (y ∷ xs) [] x v e = absurd (Option·none-ne-some v e)
+paired-assigned (y ∷ xs) (w ∷ vs) x v e = go (atom? x y) e (paired-assigned xs vs x v)
   where
-    other : ¬ (claim ≡ read)
-    other e = let z : _≡_ {A = ℕ} 0 1 = cc in omega arith
+    go : (d : Dec (x ≡ y)) → _≡_ {A = Option Value} (elim (decided d) [ true ↦ some w | false ↦ assigned x (paired xs vs) ]) (some v)
+        → (assigned x (paired xs vs) ≡ some v → (i : ℕ) × (getElem? xs i ≡ some x) × (getElem? vs i ≡ some v)) → (i : ℕ) × (getElem? (y ∷ xs) i ≡ some x) × (getElem? (w ∷ vs) i ≡ some v)
+    go (yes d) e rest = (0, ap some (sym d), e)
+    go (no n) e rest = let r = rest e in (suc (r .0), r .1, r .2)
+
+-- After a move its run's variables have the values that they had, and each new one the value given for it.
+pub values-after : (sc : Scenario) (a : Active) (vs : List Value) (x : Atom) (v : Value) → assigned x (setAfter sc a vs) ≡ some v
+    → (assigned x (a .progress .values) ≡ some v) ⊎ ((i : ℕ) × (getElem? (toSet sc a) i ≡ some x) × (getElem? vs i ≡ some v))
+unfolding setAfter
+values-after sc a vs x v e = go (assigned x (a .progress .values)) refl
+  where
+    go : (o : Option Value) → assigned x (a .progress .values) ≡ o → (o ≡ some v) ⊎ ((i : ℕ) × (getElem? (toSet sc a) i ≡ some x) × (getElem? vs i ≡ some v))
+    go none q = inr (paired-assigned (toSet sc a) vs x v (sym (assigned-new x (a .progress .values) (paired (toSet sc a) vs) q) ∙ e))
+    go (some w) q = inl (sym (assigned-stays x (a .progress .values) (paired (toSet sc a) vs) q) ∙ e)
+
+pub values-stay : (sc : Scenario) (a : Active) (vs : List Value) (x : Atom) (v : Value) → assigned x (a .progress .values) ≡ some v → assigned x (setAfter sc a vs) ≡ some v
+unfolding setAfter
+values-stay sc a vs x v e = assigned-stays x (a .progress .values) (paired (toSet sc a) vs) e
+
+-- After a move its run has made one event more and has these values; every other run is as it was; known is what the event leaves known.
+pub step-changes : (sc : Scenario) (s : State) (a : Active) (vs : List Value) (known : List Term) → getElem? (s .progress) (a .index) ≡ some (a .progress)
+    → (advanced sc s a vs known .known ≡ known)
+    × (getElem? (advanced sc s a vs known .progress) (a .index) ≡ some (record { done = suc (a .progress .done); values = setAfter sc a vs }))
+    × ((k : ℕ) → ¬ (k ≡ a .index) → getElem? (advanced sc s a vs known .progress) k ≡ getElem? (s .progress) k)
+unfolding advanced
+step-changes sc s a vs known e = (
+  refl,
+  set-same (s .progress) (a .index) (record { done = suc (a .progress .done); values = setAfter sc a vs }) (getElem-below (s .progress) (a .index) e),
+  λ k n. set-other (s .progress) (a .index) (record { done = suc (a .progress .done); values = setAfter sc a vs }) k n,
+)
+
+-- A role starts with the terms of its knowledge rows; a read adds its pattern, a send or claim nothing.
+pub role-knows : (rows : List Row) → GoodTable rows → (r : Role) → TermsOf rows (r .knowledge) (roleKnowledge rows r)
+unfolding roleKnowledge
+role-knows rows good r = listed-terms good (r .knowledge)
+
+pub learned-exactly : (known : List Term) (kind : EventKind) (t x : Term) → List·Memᴰ x (learned known kind t) ↔ (List·Memᴰ x known ⊎ ((kind ≡ read) × (x ≡ t)))
+learned-exactly known send t x = (inl, λ w. ⊎-elim (λ m. m) (λ v. absurd (send-not-read (v .0))) w)
+learned-exactly known read t x = (λ m. mem-cases m (λ e. inr (refl, e)) inl, λ w. ⊎-elim List·Memᴰ·tail (λ v. List·Memᴰ·head (v .1)) w)
+learned-exactly known claim t x = (inl, λ w. ⊎-elim (λ m. m) (λ v. absurd (claim-not-read (v .0))) w)

@@ -36,6 +36,7 @@ use Rattle.semantics.specs.laws.Refusals.{open-refuses, open-accepts}
 use Rattle.semantics.specs.laws.Traces.{traces-exact}
 use Rattle.semantics.specs.laws.Bytes.{trace-bytes}
 use Rattle.semantics.specs.laws.Open.{opened-guarantee}
+use Rattle.semantics.specs.laws.Broken.{broken-named}
 use Rattle.semantics.specs.laws.Demand.{verdict-broken, verdict-held, verdict-stopped, verdict-breaks}
 use Rattle.semantics.specs.laws.Replay.{replay-reaches, replay-breaks-off}
 
@@ -88,9 +89,9 @@ module _ (file buffer : List ℕ) where
   pub search-answers : (v : Verdict) → (searched file buffer ≡ accepted v) ↔ ((sc : Scenario) × (opened file ≡ accepted sc) × (128 ≤ length buffer) × (verdict sc ≡ v))
   search-answers v = (
     λ e.
-      let w = bound-accepted (opened file) afterOpen .0 (sym searched-bound ∙ e) in
-      let c = checked-passed 10 (shortBuffer buffer) (accepted (verdict (w .0))) (w .2) in
-      (w .0, w .1, enough-long (c .0), accepted-same (c .1)),
+        let w = bound-accepted (opened file) afterOpen .0 (sym searched-bound ∙ e) in
+        let c = checked-passed 10 (shortBuffer buffer) (accepted (verdict (w .0))) (w .2) in
+        (w .0, w .1, enough-long (c .0), accepted-same (c .1)),
     λ w. searched-bound ∙ bound-accepted (opened file) afterOpen .1 (w .0, w .1, ap (λ o. _>>_ (checked 10 o) (accepted (verdict (w .0)))) (long-enough (w .2)) ∙ ap accepted (w .3)),
   )
 
@@ -116,10 +117,10 @@ module _ (file buffer : List ℕ) where
       ↔ ((sc : Scenario) × (opened file ≡ accepted sc) × (128 ≤ length buffer) × NoBreak sc × (length (traceList sc) ≤ budgetOf file) × (n ≡ length (traceList sc)))
   search-held n = (
     λ e.
-      let w = search-answers (held n) .0 e in
-      let h = verdict-held (w .0) n .0 (w .3) in
-      let l = h .1 in
-      (w .0, w .1, w .2, h .0, omega (arith, budget-of file (w .0) (w .1)), h .2),
+        let w = search-answers (held n) .0 e in
+        let h = verdict-held (w .0) n .0 (w .3) in
+        let l = h .1 in
+        (w .0, w .1, w .2, h .0, omega (arith, budget-of file (w .0) (w .1)), h .2),
     λ w. search-answers (held n) .1 (w .0, w .1, w .2, verdict-held (w .0) n .1 (w .3, (let l = w .4 in omega (arith, budget-of file (w .0) (w .1))), w .5)),
   )
 
@@ -136,13 +137,13 @@ module _ (file buffer : List ℕ) where
       ↔ ((sc : Scenario) × (opened file ≡ accepted sc) × (128 ≤ length buffer) × (n ≡ budgetOf file) × (¬ SomeBreak sc) × (¬ (NoBreak sc × (length (traceList sc) ≤ budgetOf file))))
   search-stopped n = (
     λ e.
-      let w = search-answers (stopped n) .0 e in
-      let h = verdict-stopped (w .0) n .0 (w .3) in
-      let b = budget-of file (w .0) (w .1) in
-      (w .0, w .1, w .2, h .0 ∙ b, h .1, λ x. h .2 (x .0, (let l = x .1 in omega arith))),
+        let w = search-answers (stopped n) .0 e in
+        let h = verdict-stopped (w .0) n .0 (w .3) in
+        let b = budget-of file (w .0) (w .1) in
+        (w .0, w .1, w .2, h .0 ∙ b, h .1, λ x. h .2 (x .0, (let l = x .1 in omega arith))),
     λ w.
-      let b = budget-of file (w .0) (w .1) in
-      search-answers (stopped n) .1 (w .0, w .1, w .2, verdict-stopped (w .0) n .1 (w .3 ∙ sym b, w .4, λ x. w .5 (x .0, (let l = x .1 in omega arith)))),
+        let b = budget-of file (w .0) (w .1) in
+        search-answers (stopped n) .1 (w .0, w .1, w .2, verdict-stopped (w .0) n .1 (w .3 ∙ sym b, w .4, λ x. w .5 (x .0, (let l = x .1 in omega arith)))),
   )
 
   -- A refusal, HELD and STOPPED leave the buffer as it was.
@@ -185,3 +186,52 @@ mem-listed rows list {t} = (
   λ m. let w = mem-map (valueOf asAtoms rows) list .0 (mem-present (map (valueOf asAtoms rows) list) .0 m) in (w .0, w .1, sym (w .2)),
   λ w. mem-present (map (valueOf asAtoms rows) list) .1 (mem-map (valueOf asAtoms rows) list .1 (w .0, w .1, sym (w .2))),
 )
+
+module _ (file trace : List ℕ) where
+  -- what Replay goes on with
+  abbrev afterFile : Scenario → Answer (Option Claim)
+  afterFile sc = _>>=_ (replayedFrom (length trace) sc 0 (initial sc) trace) (λ s. accepted (broken sc s))
+
+  replayed-bound : replayed file trace ≡ _>>=_ (opened file) afterFile
+  unfolding replayed
+  replayed-bound = refl
+
+  -- Replay refuses as Open, then 12.
+  pub replay-refuses : (n at : ℕ) → (replayed file trace ≡ refuse n at) ↔ ReplayRefuses file trace n at
+  replay-refuses n at = (λ e. ⊎-elim (λ r. fileRefused (open-refuses file n at .0 r)) by-step (bound-refused (opened file) afterFile .0 (sym replayed-bound ∙ e)), refuses)
+    where
+      by-step : (sc : Scenario) × (opened file ≡ accepted sc) × (afterFile sc ≡ refuse n at) → ReplayRefuses file trace n at
+      by-step w = ⊎-elim
+          (λ r. let v = replay-breaks-off (w .0) (initial (w .0)) trace n at .0 r in stepRefused (w .1) (v .3) (v .4) (v .5) (v .6) (v .7) (v .8))
+          (λ v. absurd (refused-not-accepted (sym (v .2))))
+          (bound-refused (replayedFrom (length trace) (w .0) 0 (initial (w .0)) trace) (λ s. accepted (broken (w .0) s)) .0 (w .2))
+
+      refuses : ReplayRefuses file trace n at → replayed file trace ≡ refuse n at
+      refuses (fileRefused h) = replayed-bound ∙ bound-refused (opened file) afterFile .1 (inl (open-refuses file n at .1 h))
+      refuses (stepRefused {sc} {ms} {s} {rest} e a q l k m p) =
+          replayed-bound
+          ∙ bound-refused (opened file) afterFile .1
+          (inr
+          (sc, e, bound-refused (replayedFrom (length trace) sc 0 (initial sc) trace) (λ s. accepted (broken sc s)) .1 (inl (replay-breaks-off sc (initial sc) trace n at .1 (ms, s, rest, a, q, l, k, m, p)))))
+
+  -- Otherwise it gives the claim broken, or none: exactly of the bytes of an allowed trace.
+  pub replay-answers : (c : Option Claim) → (replayed file trace ≡ accepted c)
+      ↔ ((sc : Scenario) × (ms : List Move) × (s : State) × (opened file ≡ accepted sc) × AllowedTrace sc ms s × (trace ≡ traceBytes ms) × (broken sc s ≡ c))
+  replay-answers c = (
+    λ e.
+        let w = bound-accepted (opened file) afterFile .0 (sym replayed-bound ∙ e) in
+        let v = bound-accepted (replayedFrom (length trace) (w .0) 0 (initial (w .0)) trace) (λ s. accepted (broken (w .0) s)) .0 (w .2) in
+        let r = replay-reaches (w .0) (initial (w .0)) trace (v .0) .0 (v .1) in
+        (w .0, r .0, v .0, w .1, r .1, r .2, accepted-same (v .2)),
+    λ w.
+        replayed-bound
+        ∙ bound-accepted (opened file) afterFile .1
+        (w .0, w .3, bound-accepted (replayedFrom (length trace) (w .0) 0 (initial (w .0)) trace) (λ s. accepted (broken (w .0) s)) .1 (w .2, replay-reaches (w .0) (initial (w .0)) trace (w .2) .1 (w .1, w .4, w .5), ap accepted (w .6))),
+  )
+
+-- The trace of a BROKEN verdict is replayed to its claim.
+pub search-replays : (file buffer : List ℕ) (place : ℕ) (ms : List Move) (c : Claim) → searched file buffer ≡ accepted (brokenAt place ms c) → replayed file (traceBytes ms) ≡ accepted (some c)
+search-replays file buffer place ms c e =
+    let w = search-broken file buffer place ms c .0 e in
+    let f = w .3 in
+    replay-answers file (traceBytes ms) (some c) .1 (w .0, ms, f .end, w .1, first-allowed (w .0) place ms f, refl, broken-named (w .0) (f .end) c .1 (f .names))
