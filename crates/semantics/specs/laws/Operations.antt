@@ -132,6 +132,13 @@ module _ (file buffer : List ℕ) where
     λ w. search-answers (brokenAt place ms c) .1 (w .0, w .1, w .2, verdict-broken (w .0) place ms c .1 (w .3)),
   )
 
+  pub search-breaks : ((place : ℕ) × (ms : List Move) × (c : Claim) × (searched file buffer ≡ accepted (brokenAt place ms c)))
+      ↔ ((sc : Scenario) × (opened file ≡ accepted sc) × (128 ≤ length buffer) × SomeBreak sc)
+  search-breaks = (
+    λ w. let v = search-answers (brokenAt (w .0) (w .1) (w .2)) .0 (w .3) in (v .0, v .1, v .2, verdict-breaks (v .0) .0 (w .0, w .1, w .2, v .3)),
+    λ w. let v = verdict-breaks (w .0) .1 (w .3) in (v .0, v .1, v .2, search-answers (brokenAt (v .0) (v .1) (v .2)) .1 (w .0, w .1, w .2, v .3)),
+  )
+
   -- STOPPED on bytes
   pub search-stopped : (n : ℕ) → (searched file buffer ≡ accepted (stopped n))
       ↔ ((sc : Scenario) × (opened file ≡ accepted sc) × (128 ≤ length buffer) × (n ≡ budgetOf file) × (¬ SomeBreak sc) × (¬ (NoBreak sc × (length (traceList sc) ≤ budgetOf file))))

@@ -13,12 +13,13 @@ use Rattle.semantics.specs.Runs.{runIn, runRecords, goodRun, badRun, run
 use Rattle.semantics.specs.Scenario.{scenarioOf, opened}
 use Rattle.semantics.specs.State.{termOf, assigned, readingIn, atomsOf, initialKnowledge, initial, eventsOf, active, unsetBeneath, newVariables, eventsLeftFrom, eventsLeft}
 use Rattle.semantics.specs.Table.{decode, fits, admissible, repeated, rowRefusal, rowsFrom}
-use Rattle.semantics.specs.Term.{size, trusted, global, Term, atom, pk, sk, encrypted}
+use Rattle.semantics.specs.Term.{size, pk, sk, encrypted}
 use Rattle.semantics.specs.Tree.{listed}
 use Rattle.semantics.specs.Value.{folded, valueFrom, values, valueOf, beneathFrom, beneath}
 use Rattle.semantics.specs.Verdict.{traceList, allTrusted, brokenEvent, brokenInRun, broken, walked, verdict, traceBytes, shortBuffer, searched, bufferAfter}
 use Rattle.semantics.specs.WellFormed.{readableAtom, readable, wellFormed, eventTerm, roleKnowledge, illFormedFrom, illFormed}
-use Rattle.semantics.specs.Worked.{AllHold, cases, p1File, p1Bytes}
+use Rattle.semantics.specs.Replay.{isValueOf, suits, after, firstStep, replayedFrom, replayed}
+use Rattle.semantics.specs.Worked.{AllHold, cases, edges, p1File, p1Bytes, a, c, d}
 use Rattle.semantics.specs.laws.Inference.{derivable-exact}
 
 -- the file above is P1's
@@ -30,15 +31,10 @@ pub worked : AllHold cases
 unfolding absentFrom derivableRow derived unversioned tooLong budgetOf framed misframed blockFrom block recordsFrom records firstBad isMember builds partsOf takesApart apart weight analysed derivable valuesOfType candidates choices message knownAfter setAfter messageAfter advanced performed movesOfRun movesOf eventsFrom knowledgeIn eventsIn roleIn roleRecords rolesPresent knowledgeFits goodRole badRole absentRoleFrom rolesFrom runIn runRecords goodRun badRun runsFrom badKnowledgeFrom scenarioOf opened termOf assigned readingIn atomsOf initialKnowledge initial eventsOf active unsetBeneath newVariables eventsLeftFrom eventsLeft decode fits admissible repeated rowRefusal rowsFrom size listed folded valueFrom values valueOf beneathFrom beneath traceList allTrusted brokenEvent brokenInRun broken walked verdict traceBytes shortBuffer searched bufferAfter readableAtom readable wellFormed eventTerm roleKnowledge illFormedFrom illFormed ℕ-discrete
 worked = (refl, (refl, (refl, (refl, (refl, (refl, (refl, (refl, (refl, (refl, (refl, (refl, (refl, (refl, tt))))))))))))))
 
--- an agent, two constants, and the agent's keys
-abbrev pub a : Term
-a = atom (trusted 0)
-
-abbrev pub c : Term
-c = atom (global 0)
-
-abbrev pub d : Term
-d = atom (global 1)
+-- the cases on each side of limits and rules, by computation
+pub edges-worked : AllHold edges
+unfolding absentFrom derivableRow derived unversioned tooLong budgetOf framed misframed blockFrom block recordsFrom records firstBad isMember builds partsOf takesApart apart weight analysed derivable valuesOfType candidates choices message knownAfter setAfter messageAfter advanced performed movesOfRun movesOf eventsFrom knowledgeIn eventsIn roleIn roleRecords rolesPresent knowledgeFits goodRole badRole absentRoleFrom rolesFrom runIn runRecords goodRun badRun runsFrom badKnowledgeFrom scenarioOf opened termOf assigned readingIn atomsOf initialKnowledge initial eventsOf active unsetBeneath newVariables eventsLeftFrom eventsLeft decode fits admissible repeated rowRefusal rowsFrom size listed folded valueFrom values valueOf beneathFrom beneath traceList allTrusted brokenEvent brokenInRun broken walked verdict traceBytes shortBuffer searched bufferAfter readableAtom readable wellFormed eventTerm roleKnowledge illFormedFrom illFormed ℕ-discrete isValueOf suits after firstStep replayedFrom replayed
+edges-worked = (refl, (refl, (refl, (refl, (refl, (refl, (refl, (refl, (refl, (refl, (refl, (refl, (refl, (refl, (refl, (refl, (refl, (refl, (refl, (refl, (refl, (refl, (refl, (refl, (refl, (refl, (refl, (refl, (refl, (refl, (refl, (refl, (refl, (refl, (refl, (refl, (refl, (refl, (refl, (refl, (refl, (refl, (refl, (refl, (refl, (refl, (refl, (refl, (refl, (refl, (refl, (refl, (refl, (refl, (refl, (refl, (refl, (refl, (refl, tt)))))))))))))))))))))))))))))))))))))))))))))))))))))))))))
 
 -- P7 from {c}pk(a) and sk(a): c
 pub p7 : Derives (encrypted c (pk a) ∷ sk a ∷ []) c
