@@ -10,9 +10,8 @@ use Rattle.semantics.specs.Inference.{Derives}
 use Rattle.semantics.specs.Value.{beneath}
 use Rattle.rows.specs.Rows.{rowsOf}
 use Rattle.cells.specs.Cells.{cellOf, cellCount, absent, Shape}
-use Rattle.knowledge.specs.Marks.{Marked, Exact, Celled}
+use Rattle.knowledge.specs.Marks.{Has, Marked, Exact, Celled}
 use Rattle.knowledge.specs.Steps.{classAt, kindAt, Inside}
-use Rattle.knowledge.specs.laws.Values.{Has}
 use Rattle.fits.specs.Fits.{Setting, Gets, Needed}
 use Rattle.domains.specs.declared.Variables.{Variables}
 use Rattle.domains.specs.Domains.{In, InRow, Low, MayBe}

@@ -8,9 +8,8 @@ use Rattle.semantics.specs.Term.{Term}
 use Rattle.rows.specs.Rows.{rowsOf}
 use Rattle.cells.specs.Cells.{cellOf, absent, Shape, Readings, cellValue, secondOf}
 use Rattle.classes.specs.Classes.{Classes, Grows}
-use Rattle.knowledge.specs.Marks.{Marked}
+use Rattle.knowledge.specs.Marks.{Has, Marked}
 use Rattle.knowledge.specs.Steps.{classAt, leftAt, Inside}
-use Rattle.knowledge.specs.laws.Values.{Has}
 
 -- Old readings for which the classes are right, and new ones that grow from them in a run.
 pub record Setting (bytes : List ℕ) (n runs : ℕ) (classes : List ℕ) (u : ℕ) : Type 0 where

@@ -9,8 +9,13 @@ use lib.ListN.{getD}
 use Rattle.semantics.specs.Term.{Term}
 use Rattle.semantics.specs.Inference.{Derives}
 use Rattle.semantics.specs.Table.{Row}
+use Rattle.rows.specs.Rows.{rowsOf}
 use Rattle.cells.specs.Cells.{cellOf, Within, Readings, cellValue}
 use Rattle.classes.specs.Classes.{Classes}
+
+-- a row has a value in a run
+abbrev pub Has : List ℕ → Readings → ℕ → ℕ → Term → Type 0
+Has bytes readings r u t = cellValue readings (rowsOf bytes) r u ≡ some t
 
 -- a mark stands at a cell
 abbrev pub Marked : List Bool → ℕ → ℕ → Type 0

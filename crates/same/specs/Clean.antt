@@ -7,9 +7,8 @@ use lib.ListN.{length, getD, getElem?}
 use Rattle.semantics.specs.Term.{VariableType, variable}
 use Rattle.semantics.specs.Runs.{atomAt}
 use Rattle.semantics.specs.Scenario.{Scenario}
-use Rattle.semantics.specs.State.{Progress, State}
+use Rattle.semantics.specs.State.{Progress, State, Standing}
 use Rattle.semantics.specs.Verdict.{Entry}
-use Rattle.semantics.specs.laws.Reached.{Standing}
 use Rattle.cells.specs.Cells.{cellOf, cellCount, absent}
 use Rattle.classes.specs.Classes.{NamesRight}
 use Rattle.state.specs.Readings.{setsOf, readings}

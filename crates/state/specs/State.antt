@@ -9,10 +9,9 @@ use Rattle.semantics.specs.Term.{Term}
 use Rattle.semantics.specs.Table.{Row}
 use Rattle.semantics.specs.Scenario.{Scenario}
 use Rattle.semantics.specs.Guarantee.{Guarantee}
-use Rattle.semantics.specs.State.{Value, Progress, Active, active}
+use Rattle.semantics.specs.State.{Value, Progress, Active, active, Standing}
 use Rattle.semantics.specs.State as definitions
 use Rattle.semantics.specs.Moves.{setAfter, performed}
-use Rattle.semantics.specs.laws.Reached.{Standing}
 use Rattle.rows.specs.Rows.{rowsOf}
 use Rattle.cells.specs.Cells.{cellCount, Shape, Within, Readings, cellValue}
 use Rattle.classes.specs.Classes.{NamesRight, Classes}

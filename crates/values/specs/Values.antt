@@ -6,9 +6,8 @@ use mathlib.Core.List.{List, [], _∷_, _++_}
 use lib.ListN.{length, getD}
 use Rattle.semantics.specs.Term.{Atom}
 use Rattle.semantics.specs.Scenario.{Scenario}
-use Rattle.semantics.specs.State.{Value, State, Active, paired}
+use Rattle.semantics.specs.State.{Value, State, Active, paired, Standing}
 use Rattle.semantics.specs.Moves.{toSet}
-use Rattle.semantics.specs.laws.Reached.{Standing}
 use Rattle.cells.specs.Cells.{cellOf, cellCount, absent}
 use Rattle.classes.specs.Classes.{NamesRight}
 use Rattle.state.specs.Readings.{setsOf, withSets, readings}

@@ -20,6 +20,7 @@ use Rattle.semantics.specs.laws.Value.{rowValue, value-unfolds}
 use Rattle.rows.specs.Rows.{rowsOf}
 use Rattle.rows.specs.laws.Decodes.{Decodes, isTrusted, isUntrusted, isGlobal, isIntruder, isRole, isAgentVariable, isFreshVariable, isLocal, isPk, isSk, isShared, isPair, isEncrypted, table-good}
 use Rattle.cells.specs.Cells.{Shape, secondOf, Canonical}
+use Rattle.semantics.specs.laws.Test.{mapped₂-some}
 use Rattle.cells.specs.laws.Cells.{row-there, row-decodes}
 
 -- an atom, whose run is 0 in the table, or a kind with the rows of its two parts
@@ -82,12 +83,6 @@ pub record Made (k : ℕ) (o p : Option Term) (t : Term) : Type 0 where
 abbrev pub MadeAt : List ℕ → (ℕ → Option Term) → ℕ → Term → Type 0
 MadeAt bytes value x t = Made (getD bytes (3 * x) 0) (value (getD bytes (3 * x + 1) 0)) (value (secondOf bytes x)) t
 
--- two values joined are there only if both are
-pub mapped₂-some : {A B C : Type 0} (f : A → B → C) (o : Option A) (p : Option B) {z : C} → mapped₂ f o p ≡ some z → (x : A) × (y : B) × (o ≡ some x) × (p ≡ some y) × (z ≡ f x y)
-mapped₂-some f none p {z} e = absurd (Option·none-ne-some z e)
-mapped₂-some f (some x) none {z} e = absurd (Option·none-ne-some z e)
-mapped₂-some f (some x) (some y) {z} e = (x, y, refl, refl, sym (Option·some-injective (f x y) z e))
-
 -- a term from its kind and its parts
 maker : ℕ → Term → Term → Term
 maker k a b = getD (pair ∷ pair ∷ pair ∷ pair ∷ pair ∷ pair ∷ pair ∷ pair ∷ (λ c d. pk c) ∷ (λ c d. sk c) ∷ shared ∷ pair ∷ encrypted ∷ []) k pair a b
@@ -108,9 +103,9 @@ module _ (reading : Reading) (value : ℕ → Option Term) where
   row-made (sortAtom h q) m e = absurd (omega arith)
   row-made (sortPk {a}) m e = let w = mapped-some pk (value a) .0 e in rw (w .2) (record { kind = refl; first = w .1; second = w .1 })
   row-made (sortSk {a}) m e = let w = mapped-some sk (value a) .0 e in rw (w .2) (record { kind = refl; first = w .1; second = w .1 })
-  row-made (sortShared {a} {b}) m e = let w = mapped₂-some shared (value a) (value b) e in rw (w .4) (record { kind = refl; first = w .2; second = w .3 })
-  row-made (sortPair {l} {r}) m e = let w = mapped₂-some pair (value l) (value r) e in rw (w .4) (record { kind = refl; first = w .2; second = w .3 })
-  row-made (sortEncrypted {l} {r}) m e = let w = mapped₂-some encrypted (value l) (value r) e in rw (w .4) (record { kind = refl; first = w .2; second = w .3 })
+  row-made (sortShared {a} {b}) m e = let w = mapped₂-some shared (value a) (value b) .0 e in rw (w .4) (record { kind = refl; first = w .2; second = w .3 })
+  row-made (sortPair {l} {r}) m e = let w = mapped₂-some pair (value l) (value r) .0 e in rw (w .4) (record { kind = refl; first = w .2; second = w .3 })
+  row-made (sortEncrypted {l} {r}) m e = let w = mapped₂-some encrypted (value l) (value r) .0 e in rw (w .4) (record { kind = refl; first = w .2; second = w .3 })
 
   -- and a term so made is its value
   row-remade : {k l s : ℕ} {row : Row} {t : Term} → Sort k l s row → 8 ≤ k → Made k (value l) (value s) t → rowValue reading value row ≡ some t

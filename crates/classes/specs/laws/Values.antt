@@ -18,7 +18,8 @@ use Rattle.cells.specs.Cells.{Shape, Readings, cellValue, secondOf}
 use Rattle.cells.specs.laws.Cells.{left-lower, second-lower}
 use Rattle.classes.specs.Classes.{Grows}
 use Rattle.classes.specs.Filled.{mixed}
-use Rattle.classes.specs.laws.Kinds.{mapped₂-some, MadeAt, good-rows, value-made}
+use Rattle.semantics.specs.laws.Test.{mapped₂-some}
+use Rattle.classes.specs.laws.Kinds.{MadeAt, good-rows, value-made}
 
 module _ {reading reading′ : Reading} (stays : (a : Atom) (t : Term) → reading a ≡ some t → reading′ a ≡ some t) where
   -- a row keeps its value where its atom and the rows that it refers to do
@@ -28,11 +29,11 @@ module _ {reading reading′ : Reading} (stays : (a : Atom) (t : Term) → readi
   row-kept value value′ (pkOf a) h e = let w = mapped-some pk (value a) .0 e in rw (h a (here refl) (w .0) (w .1)) (ap some (sym (w .2)))
   row-kept value value′ (skOf a) h e = let w = mapped-some sk (value a) .0 e in rw (h a (here refl) (w .0) (w .1)) (ap some (sym (w .2)))
   row-kept value value′ (sharedOf a b) h e =
-      let w = mapped₂-some shared (value a) (value b) e in rw (h a (here refl) (w .0) (w .2), h b (later (here refl)) (w .1) (w .3)) (ap some (sym (w .4)))
+      let w = mapped₂-some shared (value a) (value b) .0 e in rw (h a (here refl) (w .0) (w .2), h b (later (here refl)) (w .1) (w .3)) (ap some (sym (w .4)))
   row-kept value value′ (pairOf l r) h e =
-      let w = mapped₂-some pair (value l) (value r) e in rw (h l (here refl) (w .0) (w .2), h r (later (here refl)) (w .1) (w .3)) (ap some (sym (w .4)))
+      let w = mapped₂-some pair (value l) (value r) .0 e in rw (h l (here refl) (w .0) (w .2), h r (later (here refl)) (w .1) (w .3)) (ap some (sym (w .4)))
   row-kept value value′ (encryptedOf l r) h e =
-      let w = mapped₂-some encrypted (value l) (value r) e in rw (h l (here refl) (w .0) (w .2), h r (later (here refl)) (w .1) (w .3)) (ap some (sym (w .4)))
+      let w = mapped₂-some encrypted (value l) (value r) .0 e in rw (h l (here refl) (w .0) (w .2), h r (later (here refl)) (w .1) (w .3)) (ap some (sym (w .4)))
 
   -- so every row keeps its value
   value-kept : {rows : List Row} → GoodTable rows → (i : ℕ) (t : Term) → valueOf reading rows i ≡ some t → valueOf reading′ rows i ≡ some t

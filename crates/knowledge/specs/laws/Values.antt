@@ -18,21 +18,13 @@ use Rattle.rows.specs.laws.Decodes.{Decodes, isTrusted, isUntrusted, isGlobal, 
 use Rattle.cells.specs.Cells.{cellOf, absent, Shape, Within, Readings, cellValue}
 use Rattle.cells.specs.laws.Cells.{row-there, row-decodes}
 use Rattle.classes.specs.Classes.{Classes, Stands, byName, byCell}
+pub use Rattle.knowledge.specs.Marks.{Has}
+use Rattle.semantics.specs.laws.Test.{mapped₂-some}
 use Rattle.knowledge.specs.Steps.{classAt, kindAt, leftAt, rightAt, Inside}
 
 -- a cell is the cell of one row in one run
 pub cells-apart : (x w y v : ℕ) → x < 96 → y < 96 → cellOf x w ≡ cellOf y v → (x ≡ y) × (w ≡ v)
 cells-apart x w y v l k e = (omega arith, omega arith)
-
--- two values joined are there only if both are
-mapped₂-some : {A B C : Type 0} (f : A → B → C) (o : Option A) (p : Option B) {y : C} → mapped₂ f o p ≡ some y → (a : A) × (b : B) × (o ≡ some a) × (p ≡ some b) × (y ≡ f a b)
-mapped₂-some f none p {y} e = absurd (Option·none-ne-some y e)
-mapped₂-some f (some a) none {y} e = absurd (Option·none-ne-some y e)
-mapped₂-some f (some a) (some b) {y} e = (a, b, refl, refl, sym (Option·some-injective (f a b) y e))
-
--- a row has a value in a run
-abbrev pub Has : List ℕ → Readings → ℕ → ℕ → Term → Type 0
-Has bytes readings r u t = cellValue readings (rowsOf bytes) r u ≡ some t
 
 -- What the value of a row says of its kind and its parts.
 pub data Shown (bytes : List ℕ) (n : ℕ) (readings : Readings) (x w : ℕ) : Term → Type 0 where
@@ -83,13 +75,13 @@ module _ (bytes : List ℕ) (n runs : ℕ) (shape : Shape bytes n runs) (reading
           let p = mapped-some sk (valueOf (readings w) (rowsOf bytes) a) .0 v in
           rw (p .2) (showsSk {a = p .0} ek (omega (arith, low a (here refl))) (rw el (p .1)))
       go {a = a} {b} isShared ek el er low v =
-          let p = mapped₂-some shared (valueOf (readings w) (rowsOf bytes) a) (valueOf (readings w) (rowsOf bytes) b) v in
+          let p = mapped₂-some shared (valueOf (readings w) (rowsOf bytes) a) (valueOf (readings w) (rowsOf bytes) b) .0 v in
           rw (p .4) (showsShared ek)
       go {a = a} {b} isPair ek el er low v =
-          let p = mapped₂-some pair (valueOf (readings w) (rowsOf bytes) a) (valueOf (readings w) (rowsOf bytes) b) v in
+          let p = mapped₂-some pair (valueOf (readings w) (rowsOf bytes) a) (valueOf (readings w) (rowsOf bytes) b) .0 v in
           rw (p .4) (showsPair {a = p .0} {b = p .1} ek (omega (arith, low a (here refl))) (omega (arith, low b (later (here refl)))) (rw el (p .2)) (rw er (p .3)))
       go {a = a} {b} isEncrypted ek el er low v =
-          let p = mapped₂-some encrypted (valueOf (readings w) (rowsOf bytes) a) (valueOf (readings w) (rowsOf bytes) b) v in
+          let p = mapped₂-some encrypted (valueOf (readings w) (rowsOf bytes) a) (valueOf (readings w) (rowsOf bytes) b) .0 v in
           rw (p .4) (showsEncrypted {a = p .0} {b = p .1} ek (omega (arith, low a (here refl))) (omega (arith, low b (later (here refl)))) (rw el (p .2)) (rw er (p .3)))
 
   -- a row of kind 11 or 12 with a value has parts with values

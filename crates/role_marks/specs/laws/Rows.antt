@@ -19,7 +19,7 @@ use Rattle.rows.specs.Rows.{rowsOf}
 use Rattle.rows.specs.laws.Decodes.{Decodes, isTrusted, isUntrusted, isGlobal, isIntruder, isRole, isAgentVariable, isFreshVariable, isLocal, isPk, isSk, isShared, isPair, isEncrypted, table-good}
 use Rattle.cells.specs.Cells.{Shape}
 use Rattle.cells.specs.laws.Cells.{row-there, row-decodes, left-lower, second-lower, second-right}
-use Rattle.classes.specs.laws.Kinds.{mapped₂-some}
+use Rattle.semantics.specs.laws.Test.{mapped₂-some}
 use Rattle.knowledge.specs.Steps.{kindAt, leftAt, rightAt}
 use Rattle.knowledge.specs.laws.Sound.{KeyOf, pkKey, skKey}
 use Rattle.role_marks.specs.Marks.{Covered}
@@ -173,12 +173,12 @@ module _ (bytes : List ℕ) (n : ℕ) (shape : Shape bytes n 0) where
           let p = mapped-some sk (value a) .0 v in
           let w = agent-row x a (low a (here refl)) fit in
           rw (p .2, agent-term a (w .1) (p .1)) (aSk {b = w .0} (rw el (w .1)))
-      go (isShared {a = a} {b = b}) el er low fit v = let p = mapped₂-some shared (value a) (value b) v in rw (p .4) aShared
+      go (isShared {a = a} {b = b}) el er low fit v = let p = mapped₂-some shared (value a) (value b) .0 v in rw (p .4) aShared
       go (isPair {l = l} {r = r}) el er low fit v =
-          let p = mapped₂-some pair (value l) (value r) v in
+          let p = mapped₂-some pair (value l) (value r) .0 v in
           rw (p .4) (aPair {a = p .0} {b = p .1} (rw el (low l (here refl))) (rw er (low r (later (here refl)))) (rw el (p .2)) (rw er (p .3)))
       go (isEncrypted {l = l} {r = r}) el er low fit v =
-          let p = mapped₂-some encrypted (value l) (value r) v in
+          let p = mapped₂-some encrypted (value l) (value r) .0 v in
           rw (p .4) (anEncryption {a = p .0} {b = p .1} (rw el (low l (here refl))) (rw er (low r (later (here refl)))) (rw el (p .2)) (rw er (p .3)))
 
   -- the parts of a row's term are terms of rows
