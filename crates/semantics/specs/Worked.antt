@@ -282,6 +282,28 @@ edges =
     ) p1Claim))
     ∷ replays exchange (2 ∷ 0 ∷ 1 ∷ 1 ∷ 6 ∷ 2 ∷ 1 ∷ 0 ∷ []) (accepted (some p1Claim))
     ∷ replays exchange (2 ∷ 0 ∷ 1 ∷ 1 ∷ 6 ∷ 1 ∷ []) (refuse 12 2)
+    -- the readings of document 01 that were open, as docs/DECISIONS.md settles them: 1, rows one after the other
+    ∷ infers (1 ∷ 0 ∷ 0 ∷ 1 ∷ 0 ∷ 0 ∷ 0 ∷ 0 ∷ 0 ∷ []) [] 0 (refuse 5 3)
+    -- 2, terms are free; 3, keys of a role name or variable are inverse
+    ∷ infers (1 ∷ 0 ∷ 0 ∷ 3 ∷ 0 ∷ 0 ∷ 8 ∷ 0 ∷ 0 ∷ 9 ∷ 0 ∷ 0 ∷ 12 ∷ 1 ∷ 2 ∷ 12 ∷ 4 ∷ 3 ∷ []) (5 ∷ []) 1 (accepted false)
+    ∷ infers (6 ∷ 0 ∷ 0 ∷ 3 ∷ 0 ∷ 0 ∷ 8 ∷ 0 ∷ 0 ∷ 12 ∷ 1 ∷ 2 ∷ 9 ∷ 0 ∷ 0 ∷ []) (3 ∷ 4 ∷ []) 1 (accepted true)
+    -- 4, a key lies beneath its encryption
+    ∷ refuses (1 ∷ 0 ∷ 0 ∷ 0 ∷ 100 ∷ 0 ∷ 9 ∷ 3 ∷ 0 ∷ 0 ∷ 7 ∷ 0 ∷ 0 ∷ 12 ∷ 0 ∷ 1 ∷ 0 ∷ 0 ∷ 0 ∷ 0 ∷ 0 ∷ 1 ∷ 2 ∷ []) 9 22
+    -- 7, a role is present though its record is incomplete; a fifth record makes no role present
+    ∷ refuses (1 ∷ 0 ∷ 0 ∷ 0 ∷ 100 ∷ 0 ∷ 3 ∷ 5 ∷ 0 ∷ 0 ∷ 0 ∷ 8 ∷ 1 ∷ 0 ∷ 1 ∷ 0 ∷ 1 ∷ 1 ∷ 0 ∷ 5 ∷ 0 ∷ 0 ∷ 0 ∷ 0 ∷ []) 6 19
+    ∷ refuses (file 100 nameAndAgent ((0 ∷ 1 ∷ 0 ∷ 0 ∷ 4 ∷ 0 ∷ []) ++ times 4 idle) [] []) 6 15
+    -- 9, a row that names an absent role; 10, an event needs its names
+    ∷ refuses (1 ∷ 0 ∷ 0 ∷ 0 ∷ 100 ∷ 0 ∷ 3 ∷ 5 ∷ 1 ∷ 0 ∷ 0 ∷ 2 ∷ 0 ∷ 0 ∷ 0 ∷ 0 ∷ 0 ∷ 0 ∷ []) 6 7
+    ∷ refuses (1 ∷ 0 ∷ 0 ∷ 0 ∷ 100 ∷ 0 ∷ 3 ∷ 3 ∷ 0 ∷ 0 ∷ 0 ∷ 7 ∷ 1 ∷ 0 ∷ 1 ∷ 2 ∷ 0 ∷ 0 ∷ 0 ∷ 0 ∷ 0 ∷ 0 ∷ 0 ∷ []) 7 15
+    -- 11, each part of a pair is read with the other; a variable as a key counts only if it is derivable
+    ∷ judges (1 ∷ 0 ∷ 0 ∷ 0 ∷ 100 ∷ 0 ∷ 9 ∷ 5 ∷ 0 ∷ 0 ∷ 7 ∷ 0 ∷ 0 ∷ 11 ∷ 1 ∷ 1 ∷ 0 ∷ 7 ∷ 1 ∷ 0 ∷ 1 ∷ 1 ∷ 0 ∷ 0 ∷ 2 ∷ 0 ∷ 0 ∷ 0 ∷ 0 ∷ []) (accepted (held 1))
+    ∷ refuses (1 ∷ 0 ∷ 0 ∷ 0 ∷ 100 ∷ 0 ∷ 9 ∷ 5 ∷ 0 ∷ 0 ∷ 6 ∷ 0 ∷ 1 ∷ 12 ∷ 0 ∷ 1 ∷ 0 ∷ 7 ∷ 1 ∷ 0 ∷ 1 ∷ 1 ∷ 0 ∷ 0 ∷ 2 ∷ 0 ∷ 0 ∷ 0 ∷ 0 ∷ []) 7 21
+    -- 13, with no roles a run record is one byte
+    ∷ refuses (1 ∷ 0 ∷ 0 ∷ 0 ∷ 100 ∷ 0 ∷ 0 ∷ 0 ∷ 0 ∷ 0 ∷ 1 ∷ 0 ∷ 0 ∷ 0 ∷ []) 8 11
+    -- 16, a run's agents are all those of its record
+    ∷ judges (1 ∷ 0 ∷ 0 ∷ 0 ∷ 100 ∷ 0 ∷ 15 ∷ 1 ∷ 0 ∷ 0 ∷ 2 ∷ 0 ∷ 0 ∷ 5 ∷ 0 ∷ 0 ∷ 5 ∷ 1 ∷ 0 ∷ 7 ∷ 0 ∷ 0 ∷ 0 ∷ 14 ∷ 2 ∷ 2 ∷ 4 ∷ 2 ∷ 0 ∷ 0 ∷ 0 ∷ 4 ∷ 2 ∷ 0 ∷ 0 ∷ 4 ∷ 0 ∷ 0 ∷ 0 ∷ 3 ∷ 0 ∷ 0 ∷ 1 ∷ 0 ∷ 0 ∷ []) (accepted (held 3))
+    -- 19, a listed row is judged before the target
+    ∷ infers (3 ∷ 0 ∷ 0 ∷ []) (5 ∷ []) 5 (refuse 11 0)
     ∷ []
 
 -- an agent and two constants

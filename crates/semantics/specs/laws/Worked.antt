@@ -34,7 +34,7 @@ worked = (refl, (refl, (refl, (refl, (refl, (refl, (refl, (refl, (refl, (refl, (
 -- the cases on each side of limits and rules, by computation
 pub edges-worked : AllHold edges
 unfolding absentFrom derivableRow derived unversioned tooLong budgetOf framed misframed blockFrom block recordsFrom records firstBad isMember builds partsOf takesApart apart weight analysed derivable valuesOfType candidates choices message knownAfter setAfter messageAfter advanced performed movesOfRun movesOf eventsFrom knowledgeIn eventsIn roleIn roleRecords rolesPresent knowledgeFits goodRole badRole absentRoleFrom rolesFrom runIn runRecords goodRun badRun runsFrom badKnowledgeFrom scenarioOf opened termOf assigned readingIn atomsOf initialKnowledge initial eventsOf active unsetBeneath newVariables eventsLeftFrom eventsLeft decode fits admissible repeated rowRefusal rowsFrom size listed folded valueFrom values valueOf beneathFrom beneath traceList allTrusted brokenEvent brokenInRun broken walked verdict traceBytes shortBuffer searched bufferAfter readableAtom readable wellFormed eventTerm roleKnowledge illFormedFrom illFormed ℕ-discrete isValueOf suits after firstStep replayedFrom replayed
-edges-worked = (refl, (refl, (refl, (refl, (refl, (refl, (refl, (refl, (refl, (refl, (refl, (refl, (refl, (refl, (refl, (refl, (refl, (refl, (refl, (refl, (refl, (refl, (refl, (refl, (refl, (refl, (refl, (refl, (refl, (refl, (refl, (refl, (refl, (refl, (refl, (refl, (refl, (refl, (refl, (refl, (refl, (refl, (refl, (refl, (refl, (refl, (refl, (refl, (refl, (refl, (refl, (refl, (refl, (refl, (refl, (refl, (refl, (refl, (refl, tt)))))))))))))))))))))))))))))))))))))))))))))))))))))))))))
+edges-worked = (refl, (refl, (refl, (refl, (refl, (refl, (refl, (refl, (refl, (refl, (refl, (refl, (refl, (refl, (refl, (refl, (refl, (refl, (refl, (refl, (refl, (refl, (refl, (refl, (refl, (refl, (refl, (refl, (refl, (refl, (refl, (refl, (refl, (refl, (refl, (refl, (refl, (refl, (refl, (refl, (refl, (refl, (refl, (refl, (refl, (refl, (refl, (refl, (refl, (refl, (refl, (refl, (refl, (refl, (refl, (refl, (refl, (refl, (refl, (refl, (refl, (refl, (refl, (refl, (refl, (refl, (refl, (refl, (refl, (refl, (refl, (refl, tt))))))))))))))))))))))))))))))))))))))))))))))))))))))))))))))))))))))))
 
 -- P7 from {c}pk(a) and sk(a): c
 pub p7 : Derives (encrypted c (pk a) ∷ sk a ∷ []) c
