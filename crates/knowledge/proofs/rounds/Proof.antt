@@ -30,6 +30,9 @@ rounds-holds c = (search needs, stays)
 loop-holds : tie.Need-loop-holds Inv-loop μ-loop Inv-rounds μ-rounds
 loop-holds c = (omega arith, (refl, (c .before .build .kept .0 ∙ c .before .before .before .rounds .inv .0, λ y l. absurd (omega arith))))
 
+loop-again : tie.Need-loop-again Inv-loop μ-loop Inv-rounds μ-rounds
+loop-again c = (omega arith, (c .before .before .before .before .loop .inv .1 .0, (c .before .before .before .before .loop .inv .1 .1 .0, rows-more (c .before .row-gain .ensures) (c .before .before .before .before .loop .inv .1 .1 .1) (omega (arith, c .if1 .left)))))
+
 rounds-less : tie.Need-rounds-less Inv-loop μ-loop Inv-rounds μ-rounds
 rounds-less c = gained-falls (c .before .row-gain .ensures) (reaches-same (c .before .before .before .before .before .before .build .ensures) (c .before .before .before .before .loop .inv .1 .0)) (c .before .before .before .before .loop .inv .1 .1 .0) (omega (arith, c .if1 .taken))
 
@@ -38,9 +41,6 @@ rounds-again c = (
   simp length-set (c .before .before .before .before .loop .inv .1 .1 .0),
   gained-reached (c .before .row-gain .ensures) (reaches-on (c .before .before .before .before .before .before .before .before .rounds .inv .1) (reaches-same (c .before .before .before .before .before .before .build .ensures) (c .before .before .before .before .loop .inv .1 .0))) (omega (arith, c .before .before .before .loop-test .taken)) (omega (arith, c .if1 .taken)),
 )
-
-loop-again : tie.Need-loop-again Inv-loop μ-loop Inv-rounds μ-rounds
-loop-again c = (omega arith, (c .before .before .before .before .loop .inv .1 .0, (c .before .before .before .before .loop .inv .1 .1 .0, rows-more (c .before .row-gain .ensures) (c .before .before .before .before .loop .inv .1 .1 .1) (omega (arith, c .if1 .left)))))
 
 returns : tie.Need-returns Inv-loop μ-loop Inv-rounds μ-rounds
 returns c = record {

@@ -13,6 +13,14 @@ use Rattle.records.proofs.bad_run.Reads as bad-run-reads
 use Rattle.records.proofs.roles_present.Reads as roles-present-reads
 use Rattle.scenario.proofs.parts_of.Reads as parts-of-reads
 
+-- src/lib.rt:99:1
+returns : tie.Need-returns
+returns c = search (runs-refused, known-refused, all-accepted, runs-read, known-read, count-read)
+
+-- src/lib.rt:99:1
+returns-2 : tie.Need-returns-2
+returns-2 c = search (runs-refused, known-refused, all-accepted, runs-read, known-read, count-read)
+
 -- src/lib.rt:103:9
 block-of-requires : tie.Need-block-of-requires
 block-of-requires c κs = search needs
@@ -72,24 +80,6 @@ parts-of-requires : tie.Need-parts-of-requires
 parts-of-requires c κs =
     let s = c .before .before .before .before .before .before .before .before .before .before .before .before .before .before in
     (s .pre .0, (s .pre .1 .0, (count-read (s .args .file .now) (c .before .before .before .before .before .before .before .before .before .before .before .block-of2 .ensures) (c .before .before .before .before .before .before .before .before .before .before .roles-present .ensures), s .pre .1 .1)))
-
--- src/lib.rt:99:1
-returns : tie.Need-returns
-returns c =
-    let file = c .before .before .before .before .before .before .before .before .before .before .before .args .file .now in
-    runs-refused file (rowsIn file)
-    (runs-read file (c .before .before .before .before .before .before .before .before .before .block-of .ensures) (c .before .before .before .before .before .before .block-of3 .ensures) (c .before .before .before .before .start-of .ensures .0) (count-read file (c .before .before .before .before .before .before .before .before .block-of2 .ensures) (c .before .before .before .before .before .before .before .roles-present .ensures)) (c .before .before .before .bad-run .ensures))
-    (c .before .place .given .1)
-
--- src/lib.rt:99:1
-returns-2 : tie.Need-returns-2
-returns-2 c =
-    let file = c .before .before .before .before .before .before .before .before .before .before .before .before .before .before .before .args .file .now in
-    known-refused file (rowsIn file)
-    (runs-read file (c .before .before .before .before .before .before .before .before .before .before .before .before .before .block-of .ensures) (c .before .before .before .before .before .before .before .before .before .before .block-of3 .ensures) (c .before .before .before .before .before .before .before .before .start-of .ensures .0) (count-read file (c .before .before .before .before .before .before .before .before .before .before .before .before .block-of2 .ensures) (c .before .before .before .before .before .before .before .before .before .before .before .roles-present .ensures)) (c .before .before .before .before .before .before .before .bad-run .ensures))
-    (c .before .before .before .before .before .enum-told .given .1)
-    (known-read file (c .before .before .before .before .before .before .before .before .before .before .before .before .before .block-of .ensures) (c .before .before .before .before .before .before .before .before .before .block-of4 .ensures) (c .before .before .before .before .start-of2 .ensures .0) (c .before .before .before .bad-knowledge .ensures))
-    (c .before .place2 .given .1)
 
 -- src/lib.rt:99:1
 returns-3 : tie.Need-returns-3
