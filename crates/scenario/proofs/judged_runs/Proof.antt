@@ -13,13 +13,16 @@ use Rattle.records.proofs.bad_run.Reads as bad-run-reads
 use Rattle.records.proofs.roles_present.Reads as roles-present-reads
 use Rattle.scenario.proofs.parts_of.Reads as parts-of-reads
 
+-- what refuses with 8 or 9, the first that holds
+ruleset refusals = (runs-refused, known-refused, runs-read, known-read, count-read)
+
 -- src/lib.rt:99:1
 returns : tie.Need-returns
-returns c = search (runs-refused, known-refused, all-accepted, runs-read, known-read, count-read)
+returns c = search refusals
 
 -- src/lib.rt:99:1
 returns-2 : tie.Need-returns-2
-returns-2 c = search (runs-refused, known-refused, all-accepted, runs-read, known-read, count-read)
+returns-2 c = search refusals
 
 -- src/lib.rt:103:9
 block-of-requires : tie.Need-block-of-requires

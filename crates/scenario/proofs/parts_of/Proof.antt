@@ -41,7 +41,7 @@ start-of-requires-3 c κs = search needs
 
 -- src/lib.rt:89:20
 run-count-requires : tie.Need-run-count-requires
-run-count-requires c κs = count-few (c .before .before .before .before .before .before .before .args .file .now) (c .before .before .before .before .before .before .before .pre .1 .1 .0)
+run-count-requires c κs = omega (arith, count-few (c .before .before .before .before .before .before .before .args .file .now) (c .before .before .before .before .before .before .before .pre .1 .1 .0))
 
 -- src/lib.rt:92:20
 start-of-requires-4 : tie.Need-start-of-requires-4
