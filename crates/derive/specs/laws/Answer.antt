@@ -1,19 +1,15 @@
 -- The laws of Derive's answer: refusals passed on, what an accepted table and list give, and the two other answers. Assumes nothing.
-use Prim.Native.Nat.{ℕ, zero, suc, _+_, _*_, _<_, _≤_}
+use Prim.Native.Nat.{ℕ, _<_}
 use native.Mathlib.Omega.{arith}
-use mathlib.Core.Path.{_≡_, refl, sym, ap, _∙_}
-use mathlib.Core.Bool.{Bool, true, false, not}
-use mathlib.Core.List.{List, [], _∷_, List·Memᴰ, List·Memᴰ·head, List·Memᴰ·tail, List·Memᴰ·not-nil}
-use mathlib.Core.Option.{Option, none, some, Option·none-ne-some}
-use borrow.Author.Tests.{ltb-true}
-use lib.Dec.{T, ltb, nltb→le, not-T, ltb→lt}
-use lib.ListN.{length}
-use Rattle.semantics.specs.Answer.{Answer, refused, accepted, refuse}
-use Rattle.semantics.specs.Table.{Row, rowsFrom}
+use mathlib.Core.Path.{_≡_, refl, sym, _∙_}
+use mathlib.Core.Bool.{Bool}
+use mathlib.Core.List.{List, []}
+use mathlib.Core.Option.{none}
+use Rattle.semantics.specs.Answer.{accepted}
+use Rattle.semantics.specs.Table.{rowsFrom}
 use Rattle.semantics.specs.Value.{valueOf, asAtoms}
 use Rattle.semantics.specs.Derive.{absentFrom, derivableRow, derived}
-use Rattle.semantics.specs.laws.Test.{provided-none, passed-none}
-use Rattle.semantics.specs.laws.List.{mem-cases}
+use Rattle.semantics.specs.laws.Derive.{all-there}
 use Rattle.rows.specs.Rows.{rowsOf, placeAs}
 use Rattle.rows.specs.declared.Place.{Place}
 use Rattle.rows.specs.declared.Place.the-variants.{At, Nowhere}
@@ -26,22 +22,7 @@ use Rattle.cells.specs.Cells.{Shape}
 use Rattle.cells.specs.laws.Shape.{sized-shape}
 use Rattle.role_level.specs.RoleLevel.{ListedBelow}
 use Rattle.derive.specs.Answers.{derivedAs, AbsentAt}
-use Rattle.derive.specs.declared.Derived.{Derived}
-use Rattle.derive.specs.declared.Derived.the-variants.{Refused, Derivable, NotDerivable}
-
--- no absent row: each listed row is present, and so is the target
-none-absent : (rows : List Row) (at : ℕ) (list : List ℕ) (target : ℕ) → absentFrom rows at list target ≡ none → ListedBelow (length rows) list × (target < length rows)
-unfolding absentFrom
-none-absent rows at [] target e =
-    (λ r m. absurd (List·Memᴰ·not-nil m), present (ltb target (length rows)) refl (provided-none (not (ltb target (length rows))) at e))
-  where
-    present : (b : Bool) → ltb target (length rows) ≡ b → (T (not b) → ⊥) → target < length rows
-    present true h n = ltb-true target (length rows) h
-    present false h n = absurd (n tt)
-none-absent rows at (r ∷ list) target e =
-    let w = passed-none (ltb r (length rows)) (absentFrom rows (suc at) list target) at e in
-    let rest = none-absent rows (suc at) list target (w .1) in
-    (λ x m. mem-cases m (λ q. rw q (ltb→lt r (length rows) (w .0))) (rest .0 x), rest .1)
+use Rattle.derive.specs.declared.Derived.the-variants.{Refused}
 
 module _ (table list : List ℕ) (target : ℕ) {j : Judged} (check : j ≡ judgedAs (rowsFrom 0 [] table)) where
   -- a refused table
@@ -71,7 +52,7 @@ module _ (table list : List ℕ) (target : ℕ) {j : Judged} (check : j ≡ judg
         -- none absent
         pub derive-listed : ListedBelow n list × (target < n)
         derive-listed =
-            let w = none-absent (rowsOf table) 0 list target none-there in
+            let w = all-there (rowsOf table) 0 list target none-there in
             (λ r m. omega (arith, w .0 r m, derive-shape .count), omega (arith, w .1, derive-shape .count))
 
         -- the answer

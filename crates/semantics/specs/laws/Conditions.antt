@@ -1,6 +1,5 @@
 -- The laws of the conditions that refuse: each holds, at the place that it gives, exactly as its plain statement says. Assumes nothing.
-use Prim.Native.Nat.{ℕ, zero, suc, _+_, _≤_, _<_}
-use native.Mathlib.Nat.{not-suc-le-zero}
+use Prim.Native.Nat.{ℕ, suc, _+_, _≤_, _<_}
 use native.Mathlib.Decide.{decLt}
 use native.Mathlib.Omega.{arith}
 use mathlib.Core.Path.{_≡_, refl, sym, ap, _∙_}
@@ -11,19 +10,18 @@ use mathlib.Core.List.{List, [], _∷_, _++_, List·Memᴰ, List·Memᴰ·head, 
 use lib.Dec.{T, ltb, leb, eqb, lt→ltb, nltb→le}
 use lib.ListN.{length, getElem?}
 use Rattle.semantics.specs.Basic.{decided, present, firstOf, provided, keep, every, rising, Ordered, ordered-none, ordered-more}
-use Rattle.semantics.specs.Answer.{Answer, refused, accepted, refuse}
-use Rattle.semantics.specs.Term.{VariableType, agentType, freshType, Atom, trusted, untrusted, global, intruder, role, variable, local, Term}
+use Rattle.semantics.specs.Answer.{Answer, refuse}
+use Rattle.semantics.specs.Term.{agentType, freshType, trusted, untrusted, global, intruder, role, variable, local, Term}
 use Rattle.semantics.specs.Table.{Row, atomic, pkOf, skOf, sharedOf, pairOf, encryptedOf, variableRow, agentLike, noPair, fits, admissible, repeated, row?, decode, rowRefusal, extended, rowsFrom}
 use Rattle.semantics.specs.Value.{valueOf, withoutVariables, withoutRun}
 use Rattle.semantics.specs.Frame.{Part, unversioned, tooLong, firstBad, complete}
 use Rattle.semantics.specs.Roles.{EventKind, send, read, claim, Event, Role, eventCount, knowledgeIn, eventsIn, roleLength, rolesPresent, peerFits, eventFits, knowledgeFits, goodRole, badRole, namesPresent, absentRoleFrom}
 use Rattle.semantics.specs.WellFormed.{wellFormed, learned, eventTerm, roleKnowledge, illFormedFrom, illFormed}
-use Rattle.semantics.specs.Runs.{atomOf, atomAt, isAgent, runLength, runIn, goodRun, badRun, badKnowledgeFrom}
+use Rattle.semantics.specs.Runs.{atomOf, atomAt, isAgent, runIn, goodRun, badRun, badKnowledgeFrom}
 use Rattle.semantics.specs.Derive.{absentFrom}
-use Rattle.semantics.specs.Allowed.{WellFormed}
 use Rattle.semantics.specs.Guarantee.{HasValue, WellFormedEvents, noEvents, moreEvents}
 use Rattle.semantics.specs.Refusals.{AgentLike, likeTrusted, likeUntrusted, likeRole, likeVariable, IsPair, isPair, Below, RowRefused, incomplete, noRow, unfit, repeats, laterRow, Fits, fitsAtom, fitsPk, fitsSk, fitsShared, fitsPair, fitsEncrypted, Admitted, FirstBad, badHere, badLater, PeerFits, sendsTo, readsFrom, claims, GoodRoleRecord, FirstAbsentRole, absentHere, absentLater, FirstIllFormed, illHere, illLater, AllWellFormed, wellNone, wellMore, FirstIllFormedRole, inRole, inLaterRole, AgentRow, isTrustedRow, isUntrustedRow, GoodRunRecord, FirstBadKnowledge, badByte, laterByte, FirstAbsent, targetAbsent, listedAbsent, laterAbsent}
-use Rattle.semantics.specs.laws.Test.{same-test, both-right, both-parts, both, all-three, both-iff, choice-some, ltb-iff, leb-iff, eqb-iff, provided-some, not-iff, present-some, none-there, holds-decided}
+use Rattle.semantics.specs.laws.Test.{same-test, both-right, both-parts, both, all-three, four-tests, five-tests, both-iff, choice-some, ltb-iff, leb-iff, eqb-iff, provided-some, not-iff, present-some, hasValue-iff, holds-decided}
 use Rattle.semantics.specs.laws.Answer.{refused-not-accepted, refused-same}
 use Rattle.semantics.specs.laws.List.{ordered-first, ordered-rest, mem-cases, every-iff, getElem-below, getElem-there}
 use Rattle.semantics.specs.laws.Open.{illFormedFrom-none}
@@ -283,10 +281,6 @@ rising-exactly (a ∷ b ∷ bs) = (
   λ o. both (ltb a b) (rising (b ∷ bs)) (lt→ltb a b (ordered-first o b (List·Memᴰ·head refl))) (rising-exactly (b ∷ bs) .1 (ordered-rest o)),
 )
 
--- a value that is there
-hasValue-iff : {A : Type 0} (o : Option A) → T (present o) ↔ ((x : A) × (o ≡ some x))
-hasValue-iff o = (present-some o, λ w. rw (w .1) tt)
-
 -- the peer of an event
 peerFits-exactly : (roles : ℕ) (kind : EventKind) (peer : ℕ) → T (peerFits roles kind peer) ↔ PeerFits roles kind peer
 peerFits-exactly roles send peer = (λ t. sendsTo (ltb-iff peer roles .0 t), of)
@@ -326,7 +320,7 @@ goodRole-exactly rows roles i part = (
     knows = λ x m. hasValue-iff (valueOf withoutVariables rows x) .0 (every-iff (λ r. present (valueOf withoutVariables rows r)) known .0 (search both-parts) x m);
     events = λ o m. eventFits-exactly rows roles o .0 (every-iff (eventFits rows roles) (eventsIn part) .0 (search both-parts) o m);
   },
-  λ g. five (complete roleLength part) (ltb i 4) (leb (eventCount (part .bytes)) 8) fitting (every (eventFits rows roles) (eventsIn part))
+  λ g. five-tests (complete roleLength part) (ltb i 4) (leb (eventCount (part .bytes)) 8) fitting (every (eventFits rows roles) (eventsIn part))
       (leb-iff (roleLength (part .bytes)) (length (part .bytes)) .1 (g .whole))
       (ltb-iff i 4 .1 (g .amongFour))
       (leb-iff (eventCount (part .bytes)) 8 .1 (g .fewEvents))
@@ -339,9 +333,6 @@ goodRole-exactly rows roles i part = (
 
     fitting : Bool
     fitting = rising known && every (λ r. present (valueOf withoutVariables rows r)) known
-
-    five : (a b c d e : Bool) → T a → T b → T c → T d → T e → T (a && b && c && d && e)
-    five a b c d e s t u v w = both (a && b && c && d) e (both (a && b && c) d (both (a && b) c (both a b s t) u) v) w
 
 pub badRole-exactly : (rows : List Row) (parts : List Part) (at : ℕ) → (badRole rows parts ≡ some at) ↔ FirstBad (GoodRoleRecord rows (rolesPresent parts)) 0 parts at
 unfolding badRole
@@ -500,15 +491,12 @@ goodRun-exactly rows roles i part = (
     rolePresent = ltb-iff (runIn part .role) roles .0 (search both-parts);
     areAgents = λ r m. isAgent-exactly rows r .0 (every-iff (λ r. isAgent (atomAt rows r)) (runIn part .agents) .0 (search both-parts) r m);
   },
-  λ g. four (leb (suc roles) (length (part .bytes))) (ltb i 4) (ltb (runIn part .role) roles) (every (λ r. isAgent (atomAt rows r)) (runIn part .agents))
+  λ g. four-tests (leb (suc roles) (length (part .bytes))) (ltb i 4) (ltb (runIn part .role) roles) (every (λ r. isAgent (atomAt rows r)) (runIn part .agents))
       (leb-iff (suc roles) (length (part .bytes)) .1 (g .whole))
       (ltb-iff i 4 .1 (g .amongFour))
       (ltb-iff (runIn part .role) roles .1 (g .rolePresent))
       (every-iff (λ r. isAgent (atomAt rows r)) (runIn part .agents) .1 (λ r m. isAgent-exactly rows r .1 (g .areAgents r m))),
 )
-  where
-    four : (a b c d : Bool) → T a → T b → T c → T d → T (a && b && c && d)
-    four a b c d s t u v = both (a && b && c) d (both (a && b) c (both a b s t) u) v
 
 pub badRun-exactly : (rows : List Row) (roles : ℕ) (parts : List Part) (at : ℕ) → (badRun rows roles parts ≡ some at) ↔ FirstBad (GoodRunRecord rows roles) 0 parts at
 unfolding badRun

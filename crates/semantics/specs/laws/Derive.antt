@@ -1,10 +1,10 @@
 -- The laws of Derive on bytes: demand 2, both answers. Assumes nothing.
-use Prim.Native.Nat.{ℕ, zero, suc, _<_}
+use Prim.Native.Nat.{ℕ, suc, _<_}
 use native.Mathlib.Omega.{arith}
 use mathlib.Core.Path.{_≡_, refl, sym, ap, _∙_}
-use mathlib.Core.Logic.{_↔_, ⊎-elim}
+use mathlib.Core.Logic.{_↔_}
 use mathlib.Core.Bool.{Bool, true, false, not}
-use mathlib.Core.Option.{Option, none, some, Option·none-ne-some, Option·some-injective}
+use mathlib.Core.Option.{Option, none, some}
 use mathlib.Core.List.{List, [], _∷_, map, List·Memᴰ, List·Memᴰ·head, List·Memᴰ·tail, List·Memᴰ·not-nil}
 use lib.Dec.{T, ltb, ltb→lt}
 use lib.ListN.{length}
@@ -15,12 +15,11 @@ use Rattle.semantics.specs.Inference.{Derives, derivable}
 use Rattle.semantics.specs.Table.{Row, rowsFrom}
 use Rattle.semantics.specs.Value.{valueOf, asAtoms}
 use Rattle.semantics.specs.Derive.{absentFrom, derivableRow, derived}
-use Rattle.semantics.specs.Guarantee.{GoodTable}
-use Rattle.semantics.specs.Meaning.{ValueIs, TermsOf}
+use Rattle.semantics.specs.Meaning.{TermsOf}
 use Rattle.semantics.specs.Demand.{DeriveAsks}
 use Rattle.semantics.specs.Refusals.{FirstAbsent, targetAbsent, listedAbsent, laterAbsent}
-use Rattle.semantics.specs.laws.Test.{same-test, passed-none, provided-none}
-use Rattle.semantics.specs.laws.List.{mem-cases, mem-present, mem-map}
+use Rattle.semantics.specs.laws.Test.{same-test, not-not, passed-none, provided-none}
+use Rattle.semantics.specs.laws.List.{mem-cases}
 use Rattle.semantics.specs.laws.Answer.{accepted-same, checked-passed, bound-accepted}
 use Rattle.semantics.specs.laws.Inference.{derivable-exact, derives-monotone}
 use Rattle.semantics.specs.laws.Encoding.{table-exactly}
@@ -29,15 +28,11 @@ use Rattle.semantics.specs.laws.Meaning.{value-exactly, listed-terms}
 use Rattle.semantics.specs.laws.Conditions.{absentFrom-exactly}
 
 -- where nothing is absent, every listed row and the target are there
-all-there : (rows : List Row) (at : ℕ) (list : List ℕ) (target : ℕ) → absentFrom rows at list target ≡ none → ((r : ℕ) → List·Memᴰ r list → r < length rows) × (target < length rows)
+pub all-there : (rows : List Row) (at : ℕ) (list : List ℕ) (target : ℕ) → absentFrom rows at list target ≡ none → ((r : ℕ) → List·Memᴰ r list → r < length rows) × (target < length rows)
 unfolding absentFrom
 all-there rows at [] target e =
     let n = provided-none (not (ltb target (length rows))) at e in
-    ((λ r m. absurd (List·Memᴰ·not-nil m)), ltb→lt target (length rows) (twice (ltb target (length rows)) n))
-  where
-    twice : (b : Bool) → ¬ T (not b) → T b
-    twice true n = tt
-    twice false n = n tt
+    ((λ r m. absurd (List·Memᴰ·not-nil m)), ltb→lt target (length rows) (not-not (ltb target (length rows)) n))
 all-there rows at (r ∷ list) target e =
     let w = passed-none (ltb r (length rows)) (absentFrom rows (suc at) list target) at e in
     let v = all-there rows (suc at) list target (w .1) in

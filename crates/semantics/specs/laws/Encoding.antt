@@ -4,15 +4,15 @@ use native.Mathlib.Nat.{add-zero, zero-add, le-refl}
 use native.Mathlib.Omega.{arith}
 use mathlib.Core.Path.{_≡_, refl, sym, ap, ap₂, subst, _∙_}
 use mathlib.Core.Logic.{_↔_}
-use mathlib.Core.Bool.{Bool, true, false, _&&_, not}
+use mathlib.Core.Bool.{Bool, true, _&&_, not}
 use mathlib.Core.Option.{Option, none, some, Option·some-injective, Option·none-ne-some}
 use mathlib.Core.List.{List, [], _∷_, _++_, map, append-assoc, append-nil, List·Memᴰ, List·Memᴰ·head, List·Memᴰ·tail}
 use lib.Dec.{T, leb, eqb, ltb, leb→le, le→leb, eqb→eq, ltb→lt, lt→ltb}
 use lib.ListN.{length, getD, getElem?, length-take, length-drop, length-map, take, drop, take-append-drop, length-append}
 use lib.Seq.{length-take-le, getD-take, split-at, take-at, drop-at, take-length, take-append-seam, drop-append-seam, drop-append-add, getD-append-seam}
-use Rattle.semantics.specs.Basic.{decided, present, provided, keep, mapped, firstOf, every, presentOnes, rising}
+use Rattle.semantics.specs.Basic.{decided, present, provided, keep, mapped, every, presentOnes, rising}
 use Rattle.semantics.specs.Limits.{mostRows, mostVariables, mostRoles, mostRuns, mostEvents}
-use Rattle.semantics.specs.Answer.{Answer, accepted, refuse}
+use Rattle.semantics.specs.Answer.{accepted}
 use Rattle.semantics.specs.Term.{agentType, freshType, trusted, untrusted, global, intruder, role, variable, local, Term}
 use Rattle.semantics.specs.Table.{Row, atomic, pkOf, skOf, sharedOf, pairOf, encryptedOf, row?, single, variableTypes, decode, variableRow, fits, admissible, repeated, rowRefusal, extended, rowsFrom}
 use Rattle.semantics.specs.Value.{valueOf, withoutVariables, withoutRun}
@@ -25,10 +25,11 @@ use Rattle.semantics.specs.Encoding.{Parts, Blocks, noBlocks, moreBlocks
 use Rattle.semantics.specs.Encoding.{RowBytes, trustedBytes, untrustedBytes, globalBytes, intruderBytes, roleBytes, agentVariableBytes, freshVariableBytes, localBytes, publicBytes, secretBytes, sharedBytes, pairBytes, encryptedBytes}
 use Rattle.semantics.specs.Encoding.{TermBytes, noRows, moreRows, KindByte, sendByte, readByte, claimByte, EventBytes, noEvents, moreEvents, RoleBytes, noRoles, moreRoles, RunBytes, noRuns, moreRuns, Encodes}
 use Rattle.semantics.specs.Guarantee.{GoodTable, HasValue, GoodRole, WellFormedEvents, noEvents as formedNone, moreEvents as formedMore, GoodRun, Guarantee}
-use Rattle.semantics.specs.laws.Test.{all-three, decided-holds, both-left, both-right, both, both-parts, not-iff, provided-none, provided-some}
+use Rattle.semantics.specs.laws.Test.{all-three, four-tests, five-tests, decided-holds, both-left, both-right, both, both-parts, not-iff, not-not, provided-none, failed-none, provided-some, passed-gives, found-gives, firstOf-gives, hasValue-iff}
+use Rattle.semantics.specs.laws.Answer.{unrefused-gives}
 use Rattle.semantics.specs.laws.List.{every-iff, mem-getElem, mem-map, getElem-below, getElem-seam, getElem-append, keep-cons, keep-append, present-all}
 use Rattle.semantics.specs.laws.Table.{rows-good, Reads, ends, reads, rowsFrom-reads}
-use Rattle.semantics.specs.laws.Frame.{firstBad-none, firstBad-all, passed-gives}
+use Rattle.semantics.specs.laws.Frame.{firstBad-none, firstBad-all}
 use Rattle.semantics.specs.laws.Open.{badRole-present, Opened, opened-inverts, opened-guarantee}
 
 -- a block's length by its two bytes
@@ -105,16 +106,6 @@ file-frames (v ∷ b₃ ∷ b₂ ∷ b₁ ∷ b₀ ∷ rest) t =
 -- and a framed file is such
 framed-file : {file : List ℕ} {budget : ℕ} {blocks : List (List ℕ)} → Framed file budget blocks → T (hasFrame file)
 framed-file (framedAs {rest = rest} p) = let n : ℕ = suc (suc (suc (suc (suc (length rest))))) in both (leb 5 n) (framed 4 rest) (le→leb 5 n (omega arith)) (blocks-frame p)
-
--- a test that does not fail passes
-not-not : (a : Bool) → ¬ T (not a) → T a
-not-not true n = tt
-not-not false n = n tt
-
--- where a test fails there is no value
-failed-none : (a : Bool) (x : ℕ) → ¬ T a → provided a x ≡ none
-failed-none true x n = absurd (n tt)
-failed-none false x n = refl
 
 -- a file is not refused by its framing exactly if it is framed
 pub framed-exactly : (file : List ℕ) → (misframed file ≡ none) ↔ ((budget : ℕ) × (blocks : List (List ℕ)) × Framed file budget blocks)
@@ -528,11 +519,6 @@ good-unrepeated below row new g t = not-iff (every other below) .0 t (every-iff 
         let s = g .distinct (w .0) (length below) row (getElem-append below (row ∷ new) (w .0) (w .1) ∙ ap some e) (getElem-seam below row new) in
         omega arith
 
--- an answer is gone on with where no number refuses
-unrefused-gives : {A : Type 0} (o : Option ℕ) (at : ℕ) (b : Answer A) → o ≡ none → _≡_ {A = Answer A} (elim o [ some n ↦ refuse n at | none ↦ b ]) b
-unrefused-gives none at b e = refl
-unrefused-gives (some n) at b e = absurd (Option·none-ne-some n (sym e))
-
 -- a row that is admissible and not repeated is not refused
 row-unrefused : (below : List Row) (row : Row) → T (admissible below row) → ¬ T (repeated below row) → rowRefusal below (some row) ≡ none
 unfolding rowRefusal
@@ -625,23 +611,12 @@ roles-read (suc n) l (moreRoles {at = at} {r = r} {events = events} {bytes = res
     let b = length-append events rest in
     rw (first-record n at (r .knowledge) (length (r .events)) events rest (events-read e .1)) (moreMatched (role-written at r events e) (roles-read n (omega arith) p))
 
--- four and five tests pass
-four-tests : (a b c d : Bool) → T a → T b → T c → T d → T (a && b && c && d)
-four-tests a b c d x y z u = both (a && b && c) d (all-three a b c .1 (x, y, z)) u
-
-five-tests : (a b c d e : Bool) → T a → T b → T c → T d → T e → T (a && b && c && d && e)
-five-tests a b c d e x y z u v = both (a && b && c && d) e (four-tests a b c d x y z u) v
-
--- a value that is there is present
-some-present : {A : Type 0} (o : Option A) {x : A} → o ≡ some x → T (present o)
-some-present o e = rw e tt
-
 -- the knowledge of a good role fits
 knowledge-fits : (rows : List Row) (known : List ℕ) → T (rising known) → ((x : ℕ) → List·Memᴰ x known → HasValue withoutVariables rows x) → T (knowledgeFits rows known)
 unfolding knowledgeFits
 knowledge-fits rows known t h =
     both (rising known) (every (λ r. present (valueOf withoutVariables rows r)) known) t
-    (every-iff (λ r. present (valueOf withoutVariables rows r)) known .1 (λ x m. some-present (valueOf withoutVariables rows x) (h x m .1)))
+    (every-iff (λ r. present (valueOf withoutVariables rows r)) known .1 (λ x m. hasValue-iff (valueOf withoutVariables rows x) .1 (h x m)))
 
 -- events of a good role fit
 events-fit : (rows : List Row) (roles : ℕ) (es : List Event) → ((e : Event) → List·Memᴰ e es → T (peerFits roles (e .kind) (e .peer)))
@@ -741,15 +716,6 @@ named-passes roles at [] h = refl
 named-passes roles at (row ∷ rows) h =
     passed-gives (namesPresent roles row) (absentRoleFrom roles (at + 3) rows) at (names-present roles row (λ i e. h 0 i (ap some e))) (named-passes roles (at + 3) rows (λ x i e. h (suc x) i e))
 
--- where a missing value gives a value, what follows from a value that is there
-found-gives : {A B : Type 0} (o : Option A) (f : A → Option B) (x : B) {a : A} → o ≡ some a → _≡_ {A = Option B} (elim o [ none ↦ some x | some a ↦ f a ]) (f a)
-found-gives none f x {a} e = absurd (Option·none-ne-some a e)
-found-gives (some b) f x {a} e = ap f (Option·some-injective b a e)
-
--- neither of two values is there
-firstOf-gives : {A : Type 0} (o p : Option A) → o ≡ none → p ≡ none → firstOf (o ∷ p ∷ []) ≡ none
-firstOf-gives o p e f = rw (e, f) refl
-
 -- no event is refused where all are well formed
 formed-passes : {rows : List Row} {own : ℕ} {known : List Term} {es : List Event} → WellFormedEvents rows own known es → illFormedFrom rows own known es ≡ none
 unfolding illFormedFrom
@@ -774,7 +740,7 @@ knowledge-next : (rows : List Row) (at least r : ℕ) (bytes : List ℕ) → lea
 unfolding badKnowledgeFrom
 knowledge-next rows at least r bytes l v e =
     passed-gives (leb least r && present (valueOf withoutRun rows r)) (badKnowledgeFrom rows (suc at) (suc r) bytes) at
-    (both (leb least r) (present (valueOf withoutRun rows r)) (le→leb least r l) (some-present (valueOf withoutRun rows r) (v .1))) e
+    (both (leb least r) (present (valueOf withoutRun rows r)) (le→leb least r l) (hasValue-iff (valueOf withoutRun rows r) .1 v)) e
 
 -- no knowledge row is refused where they rise from a number on and have values
 knowledge-from : (rows : List Row) (at least r : ℕ) (bytes : List ℕ) → least ≤ r → T (rising (r ∷ bytes)) → ((x : ℕ) → List·Memᴰ x (r ∷ bytes) → HasValue withoutRun rows x)

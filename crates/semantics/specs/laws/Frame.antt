@@ -4,13 +4,13 @@ use native.Mathlib.Decide.{decLt}
 use native.Mathlib.Nat.{add-zero}
 use native.Mathlib.Omega.{arith}
 use mathlib.Core.Path.{_≡_, refl}
-use mathlib.Core.Bool.{Bool, true, false}
-use mathlib.Core.Option.{Option, none, some, Option·none-ne-some, Option·some-injective}
+use mathlib.Core.Bool.{Bool}
+use mathlib.Core.Option.{none, some, Option·none-ne-some, Option·some-injective}
 use mathlib.Core.List.{List, [], _∷_, List·Memᴰ, List·Memᴰ·not-nil}
 use lib.Dec.{T}
 use lib.ListN.{length, getElem?, take, drop, length-take, length-drop}
 use Rattle.semantics.specs.Frame.{Part, recordsFrom, records, firstBad}
-use Rattle.semantics.specs.laws.Test.{passed-none}
+use Rattle.semantics.specs.laws.Test.{passed-none, passed-gives}
 use Rattle.semantics.specs.laws.List.{mem-cases, getElem-there}
 
 module _ (good : ℕ → Part → Bool) where
@@ -47,11 +47,6 @@ module _ (size : List ℕ → ℕ) where
   pub records-taken : (whole : Part) {part : Part} → List·Memᴰ part (records size whole) → (s : List ℕ) × (part .bytes ≡ take (size s) s)
   unfolding records
   records-taken whole m = recordsFrom-taken (length (whole .bytes)) (whole .start) (whole .bytes) m
-
--- where a failed test gives a value, there is none if the test passes
-pub passed-gives : {A : Type 0} (a : Bool) (o : Option A) (x : A) → T a → o ≡ none → _≡_ {A = Option A} (elim a [ true ↦ o | false ↦ some x ]) none
-passed-gives true o x t e = e
-passed-gives false o x t e = absurd t
 
 -- no record is bad where each is good with its number
 pub firstBad-all : (good : ℕ → Part → Bool) (i : ℕ) (parts : List Part) → ((k : ℕ) (part : Part) → getElem? parts k ≡ some part → T (good (i + k) part)) → firstBad good i parts ≡ none

@@ -27,6 +27,13 @@ all-three true true c = (λ t. (tt, tt, t), λ w. w .2)
 all-three true false c = (λ t. absurd t, λ w. w .1)
 all-three false b c = (λ t. absurd t, λ w. w .0)
 
+-- four and five tests pass
+pub four-tests : (a b c d : Bool) → T a → T b → T c → T d → T (a && b && c && d)
+four-tests a b c d x y z u = both (a && b && c) d (all-three a b c .1 (x, y, z)) u
+
+pub five-tests : (a b c d e : Bool) → T a → T b → T c → T d → T e → T (a && b && c && d && e)
+five-tests a b c d e x y z u v = both (a && b && c && d) e (four-tests a b c d x y z u) v
+
 -- one of two tests passes
 pub either-left : (a b : Bool) → T a → T (a || b)
 either-left true b t = tt
@@ -52,6 +59,11 @@ either-both-cases false b c t = inr (both-left b c t, both-right b c t)
 pub not-iff : (a : Bool) → T (not a) ↔ ¬ T a
 not-iff true = (λ t u. t, λ n. n tt)
 not-iff false = (λ t u. u, λ n. tt)
+
+-- a test that does not fail passes
+pub not-not : (a : Bool) → ¬ T (not a) → T a
+not-not true n = tt
+not-not false n = n tt
 
 -- two tests that pass together are equal
 pub same-test : (a b : Bool) → T a ↔ T b → a ≡ b
@@ -108,26 +120,47 @@ pub present-some : {A : Type 0} (o : Option A) → T (present o) → (a : A) × 
 present-some none t = absurd t
 present-some (some a) t = (a, refl)
 
+pub hasValue-iff : {A : Type 0} (o : Option A) → T (present o) ↔ ((x : A) × (o ≡ some x))
+hasValue-iff o = (present-some o, λ w. rw (w .1) tt)
+
 -- where a failed test gives a value, there is none only if the test passes
 pub passed-none : {A : Type 0} (a : Bool) (o : Option A) (x : A) → _≡_ {A = Option A} (elim a [ true ↦ o | false ↦ some x ]) none → T a × (o ≡ none)
 passed-none true o x e = (tt, e)
 passed-none false o x e = absurd (Option·none-ne-some x (sym e))
+
+-- and then there is none if there is none otherwise
+pub passed-gives : {A : Type 0} (a : Bool) (o : Option A) (x : A) → T a → o ≡ none → _≡_ {A = Option A} (elim a [ true ↦ o | false ↦ some x ]) none
+passed-gives true o x t e = e
+passed-gives false o x t e = absurd t
 
 -- there is no value only where the test fails
 pub provided-none : {A : Type 0} (a : Bool) (x : A) → provided a x ≡ none → ¬ T a
 provided-none true x e t = Option·none-ne-some x (sym e)
 provided-none false x e t = t
 
+-- and there is none where it does
+pub failed-none : {A : Type 0} (a : Bool) (x : A) → ¬ T a → provided a x ≡ none
+failed-none true x n = absurd (n tt)
+failed-none false x n = refl
+
 -- where a missing value gives a value, there is none only if the value is there and gives none
 pub found-none : {A B : Type 0} (o : Option A) (f : A → Option B) (x : B) → _≡_ {A = Option B} (elim o [ none ↦ some x | some a ↦ f a ]) none → (a : A) × (o ≡ some a) × (f a ≡ none)
 found-none none f x e = absurd (Option·none-ne-some x (sym e))
 found-none (some a) f x e = (a, refl, e)
+
+-- and a value that is there gives what it gives
+pub found-gives : {A B : Type 0} (o : Option A) (f : A → Option B) (x : B) {a : A} → o ≡ some a → _≡_ {A = Option B} (elim o [ none ↦ some x | some a ↦ f a ]) (f a)
+found-gives none f x {a} e = absurd (Option·none-ne-some a e)
+found-gives (some b) f x {a} e = ap f (Option·some-injective b a e)
 
 -- neither of two values is there
 pub firstOf-none : {A : Type 0} (o p : Option A) → firstOf (o ∷ p ∷ []) ≡ none → (o ≡ none) × (p ≡ none)
 firstOf-none none none e = (refl, refl)
 firstOf-none none (some x) e = absurd (Option·none-ne-some x (sym e))
 firstOf-none (some x) p e = absurd (Option·none-ne-some x (sym e))
+
+pub firstOf-gives : {A : Type 0} (o p : Option A) → o ≡ none → p ≡ none → firstOf (o ∷ p ∷ []) ≡ none
+firstOf-gives o p e f = rw (e, f) refl
 
 -- each of several tests that pass
 pub ruleset both-parts = (both-left, both-right)
