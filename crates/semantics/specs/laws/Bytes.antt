@@ -106,7 +106,7 @@ pub set-few : (sc : Scenario) → Guarantee sc → (a : Active) → length (toSe
 set-few sc g a = omega (arith, new-unset (sc .rows) (a .progress .values) (a .event .kind) (a .event .row), unset-few (g .table) (a .progress .values))
 
 -- a run has no more events than a role may have
-events-few : (sc : Scenario) → Guarantee sc → (run : Run) → length (eventsOf sc run) ≤ mostEvents
+pub events-few : (sc : Scenario) → Guarantee sc → (run : Run) → length (eventsOf sc run) ≤ mostEvents
 unfolding eventsOf
 events-few sc g run = go (getElem? (sc .roles) (run .role)) refl
   where

@@ -1,4 +1,4 @@
--- Whatever the bytes: each operation gives an answer, or a listed refusal with a place within the bytes, and the numbers of an answer are small. Assumes nothing.
+-- Whatever the bytes: each operation gives an answer, or a listed refusal with a place within the bytes, and the numbers of an answer fit the bits that carry them. Assumes nothing.
 use Prim.Native.Nat.{ℕ, _+_, _*_, _≤_, _<_}
 use native.Mathlib.Decide.{decLt}
 use native.Mathlib.Omega.{arith}
@@ -8,12 +8,12 @@ use mathlib.Core.Bool.{Bool}
 use mathlib.Core.Option.{Option, none, some, Option·none-ne-some, Option·some-injective}
 use mathlib.Core.List.{List, [], _∷_, List·Memᴰ, List·Memᴰ·head, List·Memᴰ·tail, List·Memᴰ·not-nil}
 use lib.ListN.{length, getElem?, take, drop, length-append, length-take, length-drop}
-use Rattle.semantics.specs.Answer.{Refusal, Answer, refused, accepted, refuse}
+use Rattle.semantics.specs.Answer.{Answer, refused, accepted, refuse}
 use Rattle.semantics.specs.Term.{Term}
 use Rattle.semantics.specs.Table.{Row}
 use Rattle.semantics.specs.Frame.{Part, tooLong}
 use Rattle.semantics.specs.Roles.{EventKind, Event, Role, eventKinds, eventFrom, eventsFrom, knowledgeCount, eventCount, roleLength, eventsIn, roleIn, roleRecords, rolesFrom}
-use Rattle.semantics.specs.Runs.{Run, runLength, runRecords}
+use Rattle.semantics.specs.Runs.{runLength, runRecords}
 use Rattle.semantics.specs.Scenario.{Scenario, termPart, rolePart, runPart, knowledgePart, roleParts, roleCount, runParts, opened}
 use Rattle.semantics.specs.State.{State, eventsOf}
 use Rattle.semantics.specs.Verdict.{Claim, Verdict, brokenAt, held, stopped, traceBytes, searched}
@@ -21,17 +21,17 @@ use Rattle.semantics.specs.Replay.{replayed}
 use Rattle.semantics.specs.Derive.{derived}
 use Rattle.semantics.specs.Allowed.{Breaks, breaks}
 use Rattle.semantics.specs.Guarantee.{Guarantee}
+use Rattle.semantics.specs.Packing.{FitsRefusal, FitsClaim, FitsOpen, FitsDerive, FitsReplay, FitsSearch}
 use Rattle.semantics.specs.Encoding.{Framed, framedAs, Parts}
 use Rattle.semantics.specs.Refusals.{RowRefused, incomplete, noRow, unfit, repeats, laterRow, FirstBad, badHere, badLater, FirstAbsentRole, absentHere, absentLater, FirstIllFormed, illHere, illLater, FirstIllFormedRole, inRole, inLaterRole, FirstBadKnowledge, badByte, laterByte, FirstHolds, holds, passes, NoneHolds, passesAll, frameConditions, tableOf, recordConditions, OpenRefuses, byFraming, byRow, byRecord, SearchRefuses, openRefuses, tooShort, FirstAbsent, targetAbsent, listedAbsent, laterAbsent, DeriveRefuses, rowRefused, absent, ReplayRefuses, fileRefused, stepRefused}
-use Rattle.semantics.specs.laws.Test.{none-there}
-use Rattle.semantics.specs.laws.List.{mem-cases, mem-present, mem-map, mem-getElem, getElem-below}
+use Rattle.semantics.specs.laws.List.{mem-cases, mem-present, mem-map, getElem-below}
 use Rattle.semantics.specs.laws.Table.{rows-decoded}
 use Rattle.semantics.specs.laws.Frame.{records-within}
 use Rattle.semantics.specs.laws.Encoding.{framed-exactly, misframed-exactly, framed-parts, framed-budget, accepted-exactly}
 use Rattle.semantics.specs.laws.Conditions.{unversioned-exactly, tooLong-exactly, badRole-exactly, absentRole-exactly, illFormed-exactly, badRun-exactly, badKnowledge-exactly}
 use Rattle.semantics.specs.laws.Open.{opened-guarantee}
 use Rattle.semantics.specs.laws.Refusals.{open-refuses, derive-refuses}
-use Rattle.semantics.specs.laws.Bytes.{trace-bytes}
+use Rattle.semantics.specs.laws.Bytes.{events-few, trace-bytes}
 use Rattle.semantics.specs.laws.Broken.{broken-named}
 use Rattle.semantics.specs.laws.Operations.{budget-of, search-refuses, search-held, search-broken, search-stopped, replay-refuses, replay-answers, search-replays}
 
@@ -240,86 +240,43 @@ pub replay-total : (file trace : List ℕ) → ((c : Option Claim) × (replayed 
     ⊎ ((n : ℕ) × (at : ℕ) × (replayed file trace ≡ refuse n at) × (((1 ≤ n) × (n ≤ 9) × (at ≤ length file)) ⊎ ((n ≡ 12) × (at < length trace) × (at ≤ 128))))
 replay-total file trace = answer-total (replayed file trace) (λ n at e. replay-place (replay-refuses file trace n at .0 e))
 
--- a refusal with a number up to 12 and a place up to 4,096
-abbrev pub SmallRefusal : Refusal → Type 0
-SmallRefusal r = (r .number ≤ 12) × (r .place ≤ 4096)
-
--- a claim with a run up to 4 and an event up to 7
-abbrev pub SmallClaim : Claim → Type 0
-SmallClaim c = (c .run ≤ 4) × (c .event ≤ 7)
-
--- what Open's answer fits: such a refusal
-abbrev pub BoundedOpen : Answer Scenario → Type 0
-BoundedOpen (refused r) = SmallRefusal r
-BoundedOpen (accepted sc) = Unit {0}
-
--- what Search's answer fits: such a refusal; a number of four bytes; or a place of four bytes, such a claim and at most 128 bytes of a trace
-abbrev pub Bounded : Answer Verdict → Type 0
-Bounded (refused r) = SmallRefusal r
-Bounded (accepted (brokenAt place ms c)) = (place < 4294967296) × (c .run ≤ 4) × (c .event ≤ 7) × (length (traceBytes ms) ≤ 128)
-Bounded (accepted (held n)) = n < 4294967296
-Bounded (accepted (stopped n)) = n < 4294967296
-
--- what Replay's answer fits: such a refusal or such a claim
-abbrev pub BoundedReplay : Answer (Option Claim) → Type 0
-BoundedReplay (refused r) = SmallRefusal r
-BoundedReplay (accepted none) = Unit {0}
-BoundedReplay (accepted (some c)) = SmallClaim c
-
--- what Derive's answer fits: a refusal with a number up to 11 and a place below 2 to the 52
-abbrev pub BoundedDerive : Answer Bool → Type 0
-BoundedDerive (refused r) = (r .number ≤ 11) × (r .place < 4503599627370496)
-BoundedDerive (accepted b) = Unit {0}
-
--- a refusal of Open is small
-open-small : {file : List ℕ} {n at : ℕ} → OpenRefuses file n at → (n ≤ 12) × (at ≤ 4096)
-open-small {file} h = let w = open-place file h in omega arith
+-- a refusal of Open fits
+refusal-fits : {file : List ℕ} {n at : ℕ} → OpenRefuses file n at → FitsRefusal (record { number = n; place = at })
+refusal-fits {file} h = let w = open-place file h in omega arith
 
 -- Open's answer fits.
-pub open-bounds : (file : List ℕ) (a : Answer Scenario) → opened file ≡ a → BoundedOpen a
-open-bounds file (refused r) e = open-small (open-refuses file (r .number) (r .place) .0 e)
-open-bounds file (accepted sc) e = tt
+pub open-fits : (file : List ℕ) (a : Answer Scenario) → opened file ≡ a → FitsOpen a
+open-fits file (refused r) e = refusal-fits (open-refuses file (r .number) (r .place) .0 e)
+open-fits file (accepted sc) e = tt
 
 -- Derive's answer fits, if the table and the list are shorter than 2 to the 52.
-pub derive-bounds : (table list : List ℕ) (target : ℕ) → length table < 4503599627370496 → length list < 4503599627370496 → (a : Answer Bool) → derived table list target ≡ a → BoundedDerive a
-derive-bounds table list target l k (refused r) e = go (derive-place (derive-refuses table list target (r .number) (r .place) .0 e))
+pub derive-fits : (table list : List ℕ) (target : ℕ) → length table < 4503599627370496 → length list < 4503599627370496 → (a : Answer Bool) → derived table list target ≡ a → FitsDerive a
+derive-fits table list target l k (refused r) e = go (derive-place (derive-refuses table list target (r .number) (r .place) .0 e))
   where
-    go : (((r .number ≡ 4) ⊎ (r .number ≡ 5)) × (r .place < length table)) ⊎ ((r .number ≡ 11) × (r .place ≤ length list)) → BoundedDerive (refused r)
+    go : (((r .number ≡ 4) ⊎ (r .number ≡ 5)) × (r .place < length table)) ⊎ ((r .number ≡ 11) × (r .place ≤ length list)) → FitsDerive (refused r)
     go (inl (inl n, p)) = omega arith
     go (inl (inr n, p)) = omega arith
     go (inr w) = omega arith
-derive-bounds table list target l k (accepted b) e = tt
+derive-fits table list target l k (accepted b) e = tt
 
--- an event of a run is one of at most eight
-event-number : (sc : Scenario) → Guarantee sc → (run : Run) (j : ℕ) {e : Event} → getElem? (eventsOf sc run) j ≡ some e → j < 8
-unfolding eventsOf
-event-number sc g run j {e} h = go (getElem? (sc .roles) (run .role)) refl
-  where
-    go : (o : Option Role) → getElem? (sc .roles) (run .role) ≡ o → j < 8
-    go none q = none-there (e, rw (q, eventsOf) at h)
-    go (some r) q =
-        let l = getElem-below (r .events) j (rw (q, eventsOf) at h) in
-        let few = g .goodRoles r (mem-getElem (sc .roles) .1 (run .role, q)) .fewEvents in
-        omega arith
-
--- the numbers of a broken claim are small
-claim-small : {sc : Scenario} {s : State} {c : Claim} → Guarantee sc → Breaks sc s c → SmallClaim c
-claim-small {sc} {c = c} g (breaks {k} {run} hr hp he l i t v d q m) =
+-- the numbers of a broken claim fit
+claim-fits : {sc : Scenario} {s : State} {c : Claim} → Guarantee sc → Breaks sc s c → FitsClaim c
+claim-fits {sc} {c = c} g (breaks {k} {run} hr hp he l i t v d q m) =
     let a = getElem-below (sc .runs) k hr in
-    let b = event-number sc g run (c .event) he in
-    omega (arith, g .fewRuns)
+    let b = getElem-below (eventsOf sc run) (c .event) he in
+    omega (arith, g .fewRuns, events-few sc g run)
 
 -- Replay's answer fits.
-pub replay-bounds : (file trace : List ℕ) (a : Answer (Option Claim)) → replayed file trace ≡ a → BoundedReplay a
-replay-bounds file trace (refused r) e = small (replay-refuses file trace (r .number) (r .place) .0 e)
+pub replay-fits : (file trace : List ℕ) (a : Answer (Option Claim)) → replayed file trace ≡ a → FitsReplay a
+replay-fits file trace (refused r) e = small (replay-refuses file trace (r .number) (r .place) .0 e)
   where
-    small : {n at : ℕ} → ReplayRefuses file trace n at → (n ≤ 12) × (at ≤ 4096)
-    small (fileRefused h) = open-small h
+    small : {n at : ℕ} → ReplayRefuses file trace n at → FitsRefusal (record { number = n; place = at })
+    small (fileRefused h) = refusal-fits h
     small (stepRefused {sc} {ms} {s} o a q l k m p) = let fits = trace-bytes sc (opened-guarantee file sc o) ms s a in omega arith
-replay-bounds file trace (accepted none) e = tt
-replay-bounds file trace (accepted (some c)) e =
+replay-fits file trace (accepted none) e = tt
+replay-fits file trace (accepted (some c)) e =
     let w = replay-answers file trace (some c) .0 e in
-    claim-small (opened-guarantee file (w .0) (w .3)) (broken-named (w .0) (w .2) c .0 (w .6) .isBroken)
+    claim-fits (opened-guarantee file (w .0) (w .3)) (broken-named (w .0) (w .2) c .0 (w .6) .isBroken)
 
 -- A trace that Replay follows to its end has at most 128 bytes.
 pub replay-short : (file trace : List ℕ) (c : Option Claim) → replayed file trace ≡ accepted c → length trace ≤ 128
@@ -329,33 +286,33 @@ replay-short file trace c e =
     rw (w .5) fits
 
 -- the budget of an accepted file of bytes fits four bytes
-budget-small : (file : List ℕ) → ((b : ℕ) → List·Memᴰ b file → b < 256) → (sc : Scenario) → opened file ≡ accepted sc → sc .budget < 4294967296
-budget-small file bytes sc e = framed-budget bytes (accepted-exactly file sc .0 e .2 .framed)
+budget-fits : (file : List ℕ) → ((b : ℕ) → List·Memᴰ b file → b < 256) → (sc : Scenario) → opened file ≡ accepted sc → sc .budget < 4294967296
+budget-fits file bytes sc e = framed-budget bytes (accepted-exactly file sc .0 e .2 .framed)
 
 -- Search's answer on a file of bytes fits.
-pub search-bounds : (file buffer : List ℕ) → ((b : ℕ) → List·Memᴰ b file → b < 256) → (a : Answer Verdict) → searched file buffer ≡ a → Bounded a
-search-bounds file buffer bytes (refused r) e = small (search-refuses file buffer (r .number) (r .place) .0 e)
+pub search-fits : (file buffer : List ℕ) → ((b : ℕ) → List·Memᴰ b file → b < 256) → (a : Answer Verdict) → searched file buffer ≡ a → FitsSearch a
+search-fits file buffer bytes (refused r) e = small (search-refuses file buffer (r .number) (r .place) .0 e)
   where
-    small : {n at : ℕ} → SearchRefuses file buffer n at → (n ≤ 12) × (at ≤ 4096)
-    small (openRefuses h) = open-small h
+    small : {n at : ℕ} → SearchRefuses file buffer n at → FitsRefusal (record { number = n; place = at })
+    small (openRefuses h) = refusal-fits h
     small (tooShort o l q p) = omega arith
-search-bounds file buffer bytes (accepted (brokenAt place ms c)) e =
+search-fits file buffer bytes (accepted (brokenAt place ms c)) e =
     let w = search-broken file buffer place ms c .0 e in
-    let budget = budget-small file bytes (w .0) (w .1) in
+    let budget = budget-fits file bytes (w .0) (w .1) in
     let within = w .3 .inBudget in
     let again = search-replays file buffer place ms c e in
-    let small = replay-bounds file (traceBytes ms) (accepted (some c)) again in
-    (omega arith, small .0, small .1, replay-short file (traceBytes ms) (some c) again)
-search-bounds file buffer bytes (accepted (held n)) e =
+    let small = replay-fits file (traceBytes ms) (accepted (some c)) again in
+    (omega arith, small, omega (arith, replay-short file (traceBytes ms) (some c) again))
+search-fits file buffer bytes (accepted (held n)) e =
     let w = search-held file buffer n .0 e in
-    let budget = budget-small file bytes (w .0) (w .1) in
+    let budget = budget-fits file bytes (w .0) (w .1) in
     let same = budget-of file (w .0) (w .1) in
     let l = w .4 in
     let k = w .5 in
     omega arith
-search-bounds file buffer bytes (accepted (stopped n)) e =
+search-fits file buffer bytes (accepted (stopped n)) e =
     let w = search-stopped file buffer n .0 e in
-    let budget = budget-small file bytes (w .0) (w .1) in
+    let budget = budget-fits file bytes (w .0) (w .1) in
     let same = budget-of file (w .0) (w .1) in
     let k = w .3 in
     omega arith
