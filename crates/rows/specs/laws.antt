@@ -1,3 +1,4 @@
 -- The laws of rows, with their proofs.
-pub mod Decodes
+pub mod Decode
+pub mod Table
 pub mod Places

@@ -46,7 +46,7 @@ pub data RowBytes : ℕ → ℕ → ℕ → Row → Type 0 where
   secretBytes : {a : ℕ} → RowBytes 9 a 0 (skOf a)
   sharedBytes : {a b : ℕ} → RowBytes 10 a b (sharedOf a b)
   pairBytes : {l r : ℕ} → RowBytes 11 l r (pairOf l r)
-  encryptedBytes : {c k : ℕ} → RowBytes 12 c k (encryptedOf c k)
+  encryptedBytes : {l r : ℕ} → RowBytes 12 l r (encryptedOf l r)
 
 -- "Terms: the rows", "each of three bytes: kind, left, right"
 pub data TermBytes : List Row → List ℕ → Type 0 where

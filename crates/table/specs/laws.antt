@@ -1,5 +1,4 @@
 -- The laws of tables of bytes, with their proofs, a file for each subject.
-pub mod Decode
 pub mod Table
 pub mod Below
 pub mod Fits

@@ -2,7 +2,7 @@
 use Prim.Native.Nat.{ℕ, zero, suc, _+_, _*_, _<_, _≤_}
 use native.Mathlib.Nat.{le-of-suc-le-suc, not-suc-le-zero, eq-or-lt-of-le}
 use native.Mathlib.Omega.{arith}
-use mathlib.Core.Path.{_≡_, refl, sym, ap, _∙_}
+use mathlib.Core.Path.{_≡_, refl, sym}
 use mathlib.Core.Logic.{_↔_, Iff·rfl, ⊎-elim}
 use mathlib.Core.Bool.{Bool, true, false, true≢false, false≢true, cond}
 use mathlib.Core.List.{List, [], _∷_, List·Memᴰ, List·Memᴰ·head as here, List·Memᴰ·tail as later}
@@ -11,10 +11,11 @@ use borrow.Author.Tests.{lt-ltb, le-ltb}
 use lib.Dec.{T, ltb}
 use lib.ListN.{length, getD, getElem?}
 use Rattle.semantics.specs.Table.{Row}
-use Rattle.semantics.specs.Guarantee.{GoodTable, refersTo}
+use Rattle.semantics.specs.Guarantee.{refersTo}
+use Rattle.semantics.specs.Encoding.{RowBytes, trustedBytes, untrustedBytes, globalBytes, intruderBytes, roleBytes, agentVariableBytes, freshVariableBytes, localBytes, publicBytes, secretBytes, sharedBytes, pairBytes, encryptedBytes}
 use Rattle.semantics.specs.laws.List.{getElem-there}
 use Rattle.rows.specs.Rows.{rowsOf}
-use Rattle.rows.specs.laws.Decodes.{Decodes, isTrusted, isUntrusted, isGlobal, isIntruder, isRole, isAgentVariable, isFreshVariable, isLocal, isPk, isSk, isShared, isPair, isEncrypted, table-good, table-row}
+use Rattle.rows.specs.laws.Table.{table-good, table-row}
 use Rattle.cells.specs.Cells.{Shape, cellOf, cellCount, absent, secondOf, sameParts, Tells, Matches, FoundInRow, hasRun, hasNoRun, Found, isFound, notFound}
 
 -- within a list the default does not matter
@@ -24,20 +25,20 @@ getD-any (x ∷ xs) zero d e l = refl
 getD-any (x ∷ xs) (suc i) d e l = getD-any xs i d e (le-of-suc-le-suc l)
 
 -- the parts of a row of kind 8 to 12 are rows to which it refers
-pub parts-referred : {k l r : ℕ} {row : Row} → Decodes k l r row → 8 ≤ k → List·Memᴰ l (refersTo row) × List·Memᴰ (cond (ltb k 10) l r) (refersTo row)
-parts-referred isTrusted h = absurd (omega arith)
-parts-referred isUntrusted h = absurd (omega arith)
-parts-referred isGlobal h = absurd (omega arith)
-parts-referred isIntruder h = absurd (omega arith)
-parts-referred (isRole i) h = absurd (omega arith)
-parts-referred isAgentVariable h = absurd (omega arith)
-parts-referred isFreshVariable h = absurd (omega arith)
-parts-referred isLocal h = absurd (omega arith)
-parts-referred isPk h = (here refl, here refl)
-parts-referred isSk h = (here refl, here refl)
-parts-referred isShared h = (here refl, later (here refl))
-parts-referred isPair h = (here refl, later (here refl))
-parts-referred isEncrypted h = (here refl, later (here refl))
+pub parts-referred : {k l r : ℕ} {row : Row} → RowBytes k l r row → 8 ≤ k → List·Memᴰ l (refersTo row) × List·Memᴰ (cond (ltb k 10) l r) (refersTo row)
+parts-referred trustedBytes h = absurd (omega arith)
+parts-referred untrustedBytes h = absurd (omega arith)
+parts-referred globalBytes h = absurd (omega arith)
+parts-referred intruderBytes h = absurd (omega arith)
+parts-referred (roleBytes i) h = absurd (omega arith)
+parts-referred agentVariableBytes h = absurd (omega arith)
+parts-referred freshVariableBytes h = absurd (omega arith)
+parts-referred localBytes h = absurd (omega arith)
+parts-referred publicBytes h = (here refl, here refl)
+parts-referred secretBytes h = (here refl, here refl)
+parts-referred sharedBytes h = (here refl, later (here refl))
+parts-referred pairBytes h = (here refl, later (here refl))
+parts-referred encryptedBytes h = (here refl, later (here refl))
 
 module _ (bytes : List ℕ) (n runs : ℕ) (shape : Shape bytes n runs) (x : ℕ) (low : x < n) where
   -- a row that is there
@@ -45,7 +46,7 @@ module _ (bytes : List ℕ) (n runs : ℕ) (shape : Shape bytes n runs) (x : ℕ
   row-there = getElem-there (rowsOf bytes) x (omega (arith, shape .count))
 
   -- what its bytes say
-  pub row-decodes : Decodes (getD bytes (3 * x) 0) (getD bytes (3 * x + 1) 0) (getD bytes (3 * x + 2) 0) (row-there .0)
+  pub row-decodes : RowBytes (getD bytes (3 * x) 0) (getD bytes (3 * x + 1) 0) (getD bytes (3 * x + 2) 0) (row-there .0)
   row-decodes = table-row bytes (shape .table) x (row-there .0) (row-there .1) (omega (arith, shape .count))
 
   -- the parts of a row of kind 8 to 12 are lower rows

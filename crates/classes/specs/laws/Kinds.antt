@@ -8,17 +8,17 @@ use mathlib.Core.List.{List, [], _∷_}
 use mathlib.Core.Option.{Option, none, some, Option·some-injective, Option·none-ne-some}
 use lib.Dec.{ltb}
 use lib.ListN.{getD, getElem?}
-use Rattle.semantics.specs.Basic.{mapped₂}
 use Rattle.semantics.specs.Term.{Atom, trusted, untrusted, global, intruder, role, variable, local, Term, atom, pk, sk, shared, pair, encrypted, sharedKey}
 use Rattle.semantics.specs.Table.{Row, atomic, pkOf, skOf, sharedOf, pairOf, encryptedOf}
 use Rattle.semantics.specs.Value.{Reading, valueOf}
 use Rattle.semantics.specs.State.{inRun}
 use Rattle.semantics.specs.Runs.{atomOf, atomAt}
 use Rattle.semantics.specs.Guarantee.{GoodTable}
+use Rattle.semantics.specs.Encoding.{RowBytes, trustedBytes, untrustedBytes, globalBytes, intruderBytes, roleBytes, agentVariableBytes, freshVariableBytes, localBytes, publicBytes, secretBytes, sharedBytes, pairBytes, encryptedBytes}
 use Rattle.semantics.specs.laws.Test.{There, mapped-some, mapped-there, mapped₂-there}
 use Rattle.semantics.specs.laws.Value.{rowValue, value-unfolds}
 use Rattle.rows.specs.Rows.{rowsOf}
-use Rattle.rows.specs.laws.Decodes.{Decodes, isTrusted, isUntrusted, isGlobal, isIntruder, isRole, isAgentVariable, isFreshVariable, isLocal, isPk, isSk, isShared, isPair, isEncrypted, table-good}
+use Rattle.rows.specs.laws.Table.{table-good}
 use Rattle.cells.specs.Cells.{Shape, secondOf, Canonical}
 use Rattle.semantics.specs.laws.Test.{mapped₂-some}
 use Rattle.cells.specs.laws.Cells.{row-there, row-decodes}
@@ -33,20 +33,20 @@ data Sort : ℕ → ℕ → ℕ → Row → Type 0 where
   sortEncrypted : {l r : ℕ} → Sort 12 l r (encryptedOf l r)
 
 -- what the bytes of a row say
-decodes-sort : {k l r : ℕ} {row : Row} → Decodes k l r row → Sort k l (cond (ltb k 10) l r) row
-decodes-sort isTrusted = sortAtom {k = 1} (omega arith) refl
-decodes-sort isUntrusted = sortAtom {k = 2} (omega arith) refl
-decodes-sort isGlobal = sortAtom {k = 3} (omega arith) refl
-decodes-sort isIntruder = sortAtom {k = 4} (omega arith) refl
-decodes-sort (isRole i) = sortAtom {k = 5} (omega arith) refl
-decodes-sort isAgentVariable = sortAtom {k = 6} (omega arith) refl
-decodes-sort isFreshVariable = sortAtom {k = 6} (omega arith) refl
-decodes-sort isLocal = sortAtom {k = 7} (omega arith) refl
-decodes-sort isPk = sortPk
-decodes-sort isSk = sortSk
-decodes-sort isShared = sortShared
-decodes-sort isPair = sortPair
-decodes-sort isEncrypted = sortEncrypted
+decodes-sort : {k l r : ℕ} {row : Row} → RowBytes k l r row → Sort k l (cond (ltb k 10) l r) row
+decodes-sort trustedBytes = sortAtom {k = 1} (omega arith) refl
+decodes-sort untrustedBytes = sortAtom {k = 2} (omega arith) refl
+decodes-sort globalBytes = sortAtom {k = 3} (omega arith) refl
+decodes-sort intruderBytes = sortAtom {k = 4} (omega arith) refl
+decodes-sort (roleBytes i) = sortAtom {k = 5} (omega arith) refl
+decodes-sort agentVariableBytes = sortAtom {k = 6} (omega arith) refl
+decodes-sort freshVariableBytes = sortAtom {k = 6} (omega arith) refl
+decodes-sort localBytes = sortAtom {k = 7} (omega arith) refl
+decodes-sort publicBytes = sortPk
+decodes-sort secretBytes = sortSk
+decodes-sort sharedBytes = sortShared
+decodes-sort pairBytes = sortPair
+decodes-sort encryptedBytes = sortEncrypted
 
 -- the kind of a term, 0 of an atom, and its parts
 abbrev pub kindOf : Term → ℕ

@@ -4,17 +4,17 @@ use native.Mathlib.Omega.{arith}
 use mathlib.Core.Path.{_≡_, refl, sym, _∙_}
 use mathlib.Core.Logic.{_⊎_, inl, inr, ⊎-elim}
 use mathlib.Core.List.{List, List·Memᴰ, List·Memᴰ·head as here, List·Memᴰ·tail as later}
-use mathlib.Core.Option.{Option, none, some, Option·some-injective, Option·none-ne-some}
-use Rattle.semantics.specs.Basic.{mapped₂}
+use mathlib.Core.Option.{Option, none, some, Option·none-ne-some}
 use Rattle.semantics.specs.Term.{Atom, Term, atom, pk, sk, shared, pair, encrypted}
 use Rattle.semantics.specs.Table.{Row}
 use Rattle.semantics.specs.Value.{valueOf}
 use Rattle.semantics.specs.Runs.{atomOf, atomAt}
 use Rattle.semantics.specs.Guarantee.{refersTo}
+use Rattle.semantics.specs.Encoding.{RowBytes, trustedBytes, untrustedBytes, globalBytes, intruderBytes, roleBytes, agentVariableBytes, freshVariableBytes, localBytes, publicBytes, secretBytes, sharedBytes, pairBytes, encryptedBytes}
 use Rattle.semantics.specs.laws.Test.{There, mapped-some}
 use Rattle.semantics.specs.laws.Value.{rowValue, value-unfolds}
 use Rattle.rows.specs.Rows.{rowsOf}
-use Rattle.rows.specs.laws.Decodes.{Decodes, isTrusted, isUntrusted, isGlobal, isIntruder, isRole, isAgentVariable, isFreshVariable, isLocal, isPk, isSk, isShared, isPair, isEncrypted, table-good}
+use Rattle.rows.specs.laws.Table.{table-good}
 use Rattle.cells.specs.Cells.{cellOf, absent, Shape, Within, Readings, cellValue}
 use Rattle.cells.specs.laws.Cells.{row-there, row-decodes}
 use Rattle.classes.specs.Classes.{Classes, Stands, byName, byCell}
@@ -58,29 +58,29 @@ module _ (bytes : List ℕ) (n runs : ℕ) (shape : Shape bytes n runs) (reading
       (λ y m. good .lower x (row .0) (row .1) y m)
       (sym (value-unfolds good (readings w) x (row .1)) ∙ e)
     where
-      go : {k a b : ℕ} {row : Row} → Decodes k a b row → kindAt bytes x ≡ k → leftAt bytes x ≡ a → rightAt bytes x ≡ b
+      go : {k a b : ℕ} {row : Row} → RowBytes k a b row → kindAt bytes x ≡ k → leftAt bytes x ≡ a → rightAt bytes x ≡ b
           → ((y : ℕ) → List·Memᴰ y (refersTo row) → y < x) → rowValue (readings w) (valueOf (readings w) (rowsOf bytes)) row ≡ some t → Shown bytes n readings x w t
-      go isTrusted ek el er low v = showsAtom (omega arith)
-      go isUntrusted ek el er low v = showsAtom (omega arith)
-      go isGlobal ek el er low v = showsAtom (omega arith)
-      go isIntruder ek el er low v = showsAtom (omega arith)
-      go (isRole i) ek el er low v = showsAtom (omega arith)
-      go isAgentVariable ek el er low v = showsAtom (omega arith)
-      go isFreshVariable ek el er low v = showsAtom (omega arith)
-      go isLocal ek el er low v = showsAtom (omega arith)
-      go {a = a} isPk ek el er low v =
+      go trustedBytes ek el er low v = showsAtom (omega arith)
+      go untrustedBytes ek el er low v = showsAtom (omega arith)
+      go globalBytes ek el er low v = showsAtom (omega arith)
+      go intruderBytes ek el er low v = showsAtom (omega arith)
+      go (roleBytes i) ek el er low v = showsAtom (omega arith)
+      go agentVariableBytes ek el er low v = showsAtom (omega arith)
+      go freshVariableBytes ek el er low v = showsAtom (omega arith)
+      go localBytes ek el er low v = showsAtom (omega arith)
+      go {a = a} publicBytes ek el er low v =
           let p = mapped-some pk (valueOf (readings w) (rowsOf bytes) a) .0 v in
           rw (p .2) (showsPk {a = p .0} ek (omega (arith, low a (here refl))) (rw el (p .1)))
-      go {a = a} isSk ek el er low v =
+      go {a = a} secretBytes ek el er low v =
           let p = mapped-some sk (valueOf (readings w) (rowsOf bytes) a) .0 v in
           rw (p .2) (showsSk {a = p .0} ek (omega (arith, low a (here refl))) (rw el (p .1)))
-      go {a = a} {b} isShared ek el er low v =
+      go {a = a} {b} sharedBytes ek el er low v =
           let p = mapped₂-some shared (valueOf (readings w) (rowsOf bytes) a) (valueOf (readings w) (rowsOf bytes) b) .0 v in
           rw (p .4) (showsShared ek)
-      go {a = a} {b} isPair ek el er low v =
+      go {a = a} {b} pairBytes ek el er low v =
           let p = mapped₂-some pair (valueOf (readings w) (rowsOf bytes) a) (valueOf (readings w) (rowsOf bytes) b) .0 v in
           rw (p .4) (showsPair {a = p .0} {b = p .1} ek (omega (arith, low a (here refl))) (omega (arith, low b (later (here refl)))) (rw el (p .2)) (rw er (p .3)))
-      go {a = a} {b} isEncrypted ek el er low v =
+      go {a = a} {b} encryptedBytes ek el er low v =
           let p = mapped₂-some encrypted (valueOf (readings w) (rowsOf bytes) a) (valueOf (readings w) (rowsOf bytes) b) .0 v in
           rw (p .4) (showsEncrypted {a = p .0} {b = p .1} ek (omega (arith, low a (here refl))) (omega (arith, low b (later (here refl)))) (rw el (p .2)) (rw er (p .3)))
 
@@ -100,20 +100,20 @@ module _ (bytes : List ℕ) (n runs : ℕ) (shape : Shape bytes n runs) (reading
   atom-kind : (x : ℕ) → x < n → ((kindAt bytes x < 8) × There (atomAt (rowsOf bytes) x)) ⊎ ((8 ≤ kindAt bytes x) × (atomAt (rowsOf bytes) x ≡ none))
   atom-kind x l = let row = row-there bytes n runs shape x l in rw (row .1) (go (row-decodes bytes n runs shape x l))
     where
-      go : {k a b : ℕ} {row : Row} → Decodes k a b row → ((k < 8) × There (atomOf (some row))) ⊎ ((8 ≤ k) × (atomOf (some row) ≡ none))
-      go (isTrusted {n = i}) = inl (omega arith, (_, refl))
-      go isUntrusted = inl (omega arith, (_, refl))
-      go isGlobal = inl (omega arith, (_, refl))
-      go isIntruder = inl (omega arith, (_, refl))
-      go (isRole i) = inl (omega arith, (_, refl))
-      go isAgentVariable = inl (omega arith, (_, refl))
-      go isFreshVariable = inl (omega arith, (_, refl))
-      go isLocal = inl (omega arith, (_, refl))
-      go isPk = inr (omega arith, refl)
-      go isSk = inr (omega arith, refl)
-      go isShared = inr (omega arith, refl)
-      go isPair = inr (omega arith, refl)
-      go isEncrypted = inr (omega arith, refl)
+      go : {k a b : ℕ} {row : Row} → RowBytes k a b row → ((k < 8) × There (atomOf (some row))) ⊎ ((8 ≤ k) × (atomOf (some row) ≡ none))
+      go (trustedBytes {n = i}) = inl (omega arith, (_, refl))
+      go untrustedBytes = inl (omega arith, (_, refl))
+      go globalBytes = inl (omega arith, (_, refl))
+      go intruderBytes = inl (omega arith, (_, refl))
+      go (roleBytes i) = inl (omega arith, (_, refl))
+      go agentVariableBytes = inl (omega arith, (_, refl))
+      go freshVariableBytes = inl (omega arith, (_, refl))
+      go localBytes = inl (omega arith, (_, refl))
+      go publicBytes = inr (omega arith, refl)
+      go secretBytes = inr (omega arith, refl)
+      go sharedBytes = inr (omega arith, refl)
+      go pairBytes = inr (omega arith, refl)
+      go encryptedBytes = inr (omega arith, refl)
 
 -- A cell that stands for a value: an atom's row for an atom, or a row of another kind with that value.
 pub data Standing (bytes : List ℕ) (n : ℕ) (readings : Readings) (x w : ℕ) : Term → Type 0 where

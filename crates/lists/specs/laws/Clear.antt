@@ -15,10 +15,11 @@ use Rattle.semantics.specs.Term.{Term, trusted, untrusted, global, intruder, ro
 use Rattle.semantics.specs.Table.{Row}
 use Rattle.semantics.specs.Value.{Reading, valueOf, withoutVariables, withoutRun}
 use Rattle.semantics.specs.Guarantee.{refersTo}
+use Rattle.semantics.specs.Encoding.{RowBytes, trustedBytes, untrustedBytes, globalBytes, intruderBytes, roleBytes, agentVariableBytes, freshVariableBytes, localBytes, publicBytes, secretBytes, sharedBytes, pairBytes, encryptedBytes}
 use Rattle.semantics.specs.laws.List.{getElem-there}
 use Rattle.semantics.specs.laws.Value.{rowValue, value-unfolds}
 use Rattle.rows.specs.Rows.{IsTable, rowsOf, Sized}
-use Rattle.rows.specs.laws.Decodes.{Decodes, isTrusted, isUntrusted, isGlobal, isIntruder, isRole, isAgentVariable, isFreshVariable, isLocal, isPk, isSk, isShared, isPair, isEncrypted, table-good, table-row}
+use Rattle.rows.specs.laws.Table.{table-good, table-row}
 use Rattle.lists.specs.Lists.{Bars, Valued, clearBy, clearAt}
 
 -- a number is not up to another exactly if it is above it
@@ -41,22 +42,22 @@ mapped₂-present f (some a) (some b) = refl
 
 module _ (low high : ℕ) (reading : Reading) (bars : Bars low high reading) where
   -- a row has a value by its kind and by whether its parts have one
-  decodes-clear : (value : ℕ → Option Term) {k l r : ℕ} {row : Row} → Decodes k l r row
+  decodes-clear : (value : ℕ → Option Term) {k l r : ℕ} {row : Row} → RowBytes k l r row
       → present (rowValue reading value row) ≡ clearBy low high k (present (value l)) (present (value r))
   unfolding clearBy
-  decodes-clear value (isTrusted {n}) = bars (trusted n)
-  decodes-clear value (isUntrusted {n}) = bars (untrusted n)
-  decodes-clear value (isGlobal {n}) = bars (global n)
-  decodes-clear value (isIntruder {n}) = bars (intruder n)
-  decodes-clear value (isRole {i} h) = bars (role i)
-  decodes-clear value (isAgentVariable {n}) = bars (variable n agentType)
-  decodes-clear value (isFreshVariable {n}) = bars (variable n freshType)
-  decodes-clear value (isLocal {n}) = bars (local n 0)
-  decodes-clear value (isPk {a}) = mapped-present pk (value a)
-  decodes-clear value (isSk {a}) = mapped-present sk (value a)
-  decodes-clear value (isShared {a} {b}) = mapped₂-present sharedKey (value a) (value b)
-  decodes-clear value (isPair {l} {r}) = mapped₂-present pair (value l) (value r)
-  decodes-clear value (isEncrypted {l} {r}) = mapped₂-present encrypted (value l) (value r)
+  decodes-clear value (trustedBytes {n}) = bars (trusted n)
+  decodes-clear value (untrustedBytes {n}) = bars (untrusted n)
+  decodes-clear value (globalBytes {n}) = bars (global n)
+  decodes-clear value (intruderBytes {n}) = bars (intruder n)
+  decodes-clear value (roleBytes {i} h) = bars (role i)
+  decodes-clear value (agentVariableBytes {n}) = bars (variable n agentType)
+  decodes-clear value (freshVariableBytes {n}) = bars (variable n freshType)
+  decodes-clear value (localBytes {n}) = bars (local n 0)
+  decodes-clear value (publicBytes {a}) = mapped-present pk (value a)
+  decodes-clear value (secretBytes {a}) = mapped-present sk (value a)
+  decodes-clear value (sharedBytes {a} {b}) = mapped₂-present sharedKey (value a) (value b)
+  decodes-clear value (pairBytes {l} {r}) = mapped₂-present pair (value l) (value r)
+  decodes-clear value (encryptedBytes {l} {r}) = mapped₂-present encrypted (value l) (value r)
 
 -- a row of a kind from 8 on refers to its left row, and one of a kind from 10 on to its right row
 abbrev Refers : ℕ → ℕ → ℕ → List ℕ → Type 0
@@ -65,20 +66,20 @@ Refers k l r rows = (8 ≤ k → List·Memᴰ l rows) × (10 ≤ k → List·Mem
 refers-none : (k l r : ℕ) (rows : List ℕ) → k < 8 → Refers k l r rows
 refers-none k l r rows h = (λ m. absurd (omega arith), λ m. absurd (omega arith))
 
-decodes-refers : {k l r : ℕ} {row : Row} → Decodes k l r row → Refers k l r (refersTo row)
-decodes-refers isTrusted = refers-none _ _ _ _ (omega arith)
-decodes-refers isUntrusted = refers-none _ _ _ _ (omega arith)
-decodes-refers isGlobal = refers-none _ _ _ _ (omega arith)
-decodes-refers isIntruder = refers-none _ _ _ _ (omega arith)
-decodes-refers (isRole i) = refers-none _ _ _ _ (omega arith)
-decodes-refers isAgentVariable = refers-none _ _ _ _ (omega arith)
-decodes-refers isFreshVariable = refers-none _ _ _ _ (omega arith)
-decodes-refers isLocal = refers-none _ _ _ _ (omega arith)
-decodes-refers isPk = (λ m. here refl, λ m. absurd (omega arith))
-decodes-refers isSk = (λ m. here refl, λ m. absurd (omega arith))
-decodes-refers isShared = (λ m. here refl, λ m. later (here refl))
-decodes-refers isPair = (λ m. here refl, λ m. later (here refl))
-decodes-refers isEncrypted = (λ m. here refl, λ m. later (here refl))
+decodes-refers : {k l r : ℕ} {row : Row} → RowBytes k l r row → Refers k l r (refersTo row)
+decodes-refers trustedBytes = refers-none _ _ _ _ (omega arith)
+decodes-refers untrustedBytes = refers-none _ _ _ _ (omega arith)
+decodes-refers globalBytes = refers-none _ _ _ _ (omega arith)
+decodes-refers intruderBytes = refers-none _ _ _ _ (omega arith)
+decodes-refers (roleBytes i) = refers-none _ _ _ _ (omega arith)
+decodes-refers agentVariableBytes = refers-none _ _ _ _ (omega arith)
+decodes-refers freshVariableBytes = refers-none _ _ _ _ (omega arith)
+decodes-refers localBytes = refers-none _ _ _ _ (omega arith)
+decodes-refers publicBytes = (λ m. here refl, λ m. absurd (omega arith))
+decodes-refers secretBytes = (λ m. here refl, λ m. absurd (omega arith))
+decodes-refers sharedBytes = (λ m. here refl, λ m. later (here refl))
+decodes-refers pairBytes = (λ m. here refl, λ m. later (here refl))
+decodes-refers encryptedBytes = (λ m. here refl, λ m. later (here refl))
 
 module _ (low high kind : ℕ) (left right : Bool) where
   -- an atom has a value if its kind is below low, or not up to high
@@ -119,7 +120,7 @@ module _ (low high kind : ℕ) (left right : Bool) where
 
 module _ (t : List ℕ) (table : IsTable t) (i : ℕ) (within : i < length (rowsOf t)) where
   -- a row and what its bytes say
-  pub row-here : (row : Row) × (getElem? (rowsOf t) i ≡ some row) × Decodes (getD t (3 * i) 0) (getD t (3 * i + 1) 0) (getD t (3 * i + 2) 0) row
+  pub row-here : (row : Row) × (getElem? (rowsOf t) i ≡ some row) × RowBytes (getD t (3 * i) 0) (getD t (3 * i + 1) 0) (getD t (3 * i + 2) 0) row
   row-here = let w = getElem-there (rowsOf t) i within in (w .0, w .1, table-row t table i (w .0) (w .1) within)
 
   -- the rows that it refers to are below it

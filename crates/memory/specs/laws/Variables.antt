@@ -12,10 +12,11 @@ use lib.Dec.{T}
 use lib.ListN.{length, getD, getElem?, take, set, replicate, length-set}
 use lib.Seq.{getD-set-same, getD-set-other}
 use Rattle.semantics.specs.Basic.{keep}
-use Rattle.semantics.specs.Table.{Row, variableRow}
+use Rattle.semantics.specs.Table.{variableRow}
 use Rattle.semantics.specs.laws.List.{keep-cons, getElem-there}
 use Rattle.rows.specs.Rows.{rowsOf, Sized}
-use Rattle.rows.specs.laws.Decodes.{Decodes, isTrusted, isUntrusted, isGlobal, isIntruder, isRole, isAgentVariable, isFreshVariable, isLocal, isPk, isSk, isShared, isPair, isEncrypted, table-good, table-row}
+use Rattle.rows.specs.laws.Decode.{six-variable}
+use Rattle.rows.specs.laws.Table.{table-good, table-row}
 use Rattle.memory.specs.Memory.{Variables}
 use Rattle.memory.specs.laws.Words.{zeros-read, same-or-other}
 
@@ -52,22 +53,6 @@ module _ {A : Type 0} (p : A → Bool) where
   keep-one (y ∷ xs) zero x e h = omega (arith, keep-passes p y (rw (Option·some-injective y x e) h))
   keep-one (y ∷ xs) (suc i) x e h = omega (arith, keep-one xs i x e h, keep-cons p y (take i xs), keep-cons p y (take (suc i) xs))
 
--- a row of kind 6 is a variable
-kind-variable : {k l r : ℕ} {row : Row} → Decodes k l r row → k ≡ 6 → T (variableRow row)
-kind-variable isTrusted e = absurd (omega arith)
-kind-variable isUntrusted e = absurd (omega arith)
-kind-variable isGlobal e = absurd (omega arith)
-kind-variable isIntruder e = absurd (omega arith)
-kind-variable (isRole l) e = absurd (omega arith)
-kind-variable isAgentVariable e = tt
-kind-variable isFreshVariable e = tt
-kind-variable isLocal e = absurd (omega arith)
-kind-variable isPk e = absurd (omega arith)
-kind-variable isSk e = absurd (omega arith)
-kind-variable isShared e = absurd (omega arith)
-kind-variable isPair e = absurd (omega arith)
-kind-variable isEncrypted e = absurd (omega arith)
-
 -- the variables among the first x rows of a table have the first places of an array
 pub record Gathered (t : List ℕ) (variables : List ℕ) (count x : ℕ) : Type 0 where
   pub size : length variables ≡ 8
@@ -85,7 +70,7 @@ module _ (t : List ℕ) (n : ℕ) (sized : Sized t n) where
   place-left {count} {x} few l e =
       let inside : x < length (rowsOf t) = omega (arith, sized .count) in
       let row = getElem-there (rowsOf t) x inside in
-      let more = keep-one variableRow (rowsOf t) x (row .0) (row .1) (kind-variable (table-row t (sized .table) x (row .0) (row .1) inside) e) in
+      let more = keep-one variableRow (rowsOf t) x (row .0) (row .1) (six-variable (table-row t (sized .table) x (row .0) (row .1) inside) e) in
       let next : variablesBelow t (suc x) ≡ variablesBelow t (x + 1) = ap (variablesBelow t) (sym (add-one x)) in
       (omega (arith, more, next), omega (arith, more, keep-first variableRow (rowsOf t) (suc x), table-good t (sized .table) .fewVariables))
 

@@ -4,44 +4,43 @@ use native.Mathlib.Numerals.{add-one}
 use native.Mathlib.Omega.{arith}
 use mathlib.Core.Path.{_≡_, refl, sym, ap, _∙_, subst}
 use mathlib.Core.Logic.{⊎-elim}
-use mathlib.Core.Bool.{Bool, true, _&&_}
+use mathlib.Core.Bool.{Bool, true}
 use mathlib.Core.List.{List, [], _∷_, _++_, append-assoc, List·Memᴰ, List·Memᴰ·append-cases, List·Memᴰ·not-nil}
 use mathlib.Core.Option.{Option, none, some, Option·none-ne-some}
 use lib.Dec.{T}
-use lib.ListN.{length, getD, getElem?}
+use lib.ListN.{length, getElem?}
 use Rattle.semantics.specs.Basic.{andThen, mapped}
 use Rattle.semantics.specs.Term.{Atom, trusted, untrusted, global, intruder, role, variable, local, atom?, Term, atom}
 use Rattle.semantics.specs.Table.{Row, variableAtom}
-use Rattle.semantics.specs.Value.{Reading, valueOf, withoutRun, beneath}
+use Rattle.semantics.specs.Value.{Reading, withoutRun}
 use Rattle.semantics.specs.Roles.{EventKind, read}
-use Rattle.semantics.specs.Runs.{Run, atomOf, atomAt, isAgent}
+use Rattle.semantics.specs.Runs.{atomOf, atomAt, isAgent}
 use Rattle.semantics.specs.Scenario.{Scenario}
 use Rattle.semantics.specs.State.{Value, State, Active, inRun, termOf, assigned, readingIn, newVariables, paired}
 use Rattle.semantics.specs.Moves.{candidates, toSet, setAfter}
 use Rattle.semantics.specs.Replay.{isValueOf, suits}
 use Rattle.semantics.specs.Allowed.{MayTake, anAgent, anIntruder, aLocal, Takes, takesNone, takesMore}
-use Rattle.semantics.specs.laws.Test.{There, both, both-left}
+use Rattle.semantics.specs.laws.Test.{There, both-left}
 use Rattle.semantics.specs.laws.List.{mem-cases, getElem-below, getElem-there}
 use Rattle.semantics.specs.laws.Moves.{suits-exact, ActiveIn, active-in}
-use Rattle.semantics.specs.laws.Reached.{assigned-first, assigned-later, assigned-append, assigned-new, orElse, isUnset, unset-iff, unset-mem}
+use Rattle.semantics.specs.laws.Reached.{assigned-first, assigned-later, assigned-append, assigned-new, orElse, unset-iff, unset-mem}
 use Rattle.rows.specs.Rows.{rowsOf}
-use Rattle.cells.specs.Cells.{absent, Shape, Readings, cellValue}
+use Rattle.rows.specs.laws.Decode.{six-atom}
+use Rattle.cells.specs.Cells.{Shape, Readings, cellValue}
 use Rattle.cells.specs.laws.Cells.{row-there, row-decodes}
 use Rattle.classes.specs.Classes.{Grows}
-use Rattle.classes.specs.laws.Kinds.{atom-at, atom-value}
-use Rattle.knowledge.specs.Steps.{classAt, kindAt, Inside}
-use Rattle.knowledge.specs.laws.Values.{Has, has-class}
+use Rattle.classes.specs.laws.Kinds.{atom-value}
+use Rattle.knowledge.specs.laws.Values.{has-class}
 use Rattle.runs.specs.declared.RunEvent.{RunEvent}
 use Rattle.state.specs.declared.State.{State as CodeState}
 use Rattle.state.specs.Readings.{SetsOf, setsOf, withSets, readings}
-use Rattle.state.specs.State.{Due, NextMove}
+use Rattle.state.specs.State.{NextMove}
 use Rattle.state.specs.laws.Readings.{with-same, reading-run}
 use Rattle.variables.specs.Variables.{unsetFrom}
 use Rattle.variables.specs.laws.Beneath.{passes-true}
-use Rattle.variables.specs.laws.Unset.{variable-kind}
 use Rattle.values.specs.Values.{partSets, Setting, PartArrays}
 use Rattle.fits.specs.Fits as fits
-use Rattle.completions.specs.Completions.{TakesCell, Filled}
+use Rattle.completions.specs.Completions.{Filled}
 use Rattle.values.specs.laws.Values.{variable-reads, unset-none, paired-append}
 
 -- a variable among those of a list has one of as many values
@@ -187,7 +186,7 @@ module _ {t : List ℕ} {n runs k : ℕ} {e : RunEvent} {sc : Scenario} {d : Sta
         row = row-there t n runs shape q low
 
         var : (x : Atom) × (atomOf (some (row .0)) ≡ some x) × T (variableAtom x)
-        var = variable-kind (row-decodes t n runs shape q low) six
+        var = six-atom (row-decodes t n runs shape q low) six
 
         x : Atom
         x = var .0

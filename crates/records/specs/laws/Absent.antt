@@ -12,25 +12,25 @@ use lib.ListN.{getD, getElem?, drop, drop-of-length-le}
 use borrow.Author.Tests.{lt-ltb, le-ltb, ne-eqb}
 use Rattle.semantics.specs.Table.{Row}
 use Rattle.semantics.specs.Roles.{namesPresent, absentRoleFrom}
+use Rattle.semantics.specs.Encoding.{RowBytes, trustedBytes, untrustedBytes, globalBytes, intruderBytes, roleBytes, agentVariableBytes, freshVariableBytes, localBytes, publicBytes, secretBytes, sharedBytes, pairBytes, encryptedBytes}
 use Rattle.rows.specs.Rows.{rowsOf, Sized}
-use Rattle.rows.specs.laws.Decodes.{Decodes, isTrusted, isUntrusted, isGlobal, isIntruder, isRole, isAgentVariable, isFreshVariable, isLocal, isPk, isSk, isShared, isPair, isEncrypted}
 use Rattle.lists.specs.laws.Clear.{row-here}
 
 -- a row names an absent role by its kind and its left byte
-decodes-names : (roles : ℕ) {k l r : ℕ} {row : Row} → Decodes k l r row → namesPresent roles row ≡ (not (eqb k 5) || ltb l roles)
-decodes-names roles isTrusted = refl
-decodes-names roles isUntrusted = refl
-decodes-names roles isGlobal = refl
-decodes-names roles isIntruder = refl
-decodes-names roles (isRole i) = refl
-decodes-names roles isAgentVariable = refl
-decodes-names roles isFreshVariable = refl
-decodes-names roles isLocal = refl
-decodes-names roles isPk = refl
-decodes-names roles isSk = refl
-decodes-names roles isShared = refl
-decodes-names roles isPair = refl
-decodes-names roles isEncrypted = refl
+decodes-names : (roles : ℕ) {k l r : ℕ} {row : Row} → RowBytes k l r row → namesPresent roles row ≡ (not (eqb k 5) || ltb l roles)
+decodes-names roles trustedBytes = refl
+decodes-names roles untrustedBytes = refl
+decodes-names roles globalBytes = refl
+decodes-names roles intruderBytes = refl
+decodes-names roles (roleBytes i) = refl
+decodes-names roles agentVariableBytes = refl
+decodes-names roles freshVariableBytes = refl
+decodes-names roles localBytes = refl
+decodes-names roles publicBytes = refl
+decodes-names roles secretBytes = refl
+decodes-names roles sharedBytes = refl
+decodes-names roles pairBytes = refl
+decodes-names roles encryptedBytes = refl
 
 -- the rows from one on
 drop-row : (rows : List Row) (r : ℕ) (row : Row) → getElem? rows r ≡ some row → drop r rows ≡ row ∷ drop (suc r) rows

@@ -14,9 +14,9 @@ use Rattle.semantics.specs.Limits.{mostRuns}
 use Rattle.semantics.specs.Table.{Row}
 use Rattle.semantics.specs.Frame.{firstBad}
 use Rattle.semantics.specs.Runs.{runLength, runIn, runRecords, atomOf, atomAt, isAgent, goodRun, badRun}
+use Rattle.semantics.specs.Encoding.{RowBytes, trustedBytes, untrustedBytes, globalBytes, intruderBytes, roleBytes, agentVariableBytes, freshVariableBytes, localBytes, publicBytes, secretBytes, sharedBytes, pairBytes, encryptedBytes}
 use Rattle.semantics.specs.laws.List.{getElem-below}
 use Rattle.rows.specs.Rows.{rowsOf, Sized}
-use Rattle.rows.specs.laws.Decodes.{Decodes, isTrusted, isUntrusted, isGlobal, isIntruder, isRole, isAgentVariable, isFreshVariable, isLocal, isPk, isSk, isShared, isPair, isEncrypted}
 use Rattle.records.specs.Records.{partAt, recordAt, agentsIn}
 use Rattle.lists.specs.laws.Clear.{row-here}
 use Rattle.records.specs.laws.Records.{leb-taken, recordsLeft, left-all}
@@ -26,20 +26,20 @@ pub run-bytes : (roles : ℕ) (s : List ℕ) → 0 < runLength roles s
 run-bytes roles s = omega arith
 
 -- a row is an agent's by its kind
-decodes-agent : {k l r : ℕ} {row : Row} → Decodes k l r row → isAgent (atomOf (some row)) ≡ leb k 2
-decodes-agent isTrusted = refl
-decodes-agent isUntrusted = refl
-decodes-agent isGlobal = refl
-decodes-agent isIntruder = refl
-decodes-agent (isRole i) = refl
-decodes-agent isAgentVariable = refl
-decodes-agent isFreshVariable = refl
-decodes-agent isLocal = refl
-decodes-agent isPk = refl
-decodes-agent isSk = refl
-decodes-agent isShared = refl
-decodes-agent isPair = refl
-decodes-agent isEncrypted = refl
+decodes-agent : {k l r : ℕ} {row : Row} → RowBytes k l r row → isAgent (atomOf (some row)) ≡ leb k 2
+decodes-agent trustedBytes = refl
+decodes-agent untrustedBytes = refl
+decodes-agent globalBytes = refl
+decodes-agent intruderBytes = refl
+decodes-agent (roleBytes i) = refl
+decodes-agent agentVariableBytes = refl
+decodes-agent freshVariableBytes = refl
+decodes-agent localBytes = refl
+decodes-agent publicBytes = refl
+decodes-agent secretBytes = refl
+decodes-agent sharedBytes = refl
+decodes-agent pairBytes = refl
+decodes-agent encryptedBytes = refl
 
 module _ (t : List ℕ) (n : ℕ) (sized : Sized t n) (r : ℕ) where
   -- a row that is absent is no agent's, one that is present is by its kind

@@ -1,30 +1,28 @@
 -- At role level, in run 0 alone: names, marks to start from, and what exact marks answer. Assumes nothing.
-use Prim.Native.Nat.{ℕ, zero, suc, _+_, _*_, _<_, _≤_}
+use Prim.Native.Nat.{ℕ, zero, suc, _<_}
 use native.Mathlib.Nat.{zero-add}
 use native.Mathlib.Omega.{arith}
 use mathlib.Core.Path.{_≡_, refl, sym, ap, _∙_}
-use mathlib.Core.Logic.{_↔_}
 use mathlib.Core.Bool.{Bool, true, false, true≢false}
 use mathlib.Core.List.{List, map, List·Memᴰ}
 use mathlib.Core.Option.{Option, none, some, Option·some-injective, Option·none-ne-some}
-use lib.Dec.{T}
 use lib.ListN.{length, getD, getElem?, replicate}
-use Rattle.semantics.specs.Basic.{presentOnes}
-use Rattle.semantics.specs.Term.{Atom, trusted, untrusted, global, intruder, role, variable, local, Term, atom}
-use Rattle.semantics.specs.Inference.{Derives, member, derivable}
-use Rattle.semantics.specs.Table.{Row, atomic, pkOf, skOf, sharedOf, pairOf, encryptedOf}
-use Rattle.semantics.specs.Value.{Reading, asAtoms, valueOf}
+use Rattle.semantics.specs.Term.{Atom, Term}
+use Rattle.semantics.specs.Inference.{member, derivable}
+use Rattle.semantics.specs.Table.{Row}
+use Rattle.semantics.specs.Value.{asAtoms, valueOf}
 use Rattle.semantics.specs.Runs.{atomOf, atomAt}
 use Rattle.semantics.specs.State.{inRun}
 use Rattle.semantics.specs.Derive.{derivableRow}
+use Rattle.semantics.specs.Encoding.{RowBytes, trustedBytes, untrustedBytes, globalBytes, intruderBytes, roleBytes, agentVariableBytes, freshVariableBytes, localBytes, publicBytes, secretBytes, sharedBytes, pairBytes, encryptedBytes}
 use Rattle.semantics.specs.laws.Test.{same-test}
 use Rattle.semantics.specs.laws.List.{mem-map, mem-present, getElem-below}
 use Rattle.semantics.specs.laws.Inference.{derivable-exact}
 use Rattle.semantics.specs.laws.Value.{asAtoms-value}
 use Rattle.rows.specs.Rows.{rowsOf}
-use Rattle.rows.specs.laws.Decodes.{Decodes, isTrusted, isUntrusted, isGlobal, isIntruder, isRole, isAgentVariable, isFreshVariable, isLocal, isPk, isSk, isShared, isPair, isEncrypted, table-good, table-row}
-use Rattle.cells.specs.Cells.{Shape, Within, Readings, cellValue, cellOf, absent, Canonical}
-use Rattle.classes.specs.Classes.{Named, unnamed, named, NamesRight, Grows, Refilled}
+use Rattle.rows.specs.laws.Table.{table-good, table-row}
+use Rattle.cells.specs.Cells.{Shape, Within, cellValue, Canonical}
+use Rattle.classes.specs.Classes.{named, NamesRight, Grows, Refilled}
 use Rattle.classes.specs.laws.Classes.{no-values}
 use Rattle.knowledge.specs.Marks.{Marked, Derivable, Covers, Exact}
 use Rattle.role_level.specs.RoleLevel.{roleReadings, noReadings, listedTerms, RoleClasses, OwnNames, ListedMarks, ListedBelow}
@@ -41,20 +39,20 @@ data OwnRun : Option Atom → Type 0 where
   ownRun : {a : Atom} → Canonical a 0 → inRun 0 a ≡ a → OwnRun (some a)
   noAtom : OwnRun none
 
-decodes-own : {k l r : ℕ} {row : Row} → Decodes k l r row → OwnRun (atomOf (some row))
-decodes-own isTrusted = ownRun refl refl
-decodes-own isUntrusted = ownRun refl refl
-decodes-own isGlobal = ownRun refl refl
-decodes-own isIntruder = ownRun refl refl
-decodes-own (isRole l) = ownRun refl refl
-decodes-own isAgentVariable = ownRun refl refl
-decodes-own isFreshVariable = ownRun refl refl
-decodes-own isLocal = ownRun tt refl
-decodes-own isPk = noAtom
-decodes-own isSk = noAtom
-decodes-own isShared = noAtom
-decodes-own isPair = noAtom
-decodes-own isEncrypted = noAtom
+decodes-own : {k l r : ℕ} {row : Row} → RowBytes k l r row → OwnRun (atomOf (some row))
+decodes-own trustedBytes = ownRun refl refl
+decodes-own untrustedBytes = ownRun refl refl
+decodes-own globalBytes = ownRun refl refl
+decodes-own intruderBytes = ownRun refl refl
+decodes-own (roleBytes l) = ownRun refl refl
+decodes-own agentVariableBytes = ownRun refl refl
+decodes-own freshVariableBytes = ownRun refl refl
+decodes-own localBytes = ownRun tt refl
+decodes-own publicBytes = noAtom
+decodes-own secretBytes = noAtom
+decodes-own sharedBytes = noAtom
+decodes-own pairBytes = noAtom
+decodes-own encryptedBytes = noAtom
 
 own-run : {a : Atom} → OwnRun (some a) → Canonical a 0 × (inRun 0 a ≡ a)
 own-run (ownRun c e) = (c, e)

@@ -17,7 +17,7 @@ use Rattle.semantics.specs.laws.Test.{same-test}
 use Rattle.semantics.specs.laws.Inference.{derivable-exact, derives-cut, derives-monotone}
 use Rattle.semantics.specs.laws.Value.{asAtoms-value}
 use Rattle.rows.specs.Rows.{rowsOf}
-use Rattle.rows.specs.laws.Decodes.{table-good}
+use Rattle.rows.specs.laws.Table.{table-good}
 use Rattle.cells.specs.Cells.{Shape, Within, cellValue}
 use Rattle.knowledge.specs.Marks.{Marked, Derivable, Settled}
 use Rattle.knowledge.specs.Steps.{On, kindAt, leftAt, InverseKinds}

@@ -12,11 +12,12 @@ use Rattle.semantics.specs.Inference.{Derives}
 use Rattle.semantics.specs.Table.{Row, atomic, pkOf, skOf, sharedOf, pairOf, encryptedOf, agentLike, fits}
 use Rattle.semantics.specs.Value.{valueOf, asAtoms}
 use Rattle.semantics.specs.Guarantee.{refersTo}
+use Rattle.semantics.specs.Encoding.{RowBytes, trustedBytes, untrustedBytes, globalBytes, intruderBytes, roleBytes, agentVariableBytes, freshVariableBytes, localBytes, publicBytes, secretBytes, sharedBytes, pairBytes, encryptedBytes}
 use Rattle.semantics.specs.laws.Test.{mapped-some}
 use Rattle.semantics.specs.laws.Inference.{Carried, derives-keeps}
 use Rattle.semantics.specs.laws.Value.{rowValue, value-unfolds, value-within}
 use Rattle.rows.specs.Rows.{rowsOf}
-use Rattle.rows.specs.laws.Decodes.{Decodes, isTrusted, isUntrusted, isGlobal, isIntruder, isRole, isAgentVariable, isFreshVariable, isLocal, isPk, isSk, isShared, isPair, isEncrypted, table-good}
+use Rattle.rows.specs.laws.Table.{table-good}
 use Rattle.cells.specs.Cells.{Shape}
 use Rattle.cells.specs.laws.Cells.{row-there, row-decodes, left-lower, second-lower, second-right}
 use Rattle.semantics.specs.laws.Test.{mapped₂-some}
@@ -155,29 +156,29 @@ module _ (bytes : List ℕ) (n : ℕ) (shape : Shape bytes n 0) where
       value : ℕ → Option Term
       value = valueOf asAtoms table
 
-      go : {k a b : ℕ} {row : Row} → Decodes k a b row → leftAt bytes x ≡ a → rightAt bytes x ≡ b → ((y : ℕ) → List·Memᴰ y (refersTo row) → y < x)
+      go : {k a b : ℕ} {row : Row} → RowBytes k a b row → leftAt bytes x ≡ a → rightAt bytes x ≡ b → ((y : ℕ) → List·Memᴰ y (refersTo row) → y < x)
           → T (fits (take x table) row) → rowValue asAtoms value row ≡ some t → RowTerm bytes x k t
-      go (isTrusted {n = i}) el er low fit v = rw (← Option·some-injective (atom (trusted i)) t v) aTrusted
-      go (isUntrusted {n = i}) el er low fit v = rw (← Option·some-injective (atom (untrusted i)) t v) aUntrusted
-      go (isGlobal {n = i}) el er low fit v = rw (← Option·some-injective (atom (global i)) t v) aGlobal
-      go (isIntruder {n = i}) el er low fit v = rw (← Option·some-injective (atom (intruder i)) t v) anIntruder
-      go (isRole {i = i} l) el er low fit v = rw (← Option·some-injective (atom (role i)) t v) (aRole el)
-      go (isAgentVariable {n = i}) el er low fit v = rw (← Option·some-injective (atom (variable i _)) t v) aVariable
-      go (isFreshVariable {n = i}) el er low fit v = rw (← Option·some-injective (atom (variable i _)) t v) aVariable
-      go (isLocal {n = i}) el er low fit v = rw (← Option·some-injective (atom (local i 0)) t v) aLocal
-      go (isPk {a = a}) el er low fit v =
+      go (trustedBytes {n = i}) el er low fit v = rw (← Option·some-injective (atom (trusted i)) t v) aTrusted
+      go (untrustedBytes {n = i}) el er low fit v = rw (← Option·some-injective (atom (untrusted i)) t v) aUntrusted
+      go (globalBytes {n = i}) el er low fit v = rw (← Option·some-injective (atom (global i)) t v) aGlobal
+      go (intruderBytes {n = i}) el er low fit v = rw (← Option·some-injective (atom (intruder i)) t v) anIntruder
+      go (roleBytes {i = i} l) el er low fit v = rw (← Option·some-injective (atom (role i)) t v) (aRole el)
+      go (agentVariableBytes {n = i}) el er low fit v = rw (← Option·some-injective (atom (variable i _)) t v) aVariable
+      go (freshVariableBytes {n = i}) el er low fit v = rw (← Option·some-injective (atom (variable i _)) t v) aVariable
+      go (localBytes {n = i}) el er low fit v = rw (← Option·some-injective (atom (local i 0)) t v) aLocal
+      go (publicBytes {a = a}) el er low fit v =
           let p = mapped-some pk (value a) .0 v in
           let w = agent-row x a (low a (here refl)) fit in
           rw (p .2, agent-term a (w .1) (p .1)) (aPk {b = w .0} (rw el (w .1)))
-      go (isSk {a = a}) el er low fit v =
+      go (secretBytes {a = a}) el er low fit v =
           let p = mapped-some sk (value a) .0 v in
           let w = agent-row x a (low a (here refl)) fit in
           rw (p .2, agent-term a (w .1) (p .1)) (aSk {b = w .0} (rw el (w .1)))
-      go (isShared {a = a} {b = b}) el er low fit v = let p = mapped₂-some shared (value a) (value b) .0 v in rw (p .4) aShared
-      go (isPair {l = l} {r = r}) el er low fit v =
+      go (sharedBytes {a = a} {b = b}) el er low fit v = let p = mapped₂-some shared (value a) (value b) .0 v in rw (p .4) aShared
+      go (pairBytes {l = l} {r = r}) el er low fit v =
           let p = mapped₂-some pair (value l) (value r) .0 v in
           rw (p .4) (aPair {a = p .0} {b = p .1} (rw el (low l (here refl))) (rw er (low r (later (here refl)))) (rw el (p .2)) (rw er (p .3)))
-      go (isEncrypted {l = l} {r = r}) el er low fit v =
+      go (encryptedBytes {l = l} {r = r}) el er low fit v =
           let p = mapped₂-some encrypted (value l) (value r) .0 v in
           rw (p .4) (anEncryption {a = p .0} {b = p .1} (rw el (low l (here refl))) (rw er (low r (later (here refl)))) (rw el (p .2)) (rw er (p .3)))
 

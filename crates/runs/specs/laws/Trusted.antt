@@ -14,28 +14,28 @@ use Rattle.semantics.specs.Runs.{Run, atomOf, atomAt, isTrusted}
 use Rattle.semantics.specs.Scenario.{Scenario}
 use Rattle.semantics.specs.Guarantee.{Guarantee}
 use Rattle.semantics.specs.Verdict.{allTrusted}
+use Rattle.semantics.specs.Encoding.{RowBytes, trustedBytes, untrustedBytes, globalBytes, intruderBytes, roleBytes, agentVariableBytes, freshVariableBytes, localBytes, publicBytes, secretBytes, sharedBytes, pairBytes, encryptedBytes}
 use Rattle.semantics.specs.laws.List.{mem-getElem, getElem-below, getElem-there}
 use Rattle.rows.specs.Rows.{rowsOf, Sized}
-use Rattle.rows.specs.laws.Decodes.{Decodes, isTrusted as isTrustedRow, isUntrusted, isGlobal, isIntruder, isRole, isAgentVariable, isFreshVariable, isLocal, isPk, isSk, isShared, isPair, isEncrypted}
 use Rattle.lists.specs.laws.Clear.{row-here}
 use Rattle.runs.specs.Runs.{RunsAt, AgentsAt}
 use Rattle.runs.specs.declared.Runs.{Runs}
 
 -- a row is a trusted agent's by its kind
-decodes-trusted : {k l r : ℕ} {row : Row} → Decodes k l r row → isTrusted (atomOf (some row)) ≡ eqb k 1
-decodes-trusted isTrustedRow = refl
-decodes-trusted isUntrusted = refl
-decodes-trusted isGlobal = refl
-decodes-trusted isIntruder = refl
-decodes-trusted (isRole i) = refl
-decodes-trusted isAgentVariable = refl
-decodes-trusted isFreshVariable = refl
-decodes-trusted isLocal = refl
-decodes-trusted isPk = refl
-decodes-trusted isSk = refl
-decodes-trusted isShared = refl
-decodes-trusted isPair = refl
-decodes-trusted isEncrypted = refl
+decodes-trusted : {k l r : ℕ} {row : Row} → RowBytes k l r row → isTrusted (atomOf (some row)) ≡ eqb k 1
+decodes-trusted trustedBytes = refl
+decodes-trusted untrustedBytes = refl
+decodes-trusted globalBytes = refl
+decodes-trusted intruderBytes = refl
+decodes-trusted (roleBytes i) = refl
+decodes-trusted agentVariableBytes = refl
+decodes-trusted freshVariableBytes = refl
+decodes-trusted localBytes = refl
+decodes-trusted publicBytes = refl
+decodes-trusted secretBytes = refl
+decodes-trusted sharedBytes = refl
+decodes-trusted pairBytes = refl
+decodes-trusted encryptedBytes = refl
 
 module _ (t : List ℕ) (n : ℕ) (sized : Sized t n) (r : ℕ) where
   -- one that is absent is not

@@ -1,29 +1,27 @@
 -- A memory that is right: at the start, for a key that is looked up, and once an entry is stored. Assumes nothing.
-use Prim.Native.Nat.{ℕ, zero, suc, _+_, _*_, _<_, _≤_}
+use Prim.Native.Nat.{ℕ, suc, _+_, _<_}
 use native.Mathlib.Numerals.{add-one}
 use native.Mathlib.Omega.{arith}
-use mathlib.Core.Path.{_≡_, refl, sym, ap, _∙_, subst}
+use mathlib.Core.Path.{_≡_, sym, ap, _∙_}
 use mathlib.Core.List.{List}
 use mathlib.Core.Logic.{⊎-elim}
-use mathlib.Core.Option.{none, some}
+use mathlib.Core.Option.{some}
 use lib.ListN.{length, getD, replicate, length-replicate}
-use Rattle.semantics.specs.Answer.{accepted}
-use Rattle.semantics.specs.Term.{VariableType, variable}
+use Rattle.semantics.specs.Term.{variable}
 use Rattle.semantics.specs.Table.{Row}
 use Rattle.semantics.specs.Runs.{atomOf, atomAt}
-use Rattle.semantics.specs.Scenario.{Scenario, opened}
+use Rattle.semantics.specs.Scenario.{Scenario}
 use Rattle.semantics.specs.State.{State}
 use Rattle.semantics.specs.Moves.{Move, movesOf}
 use Rattle.semantics.specs.Tree.{listed}
 use Rattle.semantics.specs.laws.List.{getElem-there}
 use Rattle.rows.specs.Rows.{rowsOf}
-use Rattle.rows.specs.laws.Decodes.{table-row}
+use Rattle.rows.specs.laws.Decode.{variable-six}
+use Rattle.rows.specs.laws.Table.{table-row}
 use Rattle.cells.specs.Cells.{cellOf, cellCount, absent}
 use Rattle.cells.specs.laws.Cells.{getD-any}
-use Rattle.values.specs.laws.Next.{variable-six}
 use Rattle.runs.specs.declared.Runs.{Runs}
-use Rattle.state.specs.State.{Given}
-use Rattle.memory.specs.Memory.{wordCount, Variables, nameOf, IsKey, Agree, SameWords, Says, LookedUp, Stored}
+use Rattle.memory.specs.Memory.{wordCount, Variables, IsKey, Agree, SameWords, LookedUp, Stored}
 use Rattle.memory.specs.laws.Keys.{keys-agree}
 use Rattle.memory.specs.laws.Slots.{zeros-say-nothing}
 use Rattle.same.specs.Clean.{Clean, SamePositions, SameNames}
@@ -55,7 +53,7 @@ module _ {file t : List ℕ} {n : ℕ} {r : Runs} {variables memory : List ℕ} 
         let inside : x < length (rowsOf t) = omega (arith, reached .given .shape .count) in
         let row = getElem-there (rowsOf t) x inside in
         let its : atomAt (rowsOf t) x ≡ some (variable num type) = ap (λ (rows : List Row). atomAt rows x) (sym (reached .given .rows)) ∙ e in
-        let place = remembers .rows .all x below (variable-six (variable num type) (table-row t (reached .given .shape .table) x (row .0) (row .1) inside) (ap atomOf (sym (row .1)) ∙ its) tt) in
+        let place = remembers .rows .all x below (variable-six (table-row t (reached .given .shape .table) x (row .0) (row .1) inside) (variable num type) (ap atomOf (sym (row .1)) ∙ its) tt) in
         let runs : k < 4 = omega (arith, reached .given .good .fewRuns) in
         let cell : cellOf (getD variables (place .0) 0) (k + 1) ≡ cellOf x (suc k) = ap (λ (y : ℕ). cellOf y (k + 1)) (place .2) ∙ ap (cellOf x) (add-one k) in
         let low : cellOf x (suc k) < 480 = omega (arith, reached .given .shape .few) in

@@ -3,7 +3,7 @@ use Prim.Native.Nat.{ℕ}
 use native.Mathlib.Omega.{arith}
 use mathlib.Core.Path.{_≡_, refl, sym, ap}
 use mathlib.Core.Logic.{_↔_, _⊎_, inl, inr, ⊎-elim}
-use mathlib.Core.Option.{Option, none, some, Option·none-ne-some}
+use mathlib.Core.Option.{Option, none, some}
 use Rattle.semantics.specs.Answer.{Refusal, Answer, refused, accepted, refuse, checked, _>>=_, _>>_}
 
 -- a refusal is no acceptance
@@ -26,11 +26,6 @@ accepted-same e = cc
 pub unrefused : {A : Type 0} (o : Option ℕ) (at : ℕ) (b : Answer A) (x : A) → _≡_ {A = Answer A} (elim o [ some n ↦ refuse n at | none ↦ b ]) (accepted x) → (o ≡ none) × (b ≡ accepted x)
 unrefused none at b x e = (refl, e)
 unrefused (some n) at b x e = absurd (refused-not-accepted e)
-
--- and where it is, the answer is gone on with
-pub unrefused-gives : {A : Type 0} (o : Option ℕ) (at : ℕ) (b : Answer A) → o ≡ none → _≡_ {A = Answer A} (elim o [ some n ↦ refuse n at | none ↦ b ]) b
-unrefused-gives none at b e = refl
-unrefused-gives (some n) at b e = absurd (Option·none-ne-some n (sym e))
 
 -- a condition that is passed
 pub checked-passed : {B : Type 0} (n : ℕ) (o : Option ℕ) (b : Answer B) {x : B} → _>>_ (checked n o) b ≡ accepted x → (o ≡ none) × (b ≡ accepted x)

@@ -6,13 +6,13 @@ use mathlib.Core.Path.{_≡_, refl, sym, ap, _∙_}
 use mathlib.Core.Logic.{_↔_, _⊎_, inl, inr, ⊎-elim}
 use mathlib.Core.Bool.{Bool, true, false, _&&_, not}
 use mathlib.Core.Option.{Option, none, some, Option·none-ne-some, Option·some-injective}
-use mathlib.Core.List.{List, [], _∷_, _++_, List·Memᴰ, List·Memᴰ·head, List·Memᴰ·tail, List·Memᴰ·not-nil}
+use mathlib.Core.List.{List, [], _∷_, _++_, List·Memᴰ, List·Memᴰ·head, List·Memᴰ·not-nil}
 use lib.Dec.{T, ltb, leb, eqb, lt→ltb, nltb→le}
 use lib.ListN.{length, getElem?}
-use Rattle.semantics.specs.Basic.{decided, present, firstOf, provided, keep, every, rising, Ordered, ordered-none, ordered-more}
-use Rattle.semantics.specs.Answer.{Answer, refuse}
+use Rattle.semantics.specs.Basic.{present, firstOf, provided, keep, every, rising, Ordered, ordered-none, ordered-more}
+use Rattle.semantics.specs.Answer.{refuse}
 use Rattle.semantics.specs.Term.{agentType, freshType, trusted, untrusted, global, intruder, role, variable, local, Term}
-use Rattle.semantics.specs.Table.{Row, atomic, pkOf, skOf, sharedOf, pairOf, encryptedOf, variableRow, agentLike, noPair, fits, admissible, repeated, row?, decode, rowRefusal, extended, rowsFrom}
+use Rattle.semantics.specs.Table.{Row, atomic, pkOf, skOf, sharedOf, pairOf, encryptedOf, variableRow, agentLike, noPair, fits, admissible, repeated, decode, rowRefusal, rowsFrom}
 use Rattle.semantics.specs.Value.{valueOf, withoutVariables, withoutRun}
 use Rattle.semantics.specs.Frame.{Part, unversioned, tooLong, firstBad, complete}
 use Rattle.semantics.specs.Roles.{EventKind, send, read, claim, Event, Role, eventCount, knowledgeIn, eventsIn, roleLength, rolesPresent, peerFits, eventFits, knowledgeFits, goodRole, badRole, namesPresent, absentRoleFrom}
@@ -21,9 +21,10 @@ use Rattle.semantics.specs.Runs.{atomOf, atomAt, isAgent, runIn, goodRun
 use Rattle.semantics.specs.Derive.{absentFrom}
 use Rattle.semantics.specs.Guarantee.{HasValue, WellFormedEvents, noEvents, moreEvents}
 use Rattle.semantics.specs.Refusals.{AgentLike, likeTrusted, likeUntrusted, likeRole, likeVariable, IsPair, isPair, Below, RowRefused, incomplete, noRow, unfit, repeats, laterRow, Fits, fitsAtom, fitsPk, fitsSk, fitsShared, fitsPair, fitsEncrypted, Admitted, FirstBad, badHere, badLater, PeerFits, sendsTo, readsFrom, claims, GoodRoleRecord, FirstAbsentRole, absentHere, absentLater, FirstIllFormed, illHere, illLater, AllWellFormed, wellNone, wellMore, FirstIllFormedRole, inRole, inLaterRole, AgentRow, isTrustedRow, isUntrustedRow, GoodRunRecord, FirstBadKnowledge, badByte, laterByte, FirstAbsent, targetAbsent, listedAbsent, laterAbsent}
-use Rattle.semantics.specs.laws.Test.{same-test, both-right, both-parts, both, all-three, four-tests, five-tests, both-iff, choice-some, ltb-iff, leb-iff, eqb-iff, provided-some, not-iff, present-some, hasValue-iff, holds-decided}
+use Rattle.semantics.specs.laws.Test.{same-test, both-right, both-parts, both, all-three, four-tests, five-tests, both-iff, choice-some, ltb-iff, leb-iff, eqb-iff, provided-some, not-iff, present-some, hasValue-iff}
 use Rattle.semantics.specs.laws.Answer.{refused-not-accepted, refused-same}
 use Rattle.semantics.specs.laws.List.{ordered-first, ordered-rest, mem-cases, every-iff, getElem-below, getElem-there}
+use Rattle.semantics.specs.laws.Table.{repeated-exactly, rowThen, rowsFrom-then, rowsFrom-short}
 use Rattle.semantics.specs.laws.Open.{illFormedFrom-none}
 use Rattle.semantics.specs.laws.Encoding.{decode-exactly}
 use Rattle.semantics.specs.laws.WellFormed.{wellFormed-exact}
@@ -149,22 +150,6 @@ admissible-exactly below row = (
     three : T (ltb (length below) 96 && leb variables 8 && fits below row) ↔ (T (ltb (length below) 96) × T (leb variables 8) × T (fits below row))
     three = all-three (ltb (length below) 96) (leb variables 8) (fits below row)
 
--- a row is repeated exactly if it is among those below it
-repeated-exactly : (below : List Row) (row : Row) → T (repeated below row) ↔ List·Memᴰ row below
-unfolding repeated
-repeated-exactly below row = (found below, λ m. not-iff (every other below) .1 (λ t. not-iff (decided (row? row row)) .0 (every-iff other below .0 t row m) (holds-decided (row? row row) refl)))
-  where
-    other : Row → Bool
-    other earlier = not (decided (row? earlier row))
-
-    found : (rows : List Row) → T (not (every other rows)) → List·Memᴰ row rows
-    found [] t = absurd t
-    found (x ∷ rows) t = go (row? x row) (found rows) t
-      where
-        go : (d : Dec (x ≡ row)) → (T (not (every other rows)) → List·Memᴰ row rows) → T (not (not (decided d) && every other rows)) → List·Memᴰ row (x ∷ rows)
-        go (yes e) rest t = List·Memᴰ·head (sym e)
-        go (no n) rest t = List·Memᴰ·tail (rest t)
-
 -- What the refusal of a row after those below it says.
 data RowJudged (below : List Row) : Option Row → Option ℕ → Type 0 where
   judgedNone : RowJudged below none (some 4)
@@ -195,10 +180,6 @@ judged-once (judgedTaken a m) (judgedUnfit n) = absurd (n a)
 judged-once (judgedTaken a m) (judgedRepeated b k) = absurd (m k)
 judged-once (judgedTaken a m) (judgedTaken b k) = refl
 
--- three bytes that are judged so, after the rows below, and the rest
-abbrev rowThen : ℕ → List Row → List ℕ → Option Row → Option ℕ → Answer (List Row)
-rowThen at below bytes o m = elim m [ some number ↦ refuse number at | none ↦ rowsFrom (at + 3) (extended below o) bytes ]
-
 module _ (kind left right at n p : ℕ) (below : List Row) (bytes : List ℕ) where
   -- what refuses there is the row or a later one
   row-refuses : (o : Option Row) → decode kind left right ≡ o → (m : Option ℕ) → RowJudged below o m
@@ -212,16 +193,7 @@ module _ (kind left right at n p : ℕ) (below : List Row) (bytes : List ℕ) wh
 
   -- the answer of three bytes that are judged so
   rowsFrom-row : {o : Option Row} {m : Option ℕ} → decode kind left right ≡ o → RowJudged below o m → rowsFrom at below (kind ∷ left ∷ right ∷ bytes) ≡ rowThen at below bytes o m
-  unfolding rowsFrom
-  rowsFrom-row {o} d j = ap (λ x. rowThen at below bytes x (rowRefusal below x)) d ∙ ap (rowThen at below bytes o) (judged-once (row-judged below o) j)
-
--- fewer than three bytes are no row
-rowsFrom-short : (at : ℕ) (below : List Row) (bytes : List ℕ) → 0 < length bytes → length bytes < 3 → rowsFrom at below bytes ≡ refuse 4 at
-unfolding rowsFrom
-rowsFrom-short at below [] l h = absurd (omega arith)
-rowsFrom-short at below (kind ∷ []) l h = refl
-rowsFrom-short at below (kind ∷ left ∷ []) l h = refl
-rowsFrom-short at below (kind ∷ left ∷ right ∷ bytes) l h = absurd (omega arith)
+  rowsFrom-row {o} d j = rowsFrom-then at below kind left right bytes d (judged-once (row-judged below o) j)
 
 -- 4 and 5: the first row that is refused
 rows-refuse : (at : ℕ) (below : List Row) (bytes : List ℕ) (n p : ℕ) → rowsFrom at below bytes ≡ refuse n p → RowRefused below at bytes n p

@@ -10,11 +10,11 @@ use mathlib.Core.List.{List, [], _∷_, _++_, map, append-assoc, append-nil, Lis
 use lib.Dec.{T, leb, eqb, ltb, leb→le, le→leb, eqb→eq, ltb→lt, lt→ltb}
 use lib.ListN.{length, getD, getElem?, length-take, length-drop, length-map, take, drop, take-append-drop, length-append}
 use lib.Seq.{length-take-le, getD-take, split-at, take-at, drop-at, take-length, take-append-seam, drop-append-seam, drop-append-add, getD-append-seam}
-use Rattle.semantics.specs.Basic.{decided, present, provided, keep, mapped, every, presentOnes, rising}
+use Rattle.semantics.specs.Basic.{present, provided, keep, mapped, every, presentOnes, rising}
 use Rattle.semantics.specs.Limits.{mostRows, mostVariables, mostRoles, mostRuns, mostEvents}
 use Rattle.semantics.specs.Answer.{accepted}
 use Rattle.semantics.specs.Term.{agentType, freshType, trusted, untrusted, global, intruder, role, variable, local, Term}
-use Rattle.semantics.specs.Table.{Row, atomic, pkOf, skOf, sharedOf, pairOf, encryptedOf, row?, single, variableTypes, decode, variableRow, fits, admissible, repeated, rowRefusal, extended, rowsFrom}
+use Rattle.semantics.specs.Table.{Row, atomic, pkOf, skOf, sharedOf, pairOf, encryptedOf, single, variableTypes, decode, variableRow, fits, admissible, repeated, rowsFrom}
 use Rattle.semantics.specs.Value.{valueOf, withoutVariables, withoutRun}
 use Rattle.semantics.specs.Frame.{Part, unversioned, tooLong, blockLength, framed, misframed, budgetOf, blockFrom, block, recordsFrom, records, complete}
 use Rattle.semantics.specs.Roles.{EventKind, send, read, claim, eventKinds, Event, Role, eventFrom, eventsFrom, knowledgeCount, eventCount, roleLength, knowledgeIn, eventsIn, roleIn, roleRecords, rolesPresent, peerFits, eventFits, knowledgeFits, goodRole, badRole, namesPresent, absentRoleFrom, rolesFrom}
@@ -25,10 +25,9 @@ use Rattle.semantics.specs.Encoding.{Parts, Blocks, noBlocks, moreBlocks
 use Rattle.semantics.specs.Encoding.{RowBytes, trustedBytes, untrustedBytes, globalBytes, intruderBytes, roleBytes, agentVariableBytes, freshVariableBytes, localBytes, publicBytes, secretBytes, sharedBytes, pairBytes, encryptedBytes}
 use Rattle.semantics.specs.Encoding.{TermBytes, noRows, moreRows, KindByte, sendByte, readByte, claimByte, EventBytes, noEvents, moreEvents, RoleBytes, noRoles, moreRoles, RunBytes, noRuns, moreRuns, Encodes}
 use Rattle.semantics.specs.Guarantee.{GoodTable, HasValue, GoodRole, WellFormedEvents, noEvents as formedNone, moreEvents as formedMore, GoodRun, Guarantee}
-use Rattle.semantics.specs.laws.Test.{all-three, four-tests, five-tests, decided-holds, both-left, both-right, both, both-parts, not-iff, not-not, provided-none, failed-none, provided-some, passed-gives, found-gives, firstOf-gives, hasValue-iff}
-use Rattle.semantics.specs.laws.Answer.{unrefused-gives}
+use Rattle.semantics.specs.laws.Test.{all-three, four-tests, five-tests, both-left, both-right, both, both-parts, not-iff, not-not, provided-none, failed-none, provided-some, passed-gives, found-gives, firstOf-gives, hasValue-iff}
 use Rattle.semantics.specs.laws.List.{every-iff, mem-getElem, mem-map, getElem-below, getElem-seam, getElem-append, keep-cons, keep-append, present-all}
-use Rattle.semantics.specs.laws.Table.{rows-good, Reads, ends, reads, rowsFrom-reads}
+use Rattle.semantics.specs.laws.Table.{repeated-at, rowsFrom-step, rows-good, Reads, ends, reads, rowsFrom-reads}
 use Rattle.semantics.specs.laws.Frame.{firstBad-none, firstBad-all}
 use Rattle.semantics.specs.laws.Open.{badRole-present, Opened, opened-inverts, opened-guarantee}
 
@@ -506,23 +505,11 @@ good-admissible below row new g =
 
 -- and is none of them
 good-unrepeated : (below : List Row) (row : Row) (new : List Row) → GoodTable (below ++ row ∷ new) → ¬ T (repeated below row)
-unfolding repeated
-good-unrepeated below row new g t = not-iff (every other below) .0 t (every-iff other below .1 (λ x m. not-iff (decided (row? x row)) .1 (λ s. apart x m (decided-holds (row? x row) s))))
-  where
-    other : Row → Bool
-    other earlier = not (decided (row? earlier row))
-
-    apart : (x : Row) → List·Memᴰ x below → ¬ (x ≡ row)
-    apart x m e =
-        let w = mem-getElem below .0 m in
-        let l = getElem-below below (w .0) (w .1) in
-        let s = g .distinct (w .0) (length below) row (getElem-append below (row ∷ new) (w .0) (w .1) ∙ ap some e) (getElem-seam below row new) in
-        omega arith
-
--- a row that is admissible and not repeated is not refused
-row-unrefused : (below : List Row) (row : Row) → T (admissible below row) → ¬ T (repeated below row) → rowRefusal below (some row) ≡ none
-unfolding rowRefusal
-row-unrefused below row a n = passed-gives (admissible below row) (provided (repeated below row) 5) 4 a (failed-none (repeated below row) 5 n)
+good-unrepeated below row new g t =
+    let w = repeated-at below row .0 t in
+    let l = getElem-below below (w .0) (w .1) in
+    let s = g .distinct (w .0) (length below) row (getElem-append below (row ∷ new) (w .0) (w .1)) (getElem-seam below row new) in
+    omega arith
 
 -- the bytes of the rows of a good table, after those below, are accepted
 terms-accepted : (at : ℕ) (below : List Row) {new : List Row} {bytes : List ℕ} → TermBytes new bytes → GoodTable (below ++ new) → rowsFrom at below bytes ≡ accepted (below ++ new)
@@ -531,9 +518,7 @@ terms-accepted at below noRows g = ap accepted (sym (append-nil below))
 terms-accepted at below (moreRows {kind = kind} {left = left} {right = right} {row = row} {rows = new} {bytes = bytes} d p) g =
     let e : decode kind left right ≡ some row = bytes-decoded d in
     let s : (below ++ row ∷ []) ++ new ≡ below ++ row ∷ new = append-assoc below (row ∷ []) new in
-    unrefused-gives (rowRefusal below (decode kind left right)) at (rowsFrom (at + 3) (extended below (decode kind left right)) bytes)
-    (rw e (row-unrefused below row (good-admissible below row new g) (good-unrepeated below row new g)))
-    ∙ ap (λ o. rowsFrom (at + 3) (extended below o) bytes) e
+    rowsFrom-step at below kind left right bytes row e (good-admissible below row new g) (good-unrepeated below row new g)
     ∙ rw s at (terms-accepted (at + 3) (below ++ row ∷ []) p (rw s g))
 
 -- the bytes of an event are read as that event

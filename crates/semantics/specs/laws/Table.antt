@@ -2,20 +2,20 @@
 use Prim.Native.Nat.{ℕ, zero, suc, _+_, _*_, _≤_, _<_}
 use native.Mathlib.Nat.{not-suc-le-zero, le-of-suc-le-suc}
 use native.Mathlib.Omega.{arith}
-use mathlib.Core.Path.{_≡_, refl, sym, _∙_}
-use mathlib.Core.Logic.{⊎-elim}
-use mathlib.Core.Bool.{Bool, not}
+use mathlib.Core.Path.{_≡_, refl, sym, ap, _∙_}
+use mathlib.Core.Logic.{_↔_, ⊎-elim}
+use mathlib.Core.Bool.{Bool, _&&_, not}
 use mathlib.Core.Option.{Option, none, some, Option·none-ne-some}
-use mathlib.Core.List.{List, [], _∷_, _++_, append-assoc, append-nil, List·Memᴰ, List·Memᴰ·not-nil, List·Memᴰ·eq-of-singleton}
+use mathlib.Core.List.{List, [], _∷_, _++_, append-assoc, append-nil, List·Memᴰ, List·Memᴰ·head, List·Memᴰ·tail, List·Memᴰ·not-nil, List·Memᴰ·eq-of-singleton}
 use lib.Dec.{T, ltb→lt, leb→le}
 use lib.ListN.{length, getD, getElem?, take, length-append}
 use lib.Seq.{take-append-le, take-append-seam}
 use Rattle.semantics.specs.Basic.{decided, present, provided, keep, every}
 use Rattle.semantics.specs.Limits.{mostRows, mostVariables}
-use Rattle.semantics.specs.Answer.{accepted}
+use Rattle.semantics.specs.Answer.{Answer, accepted, refuse}
 use Rattle.semantics.specs.Table.{Row, atomic, pkOf, skOf, sharedOf, pairOf, encryptedOf, row?, decode, agentLike, noPair, variableRow, fits, admissible, repeated, rowRefusal, extended, rowsFrom}
 use Rattle.semantics.specs.Guarantee.{refersTo, GoodTable}
-use Rattle.semantics.specs.laws.Test.{both-parts, not-iff, holds-decided, passed-none, provided-none}
+use Rattle.semantics.specs.laws.Test.{both-parts, not-iff, holds-decided, passed-none, passed-gives, provided-none, failed-none}
 use Rattle.semantics.specs.laws.Answer.{refused-not-accepted, accepted-same, unrefused}
 use Rattle.semantics.specs.laws.List.{mem-cases, every-iff, mem-getElem, getElem-below, getElem-more}
 
@@ -41,14 +41,25 @@ fits-lower below (sharedOf a b) t r m = lower-two m (row-there agentLike (λ h. 
 fits-lower below (pairOf a b) t r m = lower-two m (row-there noPair (λ h. h) below a (search both-parts)) (row-there present (λ h. h) below b (search both-parts))
 fits-lower below (encryptedOf a b) t r m = lower-two m (row-there present (λ h. h) below a (search both-parts)) (row-there present (λ h. h) below b (search both-parts))
 
--- a row that is not repeated is at no place below it
-pub repeated-no : (below : List Row) (row : Row) → ¬ T (repeated below row) → (i : ℕ) → ¬ (getElem? below i ≡ some row)
+-- a row is repeated exactly if it is among those below it
+pub repeated-exactly : (below : List Row) (row : Row) → T (repeated below row) ↔ List·Memᴰ row below
 unfolding repeated
-repeated-no below row n i e =
-    n (not-iff (every other below) .1 (λ t. not-iff (decided (row? row row)) .0 (every-iff other below .0 t row (mem-getElem below .1 (i, e))) (holds-decided (row? row row) refl)))
+repeated-exactly below row = (found below, λ m. not-iff (every other below) .1 (λ t. not-iff (decided (row? row row)) .0 (every-iff other below .0 t row m) (holds-decided (row? row row) refl)))
   where
     other : Row → Bool
     other earlier = not (decided (row? earlier row))
+
+    found : (rows : List Row) → T (not (every other rows)) → List·Memᴰ row rows
+    found [] t = absurd t
+    found (x ∷ rows) t = go (row? x row) (found rows) t
+      where
+        go : (d : Dec (x ≡ row)) → (T (not (every other rows)) → List·Memᴰ row rows) → T (not (not (decided d) && every other rows)) → List·Memᴰ row (x ∷ rows)
+        go (yes e) rest t = List·Memᴰ·head (sym e)
+        go (no n) rest t = List·Memᴰ·tail (rest t)
+
+-- and so if it is at a place below it
+pub repeated-at : (below : List Row) (row : Row) → T (repeated below row) ↔ ((i : ℕ) × (getElem? below i ≡ some row))
+repeated-at below row = (λ t. mem-getElem below .0 (repeated-exactly below row .0 t), λ w. repeated-exactly below row .1 (mem-getElem below .1 w))
 
 -- what an admissible row is
 pub admissible-holds : (below : List Row) (row : Row) → T (admissible below row)
@@ -78,8 +89,8 @@ more-good below row a n g = record {
   lower = λ i x e r m. ⊎-elim (λ old. g .lower i x old r m) (λ new. rw (new .0) (fits-lower below row (w .2) r (rw (new .1) at m))) (getElem-more below row i e);
   fitting = λ i x e. ⊎-elim (old-fits i x) (λ new. rw (new .0, new .1, take-append-seam) (w .2)) (getElem-more below row i e);
   distinct = λ i j x e f. ⊎-elim
-      (λ old. ⊎-elim (g .distinct i j x old) (λ new. absurd (repeated-no below row n i (rw (new .1) at old))) (getElem-more below row j f))
-      (λ new. ⊎-elim (λ old. absurd (repeated-no below row n j (rw (new .1) at old))) (λ new′. cc) (getElem-more below row j f))
+      (λ old. ⊎-elim (g .distinct i j x old) (λ new. absurd (n (repeated-at below row .1 (i, rw (new .1) at old)))) (getElem-more below row j f))
+      (λ new. ⊎-elim (λ old. absurd (n (repeated-at below row .1 (j, rw (new .1) at old)))) (λ new′. cc) (getElem-more below row j f))
       (getElem-more below row i e);
 }
   where
@@ -103,6 +114,33 @@ rowRefusal-none below none e = absurd (Option·none-ne-some 4 (sym e))
 rowRefusal-none below (some row) e =
     let w = passed-none (admissible below row) (provided (repeated below row) 5) 4 e in
     (row, refl, w .0, provided-none (repeated below row) 5 (w .1))
+
+-- a row that is admissible and not repeated is not refused
+pub row-unrefused : (below : List Row) (row : Row) → T (admissible below row) → ¬ T (repeated below row) → rowRefusal below (some row) ≡ none
+unfolding rowRefusal
+row-unrefused below row a n = passed-gives (admissible below row) (provided (repeated below row) 5) 4 a (failed-none (repeated below row) 5 n)
+
+-- the answer of three bytes after the rows below, by what they are decoded to and the number that refuses them
+abbrev pub rowThen : ℕ → List Row → List ℕ → Option Row → Option ℕ → Answer (List Row)
+rowThen at below bytes o m = elim m [ some number ↦ refuse number at | none ↦ rowsFrom (at + 3) (extended below o) bytes ]
+
+pub rowsFrom-then : (at : ℕ) (below : List Row) (kind left right : ℕ) (bytes : List ℕ) {o : Option Row} {m : Option ℕ} → decode kind left right ≡ o → rowRefusal below o ≡ m
+    → rowsFrom at below (kind ∷ left ∷ right ∷ bytes) ≡ rowThen at below bytes o m
+unfolding rowsFrom
+rowsFrom-then at below kind left right bytes {o} d e = ap (λ x. rowThen at below bytes x (rowRefusal below x)) d ∙ ap (rowThen at below bytes o) e
+
+-- a row that may follow those below is added to them
+pub rowsFrom-step : (at : ℕ) (below : List Row) (kind left right : ℕ) (bytes : List ℕ) (row : Row) → decode kind left right ≡ some row → T (admissible below row) → ¬ T (repeated below row)
+    → rowsFrom at below (kind ∷ left ∷ right ∷ bytes) ≡ rowsFrom (at + 3) (below ++ row ∷ []) bytes
+rowsFrom-step at below kind left right bytes row d a n = rowsFrom-then at below kind left right bytes d (row-unrefused below row a n)
+
+-- fewer than three bytes are no row
+pub rowsFrom-short : (at : ℕ) (below : List Row) (bytes : List ℕ) → 0 < length bytes → length bytes < 3 → rowsFrom at below bytes ≡ refuse 4 at
+unfolding rowsFrom
+rowsFrom-short at below [] l h = absurd (omega arith)
+rowsFrom-short at below (kind ∷ []) l h = refl
+rowsFrom-short at below (kind ∷ left ∷ []) l h = refl
+rowsFrom-short at below (kind ∷ left ∷ right ∷ bytes) l h = absurd (omega arith)
 
 -- accepted bytes are read
 pub rowsFrom-reads : (at : ℕ) (below : List Row) (bytes : List ℕ) (rows : List Row) → rowsFrom at below bytes ≡ accepted rows → Reads below bytes rows

@@ -1,29 +1,26 @@
 -- Names of a run before any variable is set, row by row. Assumes nothing.
-use Prim.Native.Nat.{ℕ, zero, suc, _+_, _*_, _<_, _≤_}
-use native.Mathlib.Nat.{zero-add, eq-or-lt-of-le}
+use Prim.Native.Nat.{ℕ, zero, suc, _<_, _≤_}
+use native.Mathlib.Nat.{zero-add}
 use native.Mathlib.Omega.{arith}
 use mathlib.Core.Path.{_≡_, refl, sym, ap, _∙_}
-use mathlib.Core.Logic.{⊎-elim}
-use mathlib.Core.Bool.{Bool, true, false}
-use mathlib.Core.List.{List, [], _∷_, List·Memᴰ}
+use mathlib.Core.List.{List, [], _∷_}
 use mathlib.Core.Option.{Option, none, some, Option·some-injective, Option·none-ne-some}
 use lib.Dec.{T}
-use lib.ListN.{length, getD, getElem?, set}
-use lib.Seq.{getD-set-same, getD-set-other}
+use lib.ListN.{length, getD, getElem?}
 use Rattle.semantics.specs.Basic.{andThen}
-use Rattle.semantics.specs.Term.{VariableType, agentType, freshType, Atom, trusted, untrusted, global, intruder, role, variable, local, Term, atom}
+use Rattle.semantics.specs.Term.{VariableType, agentType, freshType, Atom, trusted, untrusted, global, intruder, role, variable, local, atom}
 use Rattle.semantics.specs.Table.{Row, atomic, pkOf, skOf, sharedOf, pairOf, encryptedOf}
 use Rattle.semantics.specs.Value.{withoutRun}
 use Rattle.semantics.specs.Runs.{atomOf, atomAt, isAgent}
-use Rattle.semantics.specs.State.{Value, inRun, termOf, readingIn, assigned}
+use Rattle.semantics.specs.State.{inRun, termOf, readingIn, assigned}
+use Rattle.semantics.specs.Encoding.{RowBytes, trustedBytes, untrustedBytes, globalBytes, intruderBytes, roleBytes, agentVariableBytes, freshVariableBytes, localBytes, publicBytes, secretBytes, sharedBytes, pairBytes, encryptedBytes}
 use Rattle.semantics.specs.laws.List.{getElem-below, mem-getElem}
 use Rattle.rows.specs.Rows.{rowsOf}
-use Rattle.rows.specs.laws.Decodes.{Decodes, isTrusted, isUntrusted, isGlobal, isIntruder, isRole, isAgentVariable, isFreshVariable, isLocal, isPk, isSk, isShared, isPair, isEncrypted}
-use Rattle.cells.specs.Cells.{cellOf, cellCount, absent, Shape, Within, Canonical}
+use Rattle.cells.specs.Cells.{cellOf, absent, Shape, Within, Canonical}
 use Rattle.cells.specs.laws.Cells.{row-there, row-decodes}
 use Rattle.classes.specs.Classes.{Named, unnamed, named}
 use Rattle.knowledge.specs.Steps.{kindAt, leftAt}
-use Rattle.start.specs.Start.{firstReading, AreAgents, FirstName, Entered}
+use Rattle.start.specs.Start.{firstReading, AreAgents, FirstName}
 
 -- the row of an agent
 pub agent-atom : (o : Option Row) → T (isAgent (atomOf o)) → (b : Atom) × (o ≡ some (atomic b)) × (inRun 0 b ≡ b) × (withoutRun b ≡ some (atom b)) × Canonical b 0
@@ -105,20 +102,20 @@ agent-name rows runs x few t =
     let low = getElem-below rows x (w .1) in
     named x 0 (w .0) (rw zero-add refl) (record { row = low; run = omega arith }) (ap atomOf (w .1)) (w .4) (agent-term rows x (w .0) (w .1) (w .2) ∙ ap (λ (b : Atom). some (atom b)) (sym (w .2)))
 
-atom-is : {k l q : ℕ} {row : Row} (a : Atom) → Decodes k l q row → atomOf (some row) ≡ some a → AtomIs l a k
-atom-is a (isTrusted {n}) e = rw (← Option·some-injective (trusted n) a e) (anAgentOrConstant {k = 1} (omega arith) refl (reads-trusted n))
-atom-is a (isUntrusted {n}) e = rw (← Option·some-injective (untrusted n) a e) (anAgentOrConstant {k = 2} (omega arith) refl (reads-untrusted n))
-atom-is a (isGlobal {n}) e = rw (← Option·some-injective (global n) a e) (anAgentOrConstant {k = 3} (omega arith) refl (reads-global n))
-atom-is a (isIntruder {n}) e = rw (← Option·some-injective (intruder n) a e) (anAgentOrConstant {k = 4} (omega arith) refl (reads-intruder n))
-atom-is a (isRole {i} l) e = aRole (sym (Option·some-injective (role i) a e))
-atom-is a (isAgentVariable {n}) e = rw (← Option·some-injective (variable n agentType) a e) (aVariable (reads-variable n agentType))
-atom-is a (isFreshVariable {n}) e = rw (← Option·some-injective (variable n freshType) a e) (aVariable (reads-variable n freshType))
-atom-is a (isLocal {n}) e = aLocal n (sym (Option·some-injective (local n 0) a e))
-atom-is a isPk e = absurd (Option·none-ne-some a e)
-atom-is a isSk e = absurd (Option·none-ne-some a e)
-atom-is a isShared e = absurd (Option·none-ne-some a e)
-atom-is a isPair e = absurd (Option·none-ne-some a e)
-atom-is a isEncrypted e = absurd (Option·none-ne-some a e)
+atom-is : {k l q : ℕ} {row : Row} (a : Atom) → RowBytes k l q row → atomOf (some row) ≡ some a → AtomIs l a k
+atom-is a (trustedBytes {n}) e = rw (← Option·some-injective (trusted n) a e) (anAgentOrConstant {k = 1} (omega arith) refl (reads-trusted n))
+atom-is a (untrustedBytes {n}) e = rw (← Option·some-injective (untrusted n) a e) (anAgentOrConstant {k = 2} (omega arith) refl (reads-untrusted n))
+atom-is a (globalBytes {n}) e = rw (← Option·some-injective (global n) a e) (anAgentOrConstant {k = 3} (omega arith) refl (reads-global n))
+atom-is a (intruderBytes {n}) e = rw (← Option·some-injective (intruder n) a e) (anAgentOrConstant {k = 4} (omega arith) refl (reads-intruder n))
+atom-is a (roleBytes {i} l) e = aRole (sym (Option·some-injective (role i) a e))
+atom-is a (agentVariableBytes {n}) e = rw (← Option·some-injective (variable n agentType) a e) (aVariable (reads-variable n agentType))
+atom-is a (freshVariableBytes {n}) e = rw (← Option·some-injective (variable n freshType) a e) (aVariable (reads-variable n freshType))
+atom-is a (localBytes {n}) e = aLocal n (sym (Option·some-injective (local n 0) a e))
+atom-is a publicBytes e = absurd (Option·none-ne-some a e)
+atom-is a secretBytes e = absurd (Option·none-ne-some a e)
+atom-is a sharedBytes e = absurd (Option·none-ne-some a e)
+atom-is a pairBytes e = absurd (Option·none-ne-some a e)
+atom-is a encryptedBytes e = absurd (Option·none-ne-some a e)
 
 module _ (bytes : List ℕ) (n : ℕ) (shape : Shape bytes n 0) (r : ℕ) (low : r < n) (u : ℕ) (agents : List ℕ) where
   is : (a : Atom) → atomAt (rowsOf bytes) r ≡ some a → AtomIs (leftAt bytes r) a (kindAt bytes r)

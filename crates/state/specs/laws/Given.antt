@@ -1,15 +1,14 @@
 -- What an accepted file gives: its table, where its runs stand, and what is known at the start. Assumes nothing.
-use Prim.Native.Nat.{ℕ, _*_, _≤_}
+use Prim.Native.Nat.{ℕ, _*_}
 use native.Mathlib.Omega.{arith}
-use mathlib.Core.Path.{_≡_, refl, sym, ap, _∙_}
+use mathlib.Core.Path.{_≡_, sym, ap, _∙_}
 use mathlib.Core.List.{List}
 use lib.ListN.{length}
 use Rattle.semantics.specs.Answer.{accepted}
-use Rattle.semantics.specs.Table.{Row}
 use Rattle.semantics.specs.Scenario.{Scenario, termPart, knowledgePart, scenarioOf, opened}
 use Rattle.semantics.specs.laws.Open.{opened-inverts, opened-guarantee}
 use Rattle.rows.specs.Rows.{rowsOf}
-use Rattle.rows.specs.laws.Decodes.{table-good, table-length}
+use Rattle.rows.specs.laws.Table.{table-good, table-length}
 use Rattle.table.specs.laws.Table.{accepted-table}
 use Rattle.scenario.specs.Opened.{layoutOf}
 use Rattle.scenario.specs.declared.Layout.{Layout}

@@ -1,5 +1,5 @@
 -- The state before any move: names and classes run by run, and what is known at the start. Assumes nothing.
-use Prim.Native.Nat.{ℕ, zero, suc, _+_, _*_, _-_, _<_, _≤_}
+use Prim.Native.Nat.{ℕ, zero, suc, _+_, _-_, _<_, _≤_}
 use native.Mathlib.Nat.{zero-add}
 use native.Mathlib.Decide.{ℕ-discrete, decLt}
 use native.Mathlib.Omega.{arith}
@@ -10,7 +10,7 @@ use mathlib.Core.List.{List, [], _∷_, map, List·Memᴰ, List·Memᴰ·head as
 use mathlib.Core.Option.{Option, none, some, Option·some-injective, Option·none-ne-some}
 use borrow.Author.Tests.{lt-ltb, le-ltb}
 use lib.Dec.{T}
-use lib.ListN.{length, getD, getElem?, set, take, drop, replicate, getD-replicate, length-replicate, length-map, length-drop, List·getD-eq-default}
+use lib.ListN.{length, getD, getElem?, take, drop, replicate, getD-replicate, length-replicate, length-map, length-drop, List·getD-eq-default}
 use lib.Seq.{ext-getD, length-take-le, getD-take, getD-drop}
 use Rattle.semantics.specs.Basic.{presentOnes, keep, numbersFrom}
 use Rattle.semantics.specs.Term.{agentType, freshType, Atom, trusted, untrusted, global, intruder, role, variable, local, Term, atom}
@@ -21,11 +21,11 @@ use Rattle.semantics.specs.Runs.{Run, atomOf, atomAt}
 use Rattle.semantics.specs.Scenario.{Scenario}
 use Rattle.semantics.specs.Guarantee.{Guarantee, GoodTable}
 use Rattle.semantics.specs.State.{Progress, readingIn, intruderAtom, atomsOf, initialKnowledge, initial, assigned}
+use Rattle.semantics.specs.Encoding.{RowBytes, trustedBytes, untrustedBytes, globalBytes, intruderBytes, roleBytes, agentVariableBytes, freshVariableBytes, localBytes, publicBytes, secretBytes, sharedBytes, pairBytes, encryptedBytes}
 use Rattle.semantics.specs.laws.List.{mem-map, mem-present, mem-keep, mem-numbersFrom, mem-getElem, getElem-below, getElem-there, getElem-getD}
 use Rattle.semantics.specs.laws.Reached.{Standing}
 use Rattle.semantics.specs.laws.Value.{value-unfolds, value-within}
 use Rattle.rows.specs.Rows.{rowsOf}
-use Rattle.rows.specs.laws.Decodes.{Decodes, isTrusted, isUntrusted, isGlobal, isIntruder, isRole, isAgentVariable, isFreshVariable, isLocal, isPk, isSk, isShared, isPair, isEncrypted}
 use Rattle.cells.specs.Cells.{cellOf, absent, Shape, Within, Readings, cellValue}
 use Rattle.cells.specs.laws.Cells.{row-there, row-decodes}
 use Rattle.classes.specs.Classes.{Named, NamesRight, unnamed, Classes, Grows, Refilled}
@@ -94,35 +94,35 @@ module _ (rows : List Row) (few : length rows ≤ 96) (runs : ℕ) (readings : R
       go (no d) = rw (entered .elsewhere r w (omega (arith, low)) d, upTo-grows u readings .elsewhere w d a) (right r w a l e)
 
 -- the rows of kind 4 are those of intruder constants
-intruder-row : {k l q : ℕ} {row : Row} → Decodes k l q row → k ≡ 4 → (m : ℕ) × (row ≡ atomic (intruder m))
-intruder-row isTrusted e = absurd (omega arith)
-intruder-row isUntrusted e = absurd (omega arith)
-intruder-row isGlobal e = absurd (omega arith)
-intruder-row (isIntruder {n}) e = (n, refl)
-intruder-row (isRole l) e = absurd (omega arith)
-intruder-row isAgentVariable e = absurd (omega arith)
-intruder-row isFreshVariable e = absurd (omega arith)
-intruder-row isLocal e = absurd (omega arith)
-intruder-row isPk e = absurd (omega arith)
-intruder-row isSk e = absurd (omega arith)
-intruder-row isShared e = absurd (omega arith)
-intruder-row isPair e = absurd (omega arith)
-intruder-row isEncrypted e = absurd (omega arith)
+intruder-row : {k l q : ℕ} {row : Row} → RowBytes k l q row → k ≡ 4 → (m : ℕ) × (row ≡ atomic (intruder m))
+intruder-row trustedBytes e = absurd (omega arith)
+intruder-row untrustedBytes e = absurd (omega arith)
+intruder-row globalBytes e = absurd (omega arith)
+intruder-row (intruderBytes {n}) e = (n, refl)
+intruder-row (roleBytes l) e = absurd (omega arith)
+intruder-row agentVariableBytes e = absurd (omega arith)
+intruder-row freshVariableBytes e = absurd (omega arith)
+intruder-row localBytes e = absurd (omega arith)
+intruder-row publicBytes e = absurd (omega arith)
+intruder-row secretBytes e = absurd (omega arith)
+intruder-row sharedBytes e = absurd (omega arith)
+intruder-row pairBytes e = absurd (omega arith)
+intruder-row encryptedBytes e = absurd (omega arith)
 
-intruder-kind : {k l q : ℕ} {row : Row} → Decodes k l q row → {a : Atom} → atomOf (some row) ≡ some a → T (intruderAtom a) → (k ≡ 4) × (withoutRun a ≡ some (atom a))
-intruder-kind (isTrusted {n}) {a} e h = absurd (rw (← Option·some-injective (trusted n) a e) at h)
-intruder-kind (isUntrusted {n}) {a} e h = absurd (rw (← Option·some-injective (untrusted n) a e) at h)
-intruder-kind (isGlobal {n}) {a} e h = absurd (rw (← Option·some-injective (global n) a e) at h)
-intruder-kind (isIntruder {n}) {a} e h = (refl, rw (← Option·some-injective (intruder n) a e) refl)
-intruder-kind (isRole {i} l) {a} e h = absurd (rw (← Option·some-injective (role i) a e) at h)
-intruder-kind (isAgentVariable {n}) {a} e h = absurd (rw (← Option·some-injective (variable n agentType) a e) at h)
-intruder-kind (isFreshVariable {n}) {a} e h = absurd (rw (← Option·some-injective (variable n freshType) a e) at h)
-intruder-kind (isLocal {n}) {a} e h = absurd (rw (← Option·some-injective (local n 0) a e) at h)
-intruder-kind isPk {a} e h = absurd (Option·none-ne-some a e)
-intruder-kind isSk {a} e h = absurd (Option·none-ne-some a e)
-intruder-kind isShared {a} e h = absurd (Option·none-ne-some a e)
-intruder-kind isPair {a} e h = absurd (Option·none-ne-some a e)
-intruder-kind isEncrypted {a} e h = absurd (Option·none-ne-some a e)
+intruder-kind : {k l q : ℕ} {row : Row} → RowBytes k l q row → {a : Atom} → atomOf (some row) ≡ some a → T (intruderAtom a) → (k ≡ 4) × (withoutRun a ≡ some (atom a))
+intruder-kind (trustedBytes {n}) {a} e h = absurd (rw (← Option·some-injective (trusted n) a e) at h)
+intruder-kind (untrustedBytes {n}) {a} e h = absurd (rw (← Option·some-injective (untrusted n) a e) at h)
+intruder-kind (globalBytes {n}) {a} e h = absurd (rw (← Option·some-injective (global n) a e) at h)
+intruder-kind (intruderBytes {n}) {a} e h = (refl, rw (← Option·some-injective (intruder n) a e) refl)
+intruder-kind (roleBytes {i} l) {a} e h = absurd (rw (← Option·some-injective (role i) a e) at h)
+intruder-kind (agentVariableBytes {n}) {a} e h = absurd (rw (← Option·some-injective (variable n agentType) a e) at h)
+intruder-kind (freshVariableBytes {n}) {a} e h = absurd (rw (← Option·some-injective (variable n freshType) a e) at h)
+intruder-kind (localBytes {n}) {a} e h = absurd (rw (← Option·some-injective (local n 0) a e) at h)
+intruder-kind publicBytes {a} e h = absurd (Option·none-ne-some a e)
+intruder-kind secretBytes {a} e h = absurd (Option·none-ne-some a e)
+intruder-kind sharedBytes {a} e h = absurd (Option·none-ne-some a e)
+intruder-kind pairBytes {a} e h = absurd (Option·none-ne-some a e)
+intruder-kind encryptedBytes {a} e h = absurd (Option·none-ne-some a e)
 
 module _ (sc : Scenario) (good : Guarantee sc) (t : List ℕ) (n runs : ℕ) (shape : Shape t n runs) (rows : sc .rows ≡ rowsOf t) where
   rows-n : length (sc .rows) ≡ n

@@ -5,7 +5,7 @@ use mathlib.Core.Path.{_≡_, sym, ap, _∙_}
 use lib.ListN.{getD, getElem?}
 use borrow.Author.Needs.{needs}
 use Rattle.semantics.specs.Table.{agentLike}
-use Rattle.table.specs.laws.Decode.{agentKind, agent-kinds, other-kinds}
+use Rattle.rows.specs.laws.Decode.{agentKind, agent-kinds, other-kinds}
 use Rattle.table.specs.laws.Below.{rowsBelow, below-none, below-agent}
 use Rattle.table.proofs.agent_like.Statement.{statement}
 use Rattle.table.proofs.agent_like.Tie as tie

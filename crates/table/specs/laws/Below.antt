@@ -12,10 +12,11 @@ use lib.Seq.{length-take-le, getD-take}
 use borrow.Author.Tests.{ltb-true, ltb-false}
 use Rattle.semantics.specs.Basic.{present}
 use Rattle.semantics.specs.Table.{Row, agentLike, noPair}
+use Rattle.semantics.specs.Encoding.{RowBytes}
 use Rattle.semantics.specs.laws.List.{getElem-there}
 use Rattle.rows.specs.Rows.{IsTable, rowsOf}
-use Rattle.rows.specs.laws.Decodes.{Decodes, table-length}
-use Rattle.table.specs.laws.Decode.{agentKind, decodes-agent, decodes-pair}
+use Rattle.rows.specs.laws.Table.{table-length}
+use Rattle.rows.specs.laws.Decode.{agentKind, decodes-agent, decodes-pair}
 use Rattle.table.specs.laws.Table.{row-bytes}
 
 -- the rows below row i
@@ -47,7 +48,7 @@ module _ (t : List ℕ) (i : ℕ) (within : 3 * i ≤ length t) (table : IsTable
     below-none l = getElem-past (rowsBelow t i) a (omega (arith, below-length))
 
     -- a row below row i and its three bytes
-    pub below-row : a < i → (row : Row) × (getElem? (rowsBelow t i) a ≡ some row) × Decodes (getD t (3 * a) 0) (getD t (3 * a + 1) 0) (getD t (3 * a + 2) 0) row
+    pub below-row : a < i → (row : Row) × (getElem? (rowsBelow t i) a ≡ some row) × RowBytes (getD t (3 * a) 0) (getD t (3 * a + 1) 0) (getD t (3 * a + 2) 0) row
     below-row l =
         let w = row-bytes (take (3 * i) t) table a (omega (arith, below-length)) in
         (w .0, w .1, rw (getD-take (3 * i) t (3 * a) 0 (omega arith), getD-take (3 * i) t (3 * a + 1) 0 (omega arith), getD-take (3 * i) t (3 * a + 2) 0 (omega arith)) at (w .2))

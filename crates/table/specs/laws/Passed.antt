@@ -8,16 +8,15 @@ use mathlib.Core.List.{List, [], _∷_, _++_}
 use lib.Dec.{T}
 use lib.ListN.{length, getD, take, drop, take-append-drop, length-drop, drop-of-length-le}
 use lib.Seq.{length-take-le, drop-cons, take-add}
-use Rattle.semantics.specs.Answer.{refuse}
 use Rattle.semantics.specs.Basic.{keep}
 use Rattle.semantics.specs.Guarantee.{GoodTable}
 use Rattle.semantics.specs.Table.{Row, variableRow, admissible, repeated, rowRefusal, rowsFrom}
-use Rattle.semantics.specs.laws.Table.{rowRefusal-none}
+use Rattle.semantics.specs.laws.Table.{rowRefusal-none, rowsFrom-then, rowsFrom-short}
 use Rattle.table.specs.declared.Judged.the-variants.{Refused, Rows}
 use Rattle.rows.specs.Rows.{IsTable, decodedAt}
 use Rattle.table.specs.Check.{numberOr, judgedAs}
-use Rattle.rows.specs.laws.Decodes.{table-good}
-use Rattle.table.specs.laws.Table.{table-append, table-empty, table-more, rowsFrom-refused}
+use Rattle.rows.specs.laws.Table.{table-good}
+use Rattle.table.specs.laws.Table.{table-append, table-empty, table-more}
 use Rattle.table.specs.laws.Below.{rowsBelow, below-length}
 use Rattle.table.specs.laws.Refusal.{number-none, number-some, variables-with}
 
@@ -41,14 +40,6 @@ drop-three t n h =
 -- the bytes up to the end of row i
 take-three : (t : List ℕ) (n : ℕ) → n + 3 ≤ length t → take (n + 3) t ≡ take n t ++ getD t n 0 ∷ getD t (n + 1) 0 ∷ getD t (n + 2) 0 ∷ []
 take-three t n h = take-add n 3 t ∙ ap (λ (x : List ℕ). take n t ++ take 3 x) (drop-three t n h)
-
--- one or two bytes are no row
-rowsFrom-short : (at : ℕ) (below : List Row) (bytes : List ℕ) → 0 < length bytes → length bytes < 3 → rowsFrom at below bytes ≡ refuse 4 at
-unfolding rowsFrom
-rowsFrom-short at below [] lo hi = absurd (omega arith)
-rowsFrom-short at below (k ∷ []) lo hi = refl
-rowsFrom-short at below (k ∷ l ∷ []) lo hi = refl
-rowsFrom-short at below (k ∷ l ∷ r ∷ bytes) lo hi = absurd (omega arith)
 
 -- no row is passed at first
 pub passed-none : (t : List ℕ) → Passed t 0 0
@@ -79,7 +70,7 @@ module _ (t : List ℕ) (i v : ℕ) (p : Passed t i v) where
     passed-refused at n e z =
         let below = rowsBelow t i in
         let o = number-some (rowRefusal below (decodedAt t i)) (λ q. z (e ∙ q)) ∙ ap some (sym e) in
-        rw (passed-rest at, drop-three t (3 * i) whole, rowsFrom-refused (at + 3 * i) below (getD t (3 * i) 0) (getD t (3 * i + 1) 0) (getD t (3 * i + 2) 0) (drop (3 * i + 3) t) n o)
+        rw (passed-rest at, drop-three t (3 * i) whole, rowsFrom-then (at + 3 * i) below (getD t (3 * i) 0) (getD t (3 * i + 1) 0) (getD t (3 * i + 2) 0) (drop (3 * i + 3) t) refl o)
 
     -- a row that is not refused is passed
     pub passed-more : (n : ℕ) → 0 ≡ numberOr (rowRefusal (rowsBelow t i) (decodedAt t i))

@@ -10,14 +10,15 @@ use lib.ListN.{length, getD, take}
 use borrow.Author.Tests.{eqb-true, eqb-false}
 use Rattle.semantics.specs.Basic.{keep}
 use Rattle.semantics.specs.Table.{Row, variableRow, fits, admissible, repeated, rowRefusal}
-use Rattle.semantics.specs.laws.Table.{admissible-holds}
+use Rattle.semantics.specs.Encoding.{RowBytes}
+use Rattle.semantics.specs.laws.Table.{admissible-holds, row-unrefused}
 use Rattle.semantics.specs.laws.Test.{all-three}
 use Rattle.semantics.specs.laws.List.{keep-cons}
+use Rattle.semantics.specs.laws.Encoding.{decode-exactly}
 use Rattle.rows.specs.Rows.{IsTable, decodedAt}
 use Rattle.table.specs.Check.{fitsDecoded, repeatsDecoded, numberOr}
-use Rattle.rows.specs.laws.Decodes.{Decodes, decode-view}
-use Rattle.table.specs.laws.Decode.{decodes-variable}
-use Rattle.table.specs.laws.Table.{passes, fails, not-refused}
+use Rattle.rows.specs.laws.Decode.{decodes-variable}
+use Rattle.table.specs.laws.Table.{passes, fails}
 use Rattle.table.specs.laws.Below.{rowsBelow, below-length}
 
 module _ {A : Type 0} (p : A → Bool) where
@@ -34,7 +35,7 @@ module _ {A : Type 0} (p : A → Bool) where
   keep-no x e = rw (e, keep)
 
 -- how many variables there are with a row, by its kind byte
-pub variables-more : (below : List Row) {k l r : ℕ} {row : Row} → Decodes k l r row → (v n : ℕ) → v ≡ length (keep variableRow below) → ((k ≡ 6 → n ≡ v + 1) × ((k ≡ 6 → ⊥) → n ≡ v))
+pub variables-more : (below : List Row) {k l r : ℕ} {row : Row} → RowBytes k l r row → (v n : ℕ) → v ≡ length (keep variableRow below) → ((k ≡ 6 → n ≡ v + 1) × ((k ≡ 6 → ⊥) → n ≡ v))
     → n ≡ length (keep variableRow (below ++ row ∷ []))
 variables-more below {k} {row = row} d v n e w = go (eqb k 6) refl
   where
@@ -75,7 +76,7 @@ number-none below (some row) e = go (admissible below row) (repeated below row) 
   where
     go : (a r : Bool) → admissible below row ≡ a → repeated below row ≡ r → rowRefusal below (some row) ≡ none
     go true true f g = absurd (omega (arith, number-if below row true true f g))
-    go true false f g = not-refused below row (rw f tt) (λ u. rw g at u)
+    go true false f g = row-unrefused below row (rw f tt) (λ u. rw g at u)
     go false r f g = absurd (omega (arith, number-if below row false r f g))
 
 -- a number that is not 0 is there
@@ -106,7 +107,7 @@ module _ (t : List ℕ) (i : ℕ) (within : 3 * i ≤ length t) (table : IsTable
     -- how many variables there are with row i
     pub variables-with : (row : Row) → decodedAt t i ≡ some row → n ≡ length (keep variableRow (rowsBelow t i ++ row ∷ []))
     unfolding decodedAt
-    variables-with row e = variables-more (rowsBelow t i) (decode-view (getD t (3 * i) 0) (getD t (3 * i + 1) 0) (getD t (3 * i + 2) 0) e) v n counted more
+    variables-with row e = variables-more (rowsBelow t i) (decode-exactly (getD t (3 * i) 0) (getD t (3 * i + 1) 0) (getD t (3 * i + 2) 0) row .0 e) v n counted more
 
     -- a ninth variable is refused with 4
     pub refusal-variables : 8 < n → 4 ≡ numberOr (rowRefusal (rowsBelow t i) (decodedAt t i))

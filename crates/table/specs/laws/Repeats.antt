@@ -1,43 +1,23 @@
 -- Which row repeats an earlier one: the row with the same three bytes. Assumes nothing.
-use Prim.Native.Nat.{ℕ, suc, _+_, _*_, _≤_, _<_}
+use Prim.Native.Nat.{ℕ, _+_, _*_, _≤_, _<_}
 use native.Mathlib.Omega.{arith}
-use mathlib.Core.Path.{_≡_, refl, ap}
+use mathlib.Core.Path.{_≡_, refl}
 use mathlib.Core.Logic.{_↔_}
-use mathlib.Core.Bool.{Bool, true, false, _&&_, not}
+use mathlib.Core.Bool.{true, false, _&&_}
 use mathlib.Core.Option.{Option, none, some}
-use mathlib.Core.List.{List, [], _∷_}
+use mathlib.Core.List.{List, []}
 use lib.Dec.{T, eqb, eqb→eq, eqb-refl}
-use lib.ListN.{length, getD, getElem?, take}
-use Rattle.semantics.specs.Basic.{decided, every}
-use Rattle.semantics.specs.Table.{Row, row?, repeated}
-use Rattle.semantics.specs.laws.Table.{repeated-no}
-use Rattle.semantics.specs.laws.Test.{all-three}
+use lib.ListN.{length, getD, take}
+use Rattle.semantics.specs.Table.{Row, repeated}
+use Rattle.semantics.specs.laws.Table.{repeated-at}
+use Rattle.semantics.specs.laws.Test.{all-three, same-test}
 use Rattle.semantics.specs.laws.List.{getElem-below}
+use Rattle.semantics.specs.laws.Encoding.{decode-exactly}
 use Rattle.rows.specs.Rows.{IsTable, decodedAt}
 use Rattle.table.specs.Check.{repeatsDecoded, sameBytes}
-use Rattle.rows.specs.laws.Decodes.{decode-view}
-use Rattle.table.specs.laws.Decode.{decodes-decode, decodes-same}
+use Rattle.rows.specs.laws.Decode.{decodes-same}
 use Rattle.table.specs.laws.Table.{fails}
 use Rattle.table.specs.laws.Below.{rowsBelow, below-length, below-row}
-
--- a repeated row is at some place below
-repeated-place : (below : List Row) (row : Row) → T (repeated below row) → (j : ℕ) × (getElem? below j ≡ some row)
-unfolding repeated
-repeated-place [] row t = absurd t
-repeated-place (x ∷ below) row t = go (row? x row) t (repeated-place below row)
-  where
-    go : (d : Dec (x ≡ row)) → T (not (not (decided d) && every (λ earlier. not (decided (row? earlier row))) below))
-        → (T (repeated below row) → (j : ℕ) × (getElem? below j ≡ some row)) → (j : ℕ) × (getElem? (x ∷ below) j ≡ some row)
-    go (yes q) u rest = (0, ap some q)
-    go (no n) u rest = let w = rest u in (suc (w .0), w .1)
-
--- a row at some place below is repeated
-repeated-yes : (below : List Row) (row : Row) (j : ℕ) → getElem? below j ≡ some row → repeated below row ≡ true
-repeated-yes below row j e = go (repeated below row) refl
-  where
-    go : (b : Bool) → repeated below row ≡ b → b ≡ true
-    go true f = refl
-    go false f = absurd (repeated-no below row (λ u. rw f at u) j e)
 
 -- three bytes are the same as three others exactly if each is
 same-three : (a b c a′ b′ c′ : ℕ) → T (eqb a a′ && eqb b b′ && eqb c c′) ↔ ((a ≡ a′) × (b ≡ b′) × (c ≡ c′))
@@ -58,7 +38,7 @@ module _ (t : List ℕ) (i : ℕ) (within : 3 * i ≤ length t) (table : IsTable
   repeats-yes j l e =
       let w = below-row t i within table j l in
       let s = same-bytes-iff t i j .0 (rw e tt) in
-      rw (s .0, s .1, s .2, decodes-decode (w .2)) (repeated-yes (rowsBelow t i) (w .0) j (w .1))
+      rw (s .0, s .1, s .2, decode-exactly (getD t (3 * j) 0) (getD t (3 * j + 1) 0) (getD t (3 * j + 2) 0) (w .0) .1 (w .2)) (same-test (repeated (rowsBelow t i) (w .0)) true (λ u. tt, λ u. repeated-at (rowsBelow t i) (w .0) .1 (j, w .1)))
 
   -- a row with the bytes of no earlier row repeats none
   pub repeats-no : ((j : ℕ) → j < i → sameBytes t i j ≡ false) → repeatsDecoded (rowsBelow t i) (decodedAt t i) ≡ false
@@ -68,9 +48,9 @@ module _ (t : List ℕ) (i : ℕ) (within : 3 * i ≤ length t) (table : IsTable
       go : (o : Option Row) → decodedAt t i ≡ o → repeatsDecoded (rowsBelow t i) o ≡ false
       go none e = refl
       go (some row) e = fails (repeated (rowsBelow t i) row) (λ u.
-          let p = repeated-place (rowsBelow t i) row u in
+          let p = repeated-at (rowsBelow t i) row .0 u in
           let l : p .0 < i = omega (arith, getElem-below (rowsBelow t i) (p .0) (p .1), below-length t i within table) in
           let w = below-row t i within table (p .0) l in
           let q : w .0 ≡ row = cc in
-          let same = decodes-same (decode-view (getD t (3 * i) 0) (getD t (3 * i + 1) 0) (getD t (3 * i + 2) 0) e) (rw q at (w .2)) in
+          let same = decodes-same (decode-exactly (getD t (3 * i) 0) (getD t (3 * i + 1) 0) (getD t (3 * i + 2) 0) row .0 e) (rw q at (w .2)) in
           rw (h (p .0) l) at (same-bytes-iff t i (p .0) .1 same))

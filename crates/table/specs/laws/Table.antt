@@ -4,19 +4,20 @@ use native.Mathlib.Omega.{arith}
 use mathlib.Core.Path.{_≡_, refl, sym, ap, _∙_}
 use mathlib.Core.Logic.{_↔_}
 use mathlib.Core.Bool.{Bool, true, false}
-use mathlib.Core.Option.{Option, none, some}
+use mathlib.Core.Option.{some}
 use mathlib.Core.List.{List, [], _∷_, _++_}
 use lib.Dec.{T}
 use lib.ListN.{length, getD, getElem?}
 use Rattle.semantics.specs.Answer.{Answer, refused, accepted, refuse}
-use Rattle.semantics.specs.Guarantee.{GoodTable}
-use Rattle.semantics.specs.Table.{Row, decode, admissible, repeated, rowRefusal, extended, rowsFrom}
-use Rattle.semantics.specs.laws.Table.{Reads, ends, reads, rowsFrom-reads, rows-good, rows-decoded}
+use Rattle.semantics.specs.Table.{Row, decode, admissible, repeated, rowsFrom}
+use Rattle.semantics.specs.Encoding.{RowBytes}
+use Rattle.semantics.specs.laws.Table.{rowsFrom-step, Reads, ends, reads, rowsFrom-reads}
+use Rattle.semantics.specs.laws.Encoding.{table-exactly}
 use Rattle.semantics.specs.laws.List.{getElem-there}
-use Rattle.rows.specs.Rows.{IsTable, Sized, rowsOf, rowsOr, decodedAt}
+use Rattle.rows.specs.Rows.{IsTable, Sized, rowsOf, rowsOr}
 use Rattle.table.specs.Check.{judgedAs}
 use Rattle.table.specs.declared.Judged.the-variants.{Refused, Rows}
-use Rattle.rows.specs.laws.Decodes.{Decodes, table-row, table-good, table-length}
+use Rattle.rows.specs.laws.Table.{table-row, table-good, table-length}
 
 -- a test that passes, and one that does not
 pub passes : (b : Bool) → T b → b ≡ true
@@ -27,44 +28,17 @@ pub fails : (b : Bool) → ¬ T b → b ≡ false
 fails true n = absurd (n tt)
 fails false n = refl
 
--- a row that is admissible and not repeated is not refused
-pub not-refused : (below : List Row) (row : Row) → T (admissible below row) → ¬ T (repeated below row) → rowRefusal below (some row) ≡ none
-unfolding rowRefusal
-not-refused below row a n = rw (passes (admissible below row) a, rowRefusal, fails (repeated below row) n)
-
--- how the reading goes on after a row, by the number of its refusal
-abbrev rowsNext : ℕ → List Row → Option Row → List ℕ → Option ℕ → Answer (List Row)
-rowsNext at below row bytes o = elim o [ some number ↦ refuse number at | none ↦ rowsFrom (at + 3) (extended below row) bytes ]
-
--- a row that is read is added to those below it
-pub rowsFrom-step : (at : ℕ) (below : List Row) (k l r : ℕ) (bytes : List ℕ) (row : Row) → decode k l r ≡ some row → rowRefusal below (decode k l r) ≡ none
-    → rowsFrom at below (k ∷ l ∷ r ∷ bytes) ≡ rowsFrom (at + 3) (below ++ row ∷ []) bytes
-unfolding rowsFrom
-rowsFrom-step at below k l r bytes row d e = ap (rowsNext at below (decode k l r) bytes) e ∙ ap (λ (o : Option Row). rowsFrom (at + 3) (extended below o) bytes) d
-
--- a row that is refused
-pub rowsFrom-refused : (at : ℕ) (below : List Row) (k l r : ℕ) (bytes : List ℕ) (n : ℕ) → rowRefusal below (decode k l r) ≡ some n → rowsFrom at below (k ∷ l ∷ r ∷ bytes) ≡ refuse n at
-unfolding rowsFrom
-rowsFrom-refused at below k l r bytes n e = ap (rowsNext at below (decode k l r) bytes) e
-
--- rows that are read are accepted, at whatever place
-reads-accepted : {below rows : List Row} {bytes : List ℕ} → Reads below bytes rows → (at : ℕ) → rowsFrom at below bytes ≡ accepted rows
-unfolding rowsFrom
-reads-accepted ends at = refl
-reads-accepted (reads {below = below} {kind = k} {left = l} {right = r} {bytes = bytes} {row = row} d a n more) at =
-    rowsFrom-step at below k l r bytes row d (ap (rowRefusal below) d ∙ not-refused below row a n) ∙ reads-accepted more (at + 3)
-
 -- after bytes that are read, the rest is read on from where they end
 reads-append : {below rows : List Row} {bytes : List ℕ} → Reads below bytes rows → (at : ℕ) (rest : List ℕ) → rowsFrom at below (bytes ++ rest) ≡ rowsFrom (at + length bytes) rows rest
 reads-append (ends {below}) at rest = let z : at ≡ at + 0 = omega arith in ap (λ (n : ℕ). rowsFrom n below rest) z
 reads-append {rows = rows} (reads {below = below} {kind = k} {left = l} {right = r} {bytes = bytes} {row = row} d a n more) at rest =
     let z : at + 3 + length bytes ≡ at + suc (suc (suc (length bytes))) = omega arith in
-    rowsFrom-step at below k l r (bytes ++ rest) row d (ap (rowRefusal below) d ∙ not-refused below row a n)
+    rowsFrom-step at below k l r (bytes ++ rest) row d a n
     ∙ reads-append more (at + 3) rest ∙ ap (λ (m : ℕ). rowsFrom m rows rest) z
 
 -- acceptance and rows do not depend on the place
 pub rowsFrom-place : (at at′ : ℕ) (bytes : List ℕ) (rows : List Row) → (rowsFrom at [] bytes ≡ accepted rows) ↔ (rowsFrom at′ [] bytes ≡ accepted rows)
-rowsFrom-place at at′ bytes rows = (λ e. reads-accepted (rowsFrom-reads at [] bytes rows e) at′, λ e. reads-accepted (rowsFrom-reads at′ [] bytes rows e) at)
+rowsFrom-place at at′ bytes rows = (λ e. table-exactly at′ bytes rows .1 (table-exactly at bytes rows .0 e), λ e. table-exactly at bytes rows .1 (table-exactly at′ bytes rows .0 e))
 
 -- accepted bytes are a table of the accepted rows
 pub accepted-table : (at : ℕ) (bytes : List ℕ) (rows : List Row) → rowsFrom at [] bytes ≡ accepted rows → IsTable bytes × (rowsOf bytes ≡ rows)
@@ -108,7 +82,7 @@ table-accepted bytes t at = rowsFrom-place 0 at bytes (rowsOf bytes) .0 t
 
 -- a row of a table and its three bytes
 pub row-bytes : (bytes : List ℕ) → IsTable bytes → (i : ℕ) → i < length (rowsOf bytes)
-    → (row : Row) × (getElem? (rowsOf bytes) i ≡ some row) × Decodes (getD bytes (3 * i) 0) (getD bytes (3 * i + 1) 0) (getD bytes (3 * i + 2) 0) row
+    → (row : Row) × (getElem? (rowsOf bytes) i ≡ some row) × RowBytes (getD bytes (3 * i) 0) (getD bytes (3 * i + 1) 0) (getD bytes (3 * i + 2) 0) row
 row-bytes bytes t i l = let w = getElem-there (rowsOf bytes) i l in (w .0, w .1, table-row bytes t i (w .0) (w .1) l)
 
 -- bytes after a table are read on from where it ends
@@ -123,5 +97,6 @@ table-empty = accepted-table 0 [] [] refl
 -- a table with one row more that is not refused
 pub table-more : (bytes : List ℕ) → IsTable bytes → (k l r : ℕ) (row : Row) → decode k l r ≡ some row → T (admissible (rowsOf bytes) row) → ¬ T (repeated (rowsOf bytes) row)
     → IsTable (bytes ++ k ∷ l ∷ r ∷ []) × (rowsOf (bytes ++ k ∷ l ∷ r ∷ []) ≡ rowsOf bytes ++ row ∷ [])
+unfolding rowsFrom
 table-more bytes t k l r row d a n =
-    accepted-table 0 (bytes ++ k ∷ l ∷ r ∷ []) (rowsOf bytes ++ row ∷ []) (table-append bytes t 0 (k ∷ l ∷ r ∷ []) ∙ reads-accepted (reads d a n ends) (0 + length bytes))
+    accepted-table 0 (bytes ++ k ∷ l ∷ r ∷ []) (rowsOf bytes ++ row ∷ []) (table-append bytes t 0 (k ∷ l ∷ r ∷ []) ∙ rowsFrom-step (0 + length bytes) (rowsOf bytes) k l r [] row d a n)

@@ -5,10 +5,10 @@ use native.Mathlib.Omega.{arith}
 use mathlib.Core.Path.{_≡_, refl, sym, ap, _∙_, subst}
 use mathlib.Core.Bool.{Bool, true, false, true≢false}
 use mathlib.Core.List.{List, [], _∷_}
-use mathlib.Core.Option.{Option, some, Option·some-injective, Option·none-ne-some}
+use mathlib.Core.Option.{some, Option·some-injective, Option·none-ne-some}
 use lib.Dec.{T}
 use lib.ListN.{length, getD, getElem?}
-use Rattle.semantics.specs.Term.{Atom, trusted, untrusted, global, intruder, role, local}
+use Rattle.semantics.specs.Term.{Atom}
 use Rattle.semantics.specs.Table.{Row, variableAtom}
 use Rattle.semantics.specs.Roles.{EventKind, send, read, claim, eventKinds}
 use Rattle.semantics.specs.Runs.{atomOf, atomAt}
@@ -16,7 +16,7 @@ use Rattle.semantics.specs.Scenario.{Scenario}
 use Rattle.semantics.specs.State.{State, Active, newVariables}
 use Rattle.semantics.specs.Moves.{toSet}
 use Rattle.rows.specs.Rows.{rowsOf}
-use Rattle.rows.specs.laws.Decodes.{Decodes, isTrusted, isUntrusted, isGlobal, isIntruder, isRole, isAgentVariable, isFreshVariable, isLocal, isPk, isSk, isShared, isPair, isEncrypted}
+use Rattle.rows.specs.laws.Decode.{variable-six}
 use Rattle.cells.specs.Cells.{cellOf, absent, Shape}
 use Rattle.cells.specs.laws.Cells.{row-there, row-decodes}
 use Rattle.runs.specs.declared.RunEvent.{RunEvent}
@@ -86,25 +86,9 @@ module _ {t : List ℕ} {runs k : ℕ} {e : RunEvent} {sc : Scenario} {d : State
       go read (suc (suc (suc b))) h n = absurd (Option·none-ne-some read h)
       go claim b h n = refl
 
--- the row of a variable has kind 6
-pub variable-six : {k l q : ℕ} {row : Row} (a : Atom) → Decodes k l q row → atomOf (some row) ≡ some a → T (variableAtom a) → k ≡ 6
-variable-six a (isTrusted {n}) e h = absurd (rw (← Option·some-injective (trusted n) a e) at h)
-variable-six a (isUntrusted {n}) e h = absurd (rw (← Option·some-injective (untrusted n) a e) at h)
-variable-six a (isGlobal {n}) e h = absurd (rw (← Option·some-injective (global n) a e) at h)
-variable-six a (isIntruder {n}) e h = absurd (rw (← Option·some-injective (intruder n) a e) at h)
-variable-six a (isRole {i} l) e h = absurd (rw (← Option·some-injective (role i) a e) at h)
-variable-six a isAgentVariable e h = refl
-variable-six a isFreshVariable e h = refl
-variable-six a (isLocal {n}) e h = absurd (rw (← Option·some-injective (local n 0) a e) at h)
-variable-six a isPk e h = absurd (Option·none-ne-some a e)
-variable-six a isSk e h = absurd (Option·none-ne-some a e)
-variable-six a isShared e h = absurd (Option·none-ne-some a e)
-variable-six a isPair e h = absurd (Option·none-ne-some a e)
-variable-six a isEncrypted e h = absurd (Option·none-ne-some a e)
-
 -- a row that is found is a variable's
 pub variable-found : (t : List ℕ) (n runs : ℕ) → Shape t n runs → (names : List ℕ) (u p from x : ℕ) → NextUnset (rowsOf t) names u p from x → (x ≡ n → ⊥) → (x < n) × (from ≤ x) × (getD t (3 * x) 0 ≡ 6) × ((y : Atom) × (atomAt (rowsOf t) x ≡ some y))
 variable-found t n runs shape names u p from x (isNext y l h i v w q) more =
     let low : x < n = omega (arith, shape .count) in
-    (low, h, variable-six y (row-decodes t n runs shape x low) (sym (ap atomOf (row-there t n runs shape x low .1)) ∙ i) v, (y, i))
+    (low, h, variable-six (row-decodes t n runs shape x low) y (sym (ap atomOf (row-there t n runs shape x low .1)) ∙ i) v, (y, i))
 variable-found t n runs shape names u p from x (noNext z q) more = absurd (more (z ∙ sym (shape .count)))

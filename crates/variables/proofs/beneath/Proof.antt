@@ -3,7 +3,7 @@
 use Prim.Native.Nat.{_+_, _-_, _≤_}
 use mathlib.Core.Path.{_≡_}
 use Rattle.rows.specs.Rows.{rowsOf}
-use Rattle.rows.specs.laws.Decodes.{table-good}
+use Rattle.rows.specs.laws.Table.{table-good}
 use Rattle.variables.specs.Variables.{Settled}
 use Rattle.variables.specs.laws.Beneath.{settled-start, settled-all}
 use native.Mathlib.Omega.{arith}

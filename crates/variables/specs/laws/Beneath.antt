@@ -14,11 +14,12 @@ use lib.Seq.{getD-set-same, getD-set-other}
 use Rattle.semantics.specs.Table.{Row}
 use Rattle.semantics.specs.Value.{beneath}
 use Rattle.semantics.specs.Guarantee.{GoodTable, refersTo}
+use Rattle.semantics.specs.Encoding.{RowBytes, trustedBytes, untrustedBytes, globalBytes, intruderBytes, roleBytes, agentVariableBytes, freshVariableBytes, localBytes, publicBytes, secretBytes, sharedBytes, pairBytes, encryptedBytes}
 use Rattle.semantics.specs.laws.Test.{same-test}
 use Rattle.semantics.specs.laws.List.{mem-cases, getElem-there, getElem-below}
 use Rattle.semantics.specs.laws.Value.{row-induction, beneath-iff}
 use Rattle.rows.specs.Rows.{rowsOf, Sized}
-use Rattle.rows.specs.laws.Decodes.{Decodes, isTrusted, isUntrusted, isGlobal, isIntruder, isRole, isAgentVariable, isFreshVariable, isLocal, isPk, isSk, isShared, isPair, isEncrypted, table-good}
+use Rattle.rows.specs.laws.Table.{table-good}
 use Rattle.cells.specs.Cells.{secondOf}
 use Rattle.cells.specs.laws.Cells.{parts-referred, row-there, row-decodes, left-lower, second-lower}
 use Rattle.cells.specs.laws.Shape.{sized-shape}
@@ -33,36 +34,36 @@ passes-true true t = refl
 passes-true false t = absurd t
 
 -- an atom refers to no row
-no-parts : {k l r : ℕ} {row : Row} → Decodes k l r row → k < 8 → (q : ℕ) → List·Memᴰ q (refersTo row) → ⊥
-no-parts isTrusted h q m = List·Memᴰ·not-nil m
-no-parts isUntrusted h q m = List·Memᴰ·not-nil m
-no-parts isGlobal h q m = List·Memᴰ·not-nil m
-no-parts isIntruder h q m = List·Memᴰ·not-nil m
-no-parts (isRole i) h q m = List·Memᴰ·not-nil m
-no-parts isAgentVariable h q m = List·Memᴰ·not-nil m
-no-parts isFreshVariable h q m = List·Memᴰ·not-nil m
-no-parts isLocal h q m = List·Memᴰ·not-nil m
-no-parts isPk h q m = omega arith
-no-parts isSk h q m = omega arith
-no-parts isShared h q m = omega arith
-no-parts isPair h q m = omega arith
-no-parts isEncrypted h q m = omega arith
+no-parts : {k l r : ℕ} {row : Row} → RowBytes k l r row → k < 8 → (q : ℕ) → List·Memᴰ q (refersTo row) → ⊥
+no-parts trustedBytes h q m = List·Memᴰ·not-nil m
+no-parts untrustedBytes h q m = List·Memᴰ·not-nil m
+no-parts globalBytes h q m = List·Memᴰ·not-nil m
+no-parts intruderBytes h q m = List·Memᴰ·not-nil m
+no-parts (roleBytes i) h q m = List·Memᴰ·not-nil m
+no-parts agentVariableBytes h q m = List·Memᴰ·not-nil m
+no-parts freshVariableBytes h q m = List·Memᴰ·not-nil m
+no-parts localBytes h q m = List·Memᴰ·not-nil m
+no-parts publicBytes h q m = omega arith
+no-parts secretBytes h q m = omega arith
+no-parts sharedBytes h q m = omega arith
+no-parts pairBytes h q m = omega arith
+no-parts encryptedBytes h q m = omega arith
 
 -- any other row refers to its left and its second part, and to no other row
-two-parts : {k l r : ℕ} {row : Row} → Decodes k l r row → 8 ≤ k → (q : ℕ) → List·Memᴰ q (refersTo row) → (q ≡ l) ⊎ (q ≡ cond (ltb k 10) l r)
-two-parts isTrusted h q m = absurd (omega arith)
-two-parts isUntrusted h q m = absurd (omega arith)
-two-parts isGlobal h q m = absurd (omega arith)
-two-parts isIntruder h q m = absurd (omega arith)
-two-parts (isRole i) h q m = absurd (omega arith)
-two-parts isAgentVariable h q m = absurd (omega arith)
-two-parts isFreshVariable h q m = absurd (omega arith)
-two-parts isLocal h q m = absurd (omega arith)
-two-parts isPk h q m = inl (List·Memᴰ·eq-of-singleton m)
-two-parts isSk h q m = inl (List·Memᴰ·eq-of-singleton m)
-two-parts isShared h q m = mem-cases m inl (λ n. inr (List·Memᴰ·eq-of-singleton n))
-two-parts isPair h q m = mem-cases m inl (λ n. inr (List·Memᴰ·eq-of-singleton n))
-two-parts isEncrypted h q m = mem-cases m inl (λ n. inr (List·Memᴰ·eq-of-singleton n))
+two-parts : {k l r : ℕ} {row : Row} → RowBytes k l r row → 8 ≤ k → (q : ℕ) → List·Memᴰ q (refersTo row) → (q ≡ l) ⊎ (q ≡ cond (ltb k 10) l r)
+two-parts trustedBytes h q m = absurd (omega arith)
+two-parts untrustedBytes h q m = absurd (omega arith)
+two-parts globalBytes h q m = absurd (omega arith)
+two-parts intruderBytes h q m = absurd (omega arith)
+two-parts (roleBytes i) h q m = absurd (omega arith)
+two-parts agentVariableBytes h q m = absurd (omega arith)
+two-parts freshVariableBytes h q m = absurd (omega arith)
+two-parts localBytes h q m = absurd (omega arith)
+two-parts publicBytes h q m = inl (List·Memᴰ·eq-of-singleton m)
+two-parts secretBytes h q m = inl (List·Memᴰ·eq-of-singleton m)
+two-parts sharedBytes h q m = mem-cases m inl (λ n. inr (List·Memᴰ·eq-of-singleton n))
+two-parts pairBytes h q m = mem-cases m inl (λ n. inr (List·Memᴰ·eq-of-singleton n))
+two-parts encryptedBytes h q m = mem-cases m inl (λ n. inr (List·Memᴰ·eq-of-singleton n))
 
 module _ {rows : List Row} (good : GoodTable rows) where
   -- a row lies beneath itself
@@ -158,7 +159,7 @@ module _ (bytes : List ℕ) (n : ℕ) (sized : Sized bytes n) (r : ℕ) (low : r
       at-r : getElem? (rowsOf bytes) r ≡ some own
       at-r = row-there bytes n 0 (sized-shape sized) r low .1
 
-      decodes : Decodes (getD bytes (3 * r) 0) (getD bytes (3 * r + 1) 0) (getD bytes (3 * r + 2) 0) own
+      decodes : RowBytes (getD bytes (3 * r) 0) (getD bytes (3 * r + 1) 0) (getD bytes (3 * r + 2) 0) own
       decodes = row-decodes bytes n 0 (sized-shape sized) r low
 
       refers : List·Memᴰ (getD bytes (3 * r + 1) 0) (refersTo own) × List·Memᴰ (secondOf bytes r) (refersTo own)

@@ -19,64 +19,64 @@ use Rattle.semantics.specs.Moves.{valuesAt, valuesOfType, candidates}
 use Rattle.semantics.specs.Replay.{isValueOf, suits}
 use Rattle.semantics.specs.Allowed.{Takes, takesNone, takesMore}
 use Rattle.semantics.specs.Allowed as allowed
+use Rattle.semantics.specs.Encoding.{RowBytes, trustedBytes, untrustedBytes, globalBytes, intruderBytes, roleBytes, agentVariableBytes, freshVariableBytes, localBytes, publicBytes, secretBytes, sharedBytes, pairBytes, encryptedBytes}
 use Rattle.semantics.specs.laws.Test.{both, both-left}
 use Rattle.semantics.specs.laws.List.{mem-joined, mem-map, mem-numbersFrom}
 use Rattle.semantics.specs.laws.Moves.{suits-exact, mem-candidates}
 use Rattle.rows.specs.Rows.{rowsOf}
-use Rattle.rows.specs.laws.Decodes.{Decodes, isTrusted, isUntrusted, isGlobal, isIntruder, isRole, isAgentVariable, isFreshVariable, isLocal, isPk, isSk, isShared, isPair, isEncrypted}
+use Rattle.rows.specs.laws.Decode.{six-atom}
 use Rattle.cells.specs.Cells.{Shape, Canonical}
 use Rattle.cells.specs.laws.Cells.{row-there, row-decodes}
 use Rattle.variables.specs.Variables.{isFresh, firstRun, runCount, Higher, valuesFrom, Names, NotBefore, NextOf, hasNext, hasNone, MayTake, takes, takesNot}
 use Rattle.variables.specs.declared.NextValue.the-variants.{Value as isValue, Nothing}
 use Rattle.variables.specs.laws.Beneath.{passes-true}
-use Rattle.variables.specs.laws.Unset.{variable-kind}
 use Rattle.variables.specs.laws.Values.{valueAt, spanned, from-none, from-next, values-end, values-skip, values-next}
 
 -- the type of a variable by its right byte
-decodes-type : {k l r num : ℕ} {type : VariableType} {row : Row} → Decodes k l r row → atomOf (some row) ≡ some (variable num type) → eqb r 1 ≡ isFresh type
-decodes-type isTrusted e = let z : _≡_ {A = ℕ} 0 1 = cc in absurd (omega arith)
-decodes-type isUntrusted e = let z : _≡_ {A = ℕ} 0 1 = cc in absurd (omega arith)
-decodes-type isGlobal e = let z : _≡_ {A = ℕ} 0 1 = cc in absurd (omega arith)
-decodes-type isIntruder e = let z : _≡_ {A = ℕ} 0 1 = cc in absurd (omega arith)
-decodes-type (isRole i) e = let z : _≡_ {A = ℕ} 0 1 = cc in absurd (omega arith)
-decodes-type {type = type} isAgentVariable e = let q : agentType ≡ type = cc in rw (← q)
-decodes-type {type = type} isFreshVariable e = let q : freshType ≡ type = cc in rw (← q)
-decodes-type isLocal e = let z : _≡_ {A = ℕ} 0 1 = cc in absurd (omega arith)
-decodes-type isPk e = absurd (Option·none-ne-some _ e)
-decodes-type isSk e = absurd (Option·none-ne-some _ e)
-decodes-type isShared e = absurd (Option·none-ne-some _ e)
-decodes-type isPair e = absurd (Option·none-ne-some _ e)
-decodes-type isEncrypted e = absurd (Option·none-ne-some _ e)
+decodes-type : {k l r num : ℕ} {type : VariableType} {row : Row} → RowBytes k l r row → atomOf (some row) ≡ some (variable num type) → eqb r 1 ≡ isFresh type
+decodes-type trustedBytes e = let z : _≡_ {A = ℕ} 0 1 = cc in absurd (omega arith)
+decodes-type untrustedBytes e = let z : _≡_ {A = ℕ} 0 1 = cc in absurd (omega arith)
+decodes-type globalBytes e = let z : _≡_ {A = ℕ} 0 1 = cc in absurd (omega arith)
+decodes-type intruderBytes e = let z : _≡_ {A = ℕ} 0 1 = cc in absurd (omega arith)
+decodes-type (roleBytes i) e = let z : _≡_ {A = ℕ} 0 1 = cc in absurd (omega arith)
+decodes-type {type = type} agentVariableBytes e = let q : agentType ≡ type = cc in rw (← q)
+decodes-type {type = type} freshVariableBytes e = let q : freshType ≡ type = cc in rw (← q)
+decodes-type localBytes e = let z : _≡_ {A = ℕ} 0 1 = cc in absurd (omega arith)
+decodes-type publicBytes e = absurd (Option·none-ne-some _ e)
+decodes-type secretBytes e = absurd (Option·none-ne-some _ e)
+decodes-type sharedBytes e = absurd (Option·none-ne-some _ e)
+decodes-type pairBytes e = absurd (Option·none-ne-some _ e)
+decodes-type encryptedBytes e = absurd (Option·none-ne-some _ e)
 
 -- the values at a row are its runs one after the other
-decodes-values : (runs : ℕ) (type : VariableType) (y : ℕ) {k l r : ℕ} {row : Row} → Decodes k l r row → valuesAt runs type y (atomOf (some row)) ≡ spanned y (firstRun k) (runCount runs (isFresh type) k)
+decodes-values : (runs : ℕ) (type : VariableType) (y : ℕ) {k l r : ℕ} {row : Row} → RowBytes k l r row → valuesAt runs type y (atomOf (some row)) ≡ spanned y (firstRun k) (runCount runs (isFresh type) k)
 unfolding runCount
-decodes-values runs agentType y isTrusted = refl
-decodes-values runs agentType y isUntrusted = refl
-decodes-values runs agentType y isGlobal = refl
-decodes-values runs agentType y isIntruder = refl
-decodes-values runs agentType y (isRole i) = refl
-decodes-values runs agentType y isAgentVariable = refl
-decodes-values runs agentType y isFreshVariable = refl
-decodes-values runs agentType y isLocal = refl
-decodes-values runs agentType y isPk = refl
-decodes-values runs agentType y isSk = refl
-decodes-values runs agentType y isShared = refl
-decodes-values runs agentType y isPair = refl
-decodes-values runs agentType y isEncrypted = refl
-decodes-values runs freshType y isTrusted = refl
-decodes-values runs freshType y isUntrusted = refl
-decodes-values runs freshType y isGlobal = refl
-decodes-values runs freshType y isIntruder = refl
-decodes-values runs freshType y (isRole i) = refl
-decodes-values runs freshType y isAgentVariable = refl
-decodes-values runs freshType y isFreshVariable = refl
-decodes-values runs freshType y isLocal = refl
-decodes-values runs freshType y isPk = refl
-decodes-values runs freshType y isSk = refl
-decodes-values runs freshType y isShared = refl
-decodes-values runs freshType y isPair = refl
-decodes-values runs freshType y isEncrypted = refl
+decodes-values runs agentType y trustedBytes = refl
+decodes-values runs agentType y untrustedBytes = refl
+decodes-values runs agentType y globalBytes = refl
+decodes-values runs agentType y intruderBytes = refl
+decodes-values runs agentType y (roleBytes i) = refl
+decodes-values runs agentType y agentVariableBytes = refl
+decodes-values runs agentType y freshVariableBytes = refl
+decodes-values runs agentType y localBytes = refl
+decodes-values runs agentType y publicBytes = refl
+decodes-values runs agentType y secretBytes = refl
+decodes-values runs agentType y sharedBytes = refl
+decodes-values runs agentType y pairBytes = refl
+decodes-values runs agentType y encryptedBytes = refl
+decodes-values runs freshType y trustedBytes = refl
+decodes-values runs freshType y untrustedBytes = refl
+decodes-values runs freshType y globalBytes = refl
+decodes-values runs freshType y intruderBytes = refl
+decodes-values runs freshType y (roleBytes i) = refl
+decodes-values runs freshType y agentVariableBytes = refl
+decodes-values runs freshType y freshVariableBytes = refl
+decodes-values runs freshType y localBytes = refl
+decodes-values runs freshType y publicBytes = refl
+decodes-values runs freshType y secretBytes = refl
+decodes-values runs freshType y sharedBytes = refl
+decodes-values runs freshType y pairBytes = refl
+decodes-values runs freshType y encryptedBytes = refl
 
 -- one or none
 one-or-none : (b : Bool) → cond b 1 0 ≤ 1
@@ -105,20 +105,20 @@ module _ (runs : ℕ) where
   abbrev Named : Row → ℕ → Type 0
   Named row w = (b : Atom) × (atomOf (some row) ≡ some b) × (w ≤ runs) × Canonical b w
 
-  decodes-named : (fresh : Bool) {k l r : ℕ} {row : Row} → Decodes k l r row → (w : ℕ) → firstRun k ≤ w → w < firstRun k + runCount runs fresh k → Named row w
-  decodes-named fresh (isTrusted {n}) w a b = let s = count-small fresh 1 (λ e. omega arith) in (trusted n, refl, omega arith, omega arith)
-  decodes-named fresh (isUntrusted {n}) w a b = let s = count-small fresh 2 (λ e. omega arith) in (untrusted n, refl, omega arith, omega arith)
-  decodes-named fresh (isGlobal {n}) w a b = let s = count-small fresh 3 (λ e. omega arith) in (global n, refl, omega arith, omega arith)
-  decodes-named fresh (isIntruder {n}) w a b = let s = count-small fresh 4 (λ e. omega arith) in (intruder n, refl, omega arith, omega arith)
-  decodes-named fresh (isRole {i} l) w a b = let s = count-small fresh 5 (λ e. omega arith) in (role i, refl, omega arith, omega arith)
-  decodes-named fresh (isAgentVariable {n}) w a b = let s = count-small fresh 6 (λ e. omega arith) in (variable n agentType, refl, omega arith, omega arith)
-  decodes-named fresh (isFreshVariable {n}) w a b = let s = count-small fresh 6 (λ e. omega arith) in (variable n freshType, refl, omega arith, omega arith)
-  decodes-named fresh (isLocal {n}) w a b = let s = count-local fresh in (local n 0, refl, omega arith, tt)
-  decodes-named fresh isPk w a b = let s = count-none fresh 8 (omega arith) in absurd (omega arith)
-  decodes-named fresh isSk w a b = let s = count-none fresh 9 (omega arith) in absurd (omega arith)
-  decodes-named fresh isShared w a b = let s = count-none fresh 10 (omega arith) in absurd (omega arith)
-  decodes-named fresh isPair w a b = let s = count-none fresh 11 (omega arith) in absurd (omega arith)
-  decodes-named fresh isEncrypted w a b = let s = count-none fresh 12 (omega arith) in absurd (omega arith)
+  decodes-named : (fresh : Bool) {k l r : ℕ} {row : Row} → RowBytes k l r row → (w : ℕ) → firstRun k ≤ w → w < firstRun k + runCount runs fresh k → Named row w
+  decodes-named fresh (trustedBytes {n}) w a b = let s = count-small fresh 1 (λ e. omega arith) in (trusted n, refl, omega arith, omega arith)
+  decodes-named fresh (untrustedBytes {n}) w a b = let s = count-small fresh 2 (λ e. omega arith) in (untrusted n, refl, omega arith, omega arith)
+  decodes-named fresh (globalBytes {n}) w a b = let s = count-small fresh 3 (λ e. omega arith) in (global n, refl, omega arith, omega arith)
+  decodes-named fresh (intruderBytes {n}) w a b = let s = count-small fresh 4 (λ e. omega arith) in (intruder n, refl, omega arith, omega arith)
+  decodes-named fresh (roleBytes {i} l) w a b = let s = count-small fresh 5 (λ e. omega arith) in (role i, refl, omega arith, omega arith)
+  decodes-named fresh (agentVariableBytes {n}) w a b = let s = count-small fresh 6 (λ e. omega arith) in (variable n agentType, refl, omega arith, omega arith)
+  decodes-named fresh (freshVariableBytes {n}) w a b = let s = count-small fresh 6 (λ e. omega arith) in (variable n freshType, refl, omega arith, omega arith)
+  decodes-named fresh (localBytes {n}) w a b = let s = count-local fresh in (local n 0, refl, omega arith, tt)
+  decodes-named fresh publicBytes w a b = let s = count-none fresh 8 (omega arith) in absurd (omega arith)
+  decodes-named fresh secretBytes w a b = let s = count-none fresh 9 (omega arith) in absurd (omega arith)
+  decodes-named fresh sharedBytes w a b = let s = count-none fresh 10 (omega arith) in absurd (omega arith)
+  decodes-named fresh pairBytes w a b = let s = count-none fresh 11 (omega arith) in absurd (omega arith)
+  decodes-named fresh encryptedBytes w a b = let s = count-none fresh 12 (omega arith) in absurd (omega arith)
 
 -- a value is in the list of a variable exactly if the test says so
 is-value : (rows : List Row) (runs : ℕ) (a : Atom) (v : Value) → T (isValueOf v (candidates rows runs a)) ↔ List·Memᴰ v (candidates rows runs a)
@@ -202,7 +202,7 @@ module _ (bytes : List ℕ) (n runs : ℕ) (shape : Shape bytes n runs) (x : ℕ
     value-iff : T (isValueOf (valueAt r w) (candidates (rowsOf bytes) runs a)) ↔ ((r < n) × (firstAt r ≤ w) × (w < firstAt r + countAt r))
     value-iff =
         let s = row-there bytes n runs shape x low in
-        let v = variable-kind (row-decodes bytes n runs shape x low) kind in
+        let v = six-atom (row-decodes bytes n runs shape x low) kind in
         let same : v .0 ≡ a = Option·some-injective (v .0) a (sym (v .1) ∙ (rw (s .1) at e)) in
         let o = variable-of a (rw same at (v .2)) in
         let t = is-value (rowsOf bytes) runs a (valueAt r w) in

@@ -5,17 +5,17 @@ use native.Mathlib.Omega.{arith}
 use mathlib.Core.Path.{_≡_, refl, sym, _∙_}
 use mathlib.Core.Bool.{Bool, true, false, _&&_, not}
 use mathlib.Core.List.{List, [], _∷_, map}
-use mathlib.Core.Option.{Option, none, some, Option·some-injective, Option·none-ne-some}
+use mathlib.Core.Option.{Option, none, some}
 use lib.Dec.{T}
 use lib.ListN.{length, getD}
 use Rattle.semantics.specs.Basic.{present, keep, presentOnes, numbersFrom}
-use Rattle.semantics.specs.Term.{Atom, trusted, untrusted, global, intruder, role, variable, local, agentType, freshType}
+use Rattle.semantics.specs.Term.{Atom}
 use Rattle.semantics.specs.Table.{Row, variableAtom}
 use Rattle.semantics.specs.Value.{beneath}
-use Rattle.semantics.specs.Runs.{atomOf, atomAt}
+use Rattle.semantics.specs.Runs.{atomAt}
 use Rattle.semantics.specs.State.{Value, assigned, unsetBeneath}
 use Rattle.rows.specs.Rows.{rowsOf, Sized}
-use Rattle.rows.specs.laws.Decodes.{Decodes, isTrusted, isUntrusted, isGlobal, isIntruder, isRole, isAgentVariable, isFreshVariable, isLocal, isPk, isSk, isShared, isPair, isEncrypted}
+use Rattle.rows.specs.laws.Decode.{variable-six, six-atom}
 use Rattle.cells.specs.Cells.{cellOf, absent}
 use Rattle.cells.specs.laws.Cells.{row-there, row-decodes}
 use Rattle.cells.specs.laws.Shape.{sized-shape}
@@ -78,38 +78,6 @@ module _ (rows : List Row) (sets : List (Atom × Value)) (pattern : ℕ) where
     unfolding unsetFrom
     unset-here e g q = rw next (kept-here (atomAt rows) (λ x. beneath rows x pattern) unset y (numbersFrom (suc y) (length rows - suc y)) e g q)
 
--- a row is a variable by its kind
-pub variable-kind : {k l r : ℕ} {row : Row} → Decodes k l r row → k ≡ 6 → (a : Atom) × (atomOf (some row) ≡ some a) × T (variableAtom a)
-variable-kind isTrusted e = absurd (omega arith)
-variable-kind isUntrusted e = absurd (omega arith)
-variable-kind isGlobal e = absurd (omega arith)
-variable-kind isIntruder e = absurd (omega arith)
-variable-kind (isRole i) e = absurd (omega arith)
-variable-kind (isAgentVariable {n}) e = (variable n agentType, refl, tt)
-variable-kind (isFreshVariable {n}) e = (variable n freshType, refl, tt)
-variable-kind isLocal e = absurd (omega arith)
-variable-kind isPk e = absurd (omega arith)
-variable-kind isSk e = absurd (omega arith)
-variable-kind isShared e = absurd (omega arith)
-variable-kind isPair e = absurd (omega arith)
-variable-kind isEncrypted e = absurd (omega arith)
-
--- and the kind of a variable is 6
-kind-variable : {k l r : ℕ} {row : Row} → Decodes k l r row → (a : Atom) → atomOf (some row) ≡ some a → T (variableAtom a) → k ≡ 6
-kind-variable (isTrusted {n}) a e t = absurd (rw (← Option·some-injective (trusted n) a e) at t)
-kind-variable (isUntrusted {n}) a e t = absurd (rw (← Option·some-injective (untrusted n) a e) at t)
-kind-variable (isGlobal {n}) a e t = absurd (rw (← Option·some-injective (global n) a e) at t)
-kind-variable (isIntruder {n}) a e t = absurd (rw (← Option·some-injective (intruder n) a e) at t)
-kind-variable (isRole {i} l) a e t = absurd (rw (← Option·some-injective (role i) a e) at t)
-kind-variable isAgentVariable a e t = refl
-kind-variable isFreshVariable a e t = refl
-kind-variable (isLocal {n}) a e t = absurd (rw (← Option·some-injective (local n 0) a e) at t)
-kind-variable isPk a e t = absurd (Option·none-ne-some a e)
-kind-variable isSk a e t = absurd (Option·none-ne-some a e)
-kind-variable isShared a e t = absurd (Option·none-ne-some a e)
-kind-variable isPair a e t = absurd (Option·none-ne-some a e)
-kind-variable isEncrypted a e t = absurd (Option·none-ne-some a e)
-
 -- an unset variable is a variable without a value
 unset-true : (sets : List (Atom × Value)) (a : Atom) → T (variableAtom a) → assigned a sets ≡ none → (variableAtom a && not (present (assigned a sets))) ≡ true
 unset-true sets a t e = rw (passes-true (variableAtom a) t, e)
@@ -149,7 +117,7 @@ module _ (bytes : List ℕ) (n : ℕ) (sized : Sized bytes n) (names : List ℕ)
     pub passed-other : (getD bytes (3 * y) 0 ≡ 6 → ⊥) → Passed (rowsOf bytes) names u below from (y + 1)
     passed-other d = passed-more λ pattern b sets tells. unset-other (rowsOf bytes) sets pattern within λ a e.
         let w = row-there bytes n 0 (sized-shape sized) y low in
-        unset-false sets a (λ t _. d (kind-variable (row-decodes bytes n 0 (sized-shape sized) y low) a (rw (w .1) at e) t))
+        unset-false sets a (λ t _. d (variable-six (row-decodes bytes n 0 (sized-shape sized) y low) a (rw (w .1) at e) t))
 
     -- a variable that is set
     pub passed-set : {name : ℕ} → name ≡ getD names (cellOf y u) absent → (name ≡ absent → ⊥) → Passed (rowsOf bytes) names u below from (y + 1)
@@ -161,7 +129,7 @@ module _ (bytes : List ℕ) (n : ℕ) (sized : Sized bytes n) (names : List ℕ)
         → (pattern : ℕ) → Beneath (rowsOf bytes) pattern below → NextUnset (rowsOf bytes) names u pattern from y
     next-unset e k q f l pattern b =
         let w = row-there bytes n 0 (sized-shape sized) y low in
-        let v = variable-kind (row-decodes bytes n 0 (sized-shape sized) y low) k in
+        let v = six-atom (row-decodes bytes n 0 (sized-shape sized) y low) k in
         let atom : atomAt (rowsOf bytes) y ≡ some (v .0) = rw (w .1) (v .1) in
         isNext (v .0) within l atom (v .2) (sym q ∙ f) λ sets tells.
         passed pattern b sets tells

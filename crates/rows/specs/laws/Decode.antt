@@ -1,0 +1,146 @@
+-- What the three bytes of a row say of it: its kind and parts, and whether it is agent-like, a pair or a variable. Assumes nothing.
+use Prim.Native.Nat.{ℕ, zero, suc, _<_, _≤_}
+use native.Mathlib.Omega.{arith}
+use mathlib.Core.Path.{_≡_, refl, sym, ap, _∙_}
+use mathlib.Core.Bool.{Bool, true, false, _&&_, _||_, not}
+use mathlib.Core.Option.{some, Option·none-ne-some, Option·some-injective}
+use lib.Dec.{T, eqb, eqb→eq}
+use borrow.Author.Tests.{ne-eqb}
+use Rattle.semantics.specs.Term.{Atom, agentType, freshType, trusted, untrusted, global, intruder, role, variable, local}
+use Rattle.semantics.specs.Table.{Row, atomic, pkOf, skOf, sharedOf, pairOf, encryptedOf, agentLike, noPair, variableAtom, variableRow}
+use Rattle.semantics.specs.Runs.{atomOf}
+use Rattle.semantics.specs.Encoding.{RowBytes, trustedBytes, untrustedBytes, globalBytes, intruderBytes, roleBytes, agentVariableBytes, freshVariableBytes, localBytes, publicBytes, secretBytes, sharedBytes, pairBytes, encryptedBytes}
+
+-- the kind byte of a row
+abbrev pub kindOf : Row → ℕ
+kindOf (atomic (trusted n)) = 1
+kindOf (atomic (untrusted n)) = 2
+kindOf (atomic (global n)) = 3
+kindOf (atomic (intruder n)) = 4
+kindOf (atomic (role n)) = 5
+kindOf (atomic (variable n t)) = 6
+kindOf (atomic (local n u)) = 7
+kindOf (pkOf a) = 8
+kindOf (skOf a) = 9
+kindOf (sharedOf a b) = 10
+kindOf (pairOf l r) = 11
+kindOf (encryptedOf l r) = 12
+
+-- the left byte of a row
+abbrev pub leftOf : Row → ℕ
+leftOf (atomic (trusted n)) = n
+leftOf (atomic (untrusted n)) = n
+leftOf (atomic (global n)) = n
+leftOf (atomic (intruder n)) = n
+leftOf (atomic (role n)) = n
+leftOf (atomic (variable n t)) = n
+leftOf (atomic (local n u)) = n
+leftOf (pkOf a) = a
+leftOf (skOf a) = a
+leftOf (sharedOf a b) = a
+leftOf (pairOf l r) = l
+leftOf (encryptedOf l r) = l
+
+-- the right byte of an atom's row
+abbrev pub rightOfAtom : Atom → ℕ
+rightOfAtom (trusted n) = 0
+rightOfAtom (untrusted n) = 0
+rightOfAtom (global n) = 0
+rightOfAtom (intruder n) = 0
+rightOfAtom (role n) = 0
+rightOfAtom (variable n agentType) = 0
+rightOfAtom (variable n freshType) = 1
+rightOfAtom (local n u) = 0
+
+-- the right byte of a row
+abbrev pub rightOf : Row → ℕ
+rightOf (atomic a) = rightOfAtom a
+rightOf (pkOf a) = 0
+rightOf (skOf a) = 0
+rightOf (sharedOf a b) = b
+rightOf (pairOf l r) = r
+rightOf (encryptedOf l r) = r
+
+-- whether a kind and a right byte are those of an agent-like row
+abbrev pub agentKind : ℕ → ℕ → Bool
+agentKind k r = eqb k 1 || eqb k 2 || eqb k 5 || (eqb k 6 && eqb r 0)
+
+-- what the bytes say of a row: its kind and its parts, whether it is agent-like, no pair or a variable
+decodes-all : {k l r : ℕ} {row : Row} → RowBytes k l r row
+    → (k ≡ kindOf row) × (l ≡ leftOf row) × (r ≡ rightOf row) × (agentLike (some row) ≡ agentKind k r) × (noPair (some row) ≡ not (eqb k 11)) × (variableRow row ≡ eqb k 6)
+decodes-all trustedBytes = (refl, refl, refl, refl, refl, refl)
+decodes-all untrustedBytes = (refl, refl, refl, refl, refl, refl)
+decodes-all globalBytes = (refl, refl, refl, refl, refl, refl)
+decodes-all intruderBytes = (refl, refl, refl, refl, refl, refl)
+decodes-all (roleBytes h) = (refl, refl, refl, refl, refl, refl)
+decodes-all agentVariableBytes = (refl, refl, refl, refl, refl, refl)
+decodes-all freshVariableBytes = (refl, refl, refl, refl, refl, refl)
+decodes-all localBytes = (refl, refl, refl, refl, refl, refl)
+decodes-all publicBytes = (refl, refl, refl, refl, refl, refl)
+decodes-all secretBytes = (refl, refl, refl, refl, refl, refl)
+decodes-all sharedBytes = (refl, refl, refl, refl, refl, refl)
+decodes-all pairBytes = (refl, refl, refl, refl, refl, refl)
+decodes-all encryptedBytes = (refl, refl, refl, refl, refl, refl)
+
+-- a row's bytes are its kind and its parts
+pub decodes-bytes : {k l r : ℕ} {row : Row} → RowBytes k l r row → (k ≡ kindOf row) × (l ≡ leftOf row) × (r ≡ rightOf row)
+decodes-bytes d = let w = decodes-all d in (w .0, w .1, w .2)
+
+-- a row is agent-like by its kind and its right byte
+pub decodes-agent : {k l r : ℕ} {row : Row} → RowBytes k l r row → agentLike (some row) ≡ agentKind k r
+decodes-agent d = decodes-all d .3
+
+-- a row is a pair by its kind
+pub decodes-pair : {k l r : ℕ} {row : Row} → RowBytes k l r row → noPair (some row) ≡ not (eqb k 11)
+decodes-pair d = decodes-all d .4
+
+-- a row is a variable by its kind
+pub decodes-variable : {k l r : ℕ} {row : Row} → RowBytes k l r row → variableRow row ≡ eqb k 6
+decodes-variable d = decodes-all d .5
+
+-- a row of kind 6 is a variable
+pub six-variable : {k l r : ℕ} {row : Row} → RowBytes k l r row → k ≡ 6 → T (variableRow row)
+six-variable d e = rw (decodes-variable d, e) tt
+
+-- a row is a variable exactly if its atom is
+variable-atom : (row : Row) (a : Atom) → atomOf (some row) ≡ some a → variableAtom a ≡ variableRow row
+variable-atom (atomic b) a e = ap variableAtom (sym (Option·some-injective b a e))
+variable-atom (pkOf x) a e = absurd (Option·none-ne-some a e)
+variable-atom (skOf x) a e = absurd (Option·none-ne-some a e)
+variable-atom (sharedOf x y) a e = absurd (Option·none-ne-some a e)
+variable-atom (pairOf l r) a e = absurd (Option·none-ne-some a e)
+variable-atom (encryptedOf l r) a e = absurd (Option·none-ne-some a e)
+
+-- the row of a variable has kind 6
+pub variable-six : {k l r : ℕ} {row : Row} → RowBytes k l r row → (a : Atom) → atomOf (some row) ≡ some a → T (variableAtom a) → k ≡ 6
+variable-six {k} {row = row} d a e t = eqb→eq k 6 (rw (variable-atom row a e, decodes-variable d) at t)
+
+-- and a row of kind 6 is that of a variable
+pub six-atom : {k l r : ℕ} {row : Row} → RowBytes k l r row → k ≡ 6 → (a : Atom) × (atomOf (some row) ≡ some a) × T (variableAtom a)
+six-atom {row = row} d e = atom row (six-variable d e)
+  where
+    atom : (row : Row) → T (variableRow row) → (a : Atom) × (atomOf (some row) ≡ some a) × T (variableAtom a)
+    atom (atomic a) t = (a, refl, t)
+    atom (pkOf x) t = absurd t
+    atom (skOf x) t = absurd t
+    atom (sharedOf x y) t = absurd t
+    atom (pairOf l r) t = absurd t
+    atom (encryptedOf l r) t = absurd t
+
+-- only the same bytes are decoded to the same row
+pub decodes-same : {k l r k′ l′ r′ : ℕ} {row : Row} → RowBytes k l r row → RowBytes k′ l′ r′ row → (k ≡ k′) × (l ≡ l′) × (r ≡ r′)
+decodes-same d d′ =
+    let w = decodes-bytes d in
+    let w′ = decodes-bytes d′ in
+    (w .0 ∙ sym (w′ .0), w .1 ∙ sym (w′ .1), w .2 ∙ sym (w′ .2))
+
+-- kinds 1 and 2 are agent-like
+pub agent-kinds : (k r : ℕ) → 1 ≤ k → k < 3 → agentKind k r ≡ true
+agent-kinds zero r lo hi = absurd (omega arith)
+agent-kinds (suc zero) r lo hi = refl
+agent-kinds (suc (suc zero)) r lo hi = refl
+agent-kinds (suc (suc (suc k))) r lo hi = absurd (omega arith)
+
+-- no kind but 1, 2, 5 and 6 is agent-like
+pub other-kinds : (k r : ℕ) → ¬ (k ≡ 1) → ¬ (k ≡ 2) → ¬ (k ≡ 5) → ¬ (k ≡ 6) → agentKind k r ≡ false
+other-kinds k r n₁ n₂ n₅ n₆ = rw (ne-eqb k 1 n₁, ne-eqb k 2 n₂, ne-eqb k 5 n₅, ne-eqb k 6 n₆)
