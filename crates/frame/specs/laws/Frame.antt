@@ -11,7 +11,7 @@ use lib.Dec.{T, ltb, leb, eqb, leb→le, nltb→le, not-T}
 use lib.ListN.{length, getD, take, drop, length-drop}
 use lib.Seq.{take-all}
 use Rattle.semantics.specs.Answer.{checked, _>>_}
-use Rattle.semantics.specs.laws.Test.{both-left, both-right, provided-none}
+use Rattle.semantics.specs.laws.Test.{both-left, both-right, provided-none, not-not, passes-true}
 use Rattle.semantics.specs.Frame.{blockLength, budgetOf, framed, unversioned, tooLong, misframed, blockFrom, block}
 use Rattle.rows.specs.Rows.{placeAs}
 use Rattle.rows.specs.laws.Places.{at-some, nowhere-none}
@@ -199,17 +199,9 @@ framing-framed file e =
     record {
       few = not-long long;
       size = leb→le 5 (length file) (both-left (leb 5 (length file)) (framed 4 (drop 5 file)) good);
-      blocks = is-true (framed 4 (drop 5 file)) (both-right (leb 5 (length file)) (framed 4 (drop 5 file)) good);
+      blocks = passes-true (framed 4 (drop 5 file)) (both-right (leb 5 (length file)) (framed 4 (drop 5 file)) good);
     }
   where
-    not-not : (b : Bool) → (T (not b) → ⊥) → T b
-    not-not true n = tt
-    not-not false n = n tt
-
-    is-true : (b : Bool) → T b → b ≡ true
-    is-true true t = refl
-    is-true false t = absurd t
-
     not-long : (T (ltb 4096 (length file)) → ⊥) → length file ≤ 4096
     not-long n = nltb→le 4096 (length file) (not-T (ltb 4096 (length file)) n)
 

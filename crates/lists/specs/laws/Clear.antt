@@ -16,10 +16,9 @@ use Rattle.semantics.specs.Table.{Row}
 use Rattle.semantics.specs.Value.{Reading, valueOf, withoutVariables, withoutRun}
 use Rattle.semantics.specs.Guarantee.{refersTo}
 use Rattle.semantics.specs.Encoding.{RowBytes, trustedBytes, untrustedBytes, globalBytes, intruderBytes, roleBytes, agentVariableBytes, freshVariableBytes, localBytes, publicBytes, secretBytes, sharedBytes, pairBytes, encryptedBytes}
-use Rattle.semantics.specs.laws.List.{getElem-there}
 use Rattle.semantics.specs.laws.Value.{rowValue, value-unfolds}
 use Rattle.rows.specs.Rows.{IsTable, rowsOf, Sized}
-use Rattle.rows.specs.laws.Table.{table-good, table-row}
+use Rattle.rows.specs.laws.Table.{table-good, row-here}
 use Rattle.lists.specs.Lists.{Bars, Valued, clearBy, clearAt}
 
 -- a number is not up to another exactly if it is above it
@@ -119,16 +118,16 @@ module _ (low high kind : ℕ) (left right : Bool) where
       go false e false f = rw (e, f, l (ltb-false kind 8 e), r (ltb-false kind 10 f))
 
 module _ (t : List ℕ) (table : IsTable t) (i : ℕ) (within : i < length (rowsOf t)) where
-  -- a row and what its bytes say
-  pub row-here : (row : Row) × (getElem? (rowsOf t) i ≡ some row) × RowBytes (getD t (3 * i) 0) (getD t (3 * i + 1) 0) (getD t (3 * i + 2) 0) row
-  row-here = let w = getElem-there (rowsOf t) i within in (w .0, w .1, table-row t table i (w .0) (w .1) within)
+  -- the row
+  own : (row : Row) × (getElem? (rowsOf t) i ≡ some row) × RowBytes (getD t (3 * i) 0) (getD t (3 * i + 1) 0) (getD t (3 * i + 2) 0) row
+  own = row-here t table i within
 
   -- the rows that it refers to are below it
   pub left-lower : 8 ≤ getD t (3 * i) 0 → getD t (3 * i + 1) 0 < i
-  left-lower h = table-good t table .lower i (row-here .0) (row-here .1) (getD t (3 * i + 1) 0) (decodes-refers (row-here .2) .0 h)
+  left-lower h = table-good t table .lower i (own .0) (own .1) (getD t (3 * i + 1) 0) (decodes-refers (own .2) .0 h)
 
   pub right-lower : 10 ≤ getD t (3 * i) 0 → getD t (3 * i + 2) 0 < i
-  right-lower h = table-good t table .lower i (row-here .0) (row-here .1) (getD t (3 * i + 2) 0) (decodes-refers (row-here .2) .1 h)
+  right-lower h = table-good t table .lower i (own .0) (own .1) (getD t (3 * i + 2) 0) (decodes-refers (own .2) .1 h)
 
 -- the rows below one with a number are those marked that have a value, under each reading in which just the kinds from low to high stand for nothing
 abbrev pub Cleared : List ℕ → ℕ → ℕ → List Bool → ℕ → Type 0

@@ -20,7 +20,7 @@ use Rattle.semantics.specs.State.{Value, State, Active, inRun, termOf, assigned
 use Rattle.semantics.specs.Moves.{candidates, toSet, setAfter}
 use Rattle.semantics.specs.Replay.{isValueOf, suits}
 use Rattle.semantics.specs.Allowed.{MayTake, anAgent, anIntruder, aLocal, Takes, takesNone, takesMore}
-use Rattle.semantics.specs.laws.Test.{There, both-left}
+use Rattle.semantics.specs.laws.Test.{There, both-left, passes-true}
 use Rattle.semantics.specs.laws.List.{mem-cases, getElem-below, getElem-there}
 use Rattle.semantics.specs.laws.Moves.{suits-exact, ActiveIn, active-in}
 use Rattle.semantics.specs.laws.Reached.{assigned-first, assigned-later, assigned-append, assigned-new, orElse, unset-iff, unset-mem}
@@ -37,7 +37,6 @@ use Rattle.state.specs.Readings.{SetsOf, setsOf, withSets, readings}
 use Rattle.state.specs.State.{NextMove}
 use Rattle.state.specs.laws.Readings.{with-same, reading-run}
 use Rattle.variables.specs.Variables.{unsetFrom}
-use Rattle.variables.specs.laws.Beneath.{passes-true}
 use Rattle.values.specs.Values.{partSets, Setting, PartArrays}
 use Rattle.fits.specs.Fits as fits
 use Rattle.completions.specs.Completions.{Filled}

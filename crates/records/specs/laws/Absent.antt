@@ -14,7 +14,7 @@ use Rattle.semantics.specs.Table.{Row}
 use Rattle.semantics.specs.Roles.{namesPresent, absentRoleFrom}
 use Rattle.semantics.specs.Encoding.{RowBytes, trustedBytes, untrustedBytes, globalBytes, intruderBytes, roleBytes, agentVariableBytes, freshVariableBytes, localBytes, publicBytes, secretBytes, sharedBytes, pairBytes, encryptedBytes}
 use Rattle.rows.specs.Rows.{rowsOf, Sized}
-use Rattle.lists.specs.laws.Clear.{row-here}
+use Rattle.rows.specs.laws.Table.{row-here}
 
 -- a row names an absent role by its kind and its left byte
 decodes-names : (roles : ℕ) {k l r : ℕ} {row : Row} → RowBytes k l r row → namesPresent roles row ≡ (not (eqb k 5) || ltb l roles)

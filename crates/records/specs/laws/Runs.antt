@@ -3,57 +3,33 @@ use Prim.Native.Nat.{ℕ, suc, _+_, _*_, _≤_, _<_}
 use native.Mathlib.Omega.{arith}
 use mathlib.Core.Path.{_≡_, refl, sym, ap, _∙_}
 use mathlib.Core.Bool.{Bool, true, false, _&&_}
-use mathlib.Core.Option.{Option, none, some}
 use mathlib.Core.List.{List}
 use lib.Dec.{ltb, leb}
-use lib.ListN.{length, getD, getElem?, take, length-take, drop-of-length-le}
+use lib.ListN.{length, getD, take, length-take, drop-of-length-le}
 use lib.Seq.{slice, slice-cons, getD-take}
 use borrow.Author.Tests.{le-leb, lt-leb, lt-ltb, le-ltb}
 use Rattle.semantics.specs.Basic.{every}
 use Rattle.semantics.specs.Limits.{mostRuns}
 use Rattle.semantics.specs.Table.{Row}
 use Rattle.semantics.specs.Frame.{firstBad}
-use Rattle.semantics.specs.Runs.{runLength, runIn, runRecords, atomOf, atomAt, isAgent, goodRun, badRun}
-use Rattle.semantics.specs.Encoding.{RowBytes, trustedBytes, untrustedBytes, globalBytes, intruderBytes, roleBytes, agentVariableBytes, freshVariableBytes, localBytes, publicBytes, secretBytes, sharedBytes, pairBytes, encryptedBytes}
-use Rattle.semantics.specs.laws.List.{getElem-below}
+use Rattle.semantics.specs.Runs.{runLength, runIn, runRecords, atomAt, isAgent, goodRun, badRun}
 use Rattle.rows.specs.Rows.{rowsOf, Sized}
+use Rattle.rows.specs.laws.Decode.{decodes-agent-name}
+use Rattle.rows.specs.laws.Table.{atom-absent, atom-kind}
 use Rattle.records.specs.Records.{partAt, recordAt, agentsIn}
-use Rattle.lists.specs.laws.Clear.{row-here}
 use Rattle.records.specs.laws.Records.{leb-taken, recordsLeft, left-all}
 
 -- every run record has bytes
 pub run-bytes : (roles : ℕ) (s : List ℕ) → 0 < runLength roles s
 run-bytes roles s = omega arith
 
--- a row is an agent's by its kind
-decodes-agent : {k l r : ℕ} {row : Row} → RowBytes k l r row → isAgent (atomOf (some row)) ≡ leb k 2
-decodes-agent trustedBytes = refl
-decodes-agent untrustedBytes = refl
-decodes-agent globalBytes = refl
-decodes-agent intruderBytes = refl
-decodes-agent (roleBytes i) = refl
-decodes-agent agentVariableBytes = refl
-decodes-agent freshVariableBytes = refl
-decodes-agent localBytes = refl
-decodes-agent publicBytes = refl
-decodes-agent secretBytes = refl
-decodes-agent sharedBytes = refl
-decodes-agent pairBytes = refl
-decodes-agent encryptedBytes = refl
-
 module _ (t : List ℕ) (n : ℕ) (sized : Sized t n) (r : ℕ) where
   -- a row that is absent is no agent's, one that is present is by its kind
   pub agent-absent : n ≤ r → false ≡ isAgent (atomAt (rowsOf t) r)
-  agent-absent l = go (getElem? (rowsOf t) r) refl
-    where
-      go : (o : Option Row) → getElem? (rowsOf t) r ≡ o → false ≡ isAgent (atomOf o)
-      go none e = refl
-      go (some row) e = absurd (omega (arith, getElem-below (rowsOf t) r e, sized .count))
+  agent-absent = atom-absent t n sized isAgent r refl
 
   pub agent-kind : r < n → leb (getD t (3 * r) 0) 2 ≡ isAgent (atomAt (rowsOf t) r)
-  agent-kind l =
-      let w = row-here t (sized .table) r (omega (arith, sized .count)) in
-      sym (rw (w .1) (decodes-agent (w .2)))
+  agent-kind = atom-kind t n sized isAgent r (λ k. leb k 2) (λ k a b row. decodes-agent-name)
 
 module _ (p : ℕ → Bool) (roles : ℕ) (s : List ℕ) where
   -- the agent bytes all pass a test exactly if those from one on do

@@ -1,14 +1,14 @@
--- What the three bytes of a row say of it: its kind and parts, and whether it is agent-like, a pair or a variable. Assumes nothing.
+-- What the three bytes of a row say of it: its kind and parts, and whether it is agent-like, a pair, a variable or an agent's. Assumes nothing.
 use Prim.Native.Nat.{ℕ, zero, suc, _<_, _≤_}
 use native.Mathlib.Omega.{arith}
 use mathlib.Core.Path.{_≡_, refl, sym, ap, _∙_}
 use mathlib.Core.Bool.{Bool, true, false, _&&_, _||_, not}
 use mathlib.Core.Option.{some, Option·none-ne-some, Option·some-injective}
-use lib.Dec.{T, eqb, eqb→eq}
+use lib.Dec.{T, leb, eqb, eqb→eq}
 use borrow.Author.Tests.{ne-eqb}
 use Rattle.semantics.specs.Term.{Atom, agentType, freshType, trusted, untrusted, global, intruder, role, variable, local}
 use Rattle.semantics.specs.Table.{Row, atomic, pkOf, skOf, sharedOf, pairOf, encryptedOf, agentLike, noPair, variableAtom, variableRow}
-use Rattle.semantics.specs.Runs.{atomOf}
+use Rattle.semantics.specs.Runs.{atomOf, isTrusted, isAgent}
 use Rattle.semantics.specs.Encoding.{RowBytes, trustedBytes, untrustedBytes, globalBytes, intruderBytes, roleBytes, agentVariableBytes, freshVariableBytes, localBytes, publicBytes, secretBytes, sharedBytes, pairBytes, encryptedBytes}
 
 -- the kind byte of a row
@@ -65,22 +65,23 @@ rightOf (encryptedOf l r) = r
 abbrev pub agentKind : ℕ → ℕ → Bool
 agentKind k r = eqb k 1 || eqb k 2 || eqb k 5 || (eqb k 6 && eqb r 0)
 
--- what the bytes say of a row: its kind and its parts, whether it is agent-like, no pair or a variable
+-- what the bytes say of a row: its kind and its parts, whether it is agent-like, no pair, a variable, an agent's or a trusted agent's
 decodes-all : {k l r : ℕ} {row : Row} → RowBytes k l r row
     → (k ≡ kindOf row) × (l ≡ leftOf row) × (r ≡ rightOf row) × (agentLike (some row) ≡ agentKind k r) × (noPair (some row) ≡ not (eqb k 11)) × (variableRow row ≡ eqb k 6)
-decodes-all trustedBytes = (refl, refl, refl, refl, refl, refl)
-decodes-all untrustedBytes = (refl, refl, refl, refl, refl, refl)
-decodes-all globalBytes = (refl, refl, refl, refl, refl, refl)
-decodes-all intruderBytes = (refl, refl, refl, refl, refl, refl)
-decodes-all (roleBytes h) = (refl, refl, refl, refl, refl, refl)
-decodes-all agentVariableBytes = (refl, refl, refl, refl, refl, refl)
-decodes-all freshVariableBytes = (refl, refl, refl, refl, refl, refl)
-decodes-all localBytes = (refl, refl, refl, refl, refl, refl)
-decodes-all publicBytes = (refl, refl, refl, refl, refl, refl)
-decodes-all secretBytes = (refl, refl, refl, refl, refl, refl)
-decodes-all sharedBytes = (refl, refl, refl, refl, refl, refl)
-decodes-all pairBytes = (refl, refl, refl, refl, refl, refl)
-decodes-all encryptedBytes = (refl, refl, refl, refl, refl, refl)
+    × (isAgent (atomOf (some row)) ≡ leb k 2) × (isTrusted (atomOf (some row)) ≡ eqb k 1)
+decodes-all trustedBytes = (refl, refl, refl, refl, refl, refl, refl, refl)
+decodes-all untrustedBytes = (refl, refl, refl, refl, refl, refl, refl, refl)
+decodes-all globalBytes = (refl, refl, refl, refl, refl, refl, refl, refl)
+decodes-all intruderBytes = (refl, refl, refl, refl, refl, refl, refl, refl)
+decodes-all (roleBytes h) = (refl, refl, refl, refl, refl, refl, refl, refl)
+decodes-all agentVariableBytes = (refl, refl, refl, refl, refl, refl, refl, refl)
+decodes-all freshVariableBytes = (refl, refl, refl, refl, refl, refl, refl, refl)
+decodes-all localBytes = (refl, refl, refl, refl, refl, refl, refl, refl)
+decodes-all publicBytes = (refl, refl, refl, refl, refl, refl, refl, refl)
+decodes-all secretBytes = (refl, refl, refl, refl, refl, refl, refl, refl)
+decodes-all sharedBytes = (refl, refl, refl, refl, refl, refl, refl, refl)
+decodes-all pairBytes = (refl, refl, refl, refl, refl, refl, refl, refl)
+decodes-all encryptedBytes = (refl, refl, refl, refl, refl, refl, refl, refl)
 
 -- a row's bytes are its kind and its parts
 pub decodes-bytes : {k l r : ℕ} {row : Row} → RowBytes k l r row → (k ≡ kindOf row) × (l ≡ leftOf row) × (r ≡ rightOf row)
@@ -97,6 +98,14 @@ decodes-pair d = decodes-all d .4
 -- a row is a variable by its kind
 pub decodes-variable : {k l r : ℕ} {row : Row} → RowBytes k l r row → variableRow row ≡ eqb k 6
 decodes-variable d = decodes-all d .5
+
+-- a row is an agent's by its kind
+pub decodes-agent-name : {k l r : ℕ} {row : Row} → RowBytes k l r row → isAgent (atomOf (some row)) ≡ leb k 2
+decodes-agent-name d = decodes-all d .6
+
+-- and a trusted agent's
+pub decodes-trusted : {k l r : ℕ} {row : Row} → RowBytes k l r row → isTrusted (atomOf (some row)) ≡ eqb k 1
+decodes-trusted d = decodes-all d .7
 
 -- a row of kind 6 is a variable
 pub six-variable : {k l r : ℕ} {row : Row} → RowBytes k l r row → k ≡ 6 → T (variableRow row)

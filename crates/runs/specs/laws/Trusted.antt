@@ -5,51 +5,28 @@ use native.Mathlib.Numerals.{add-one}
 use mathlib.Core.Path.{_≡_, refl, sym, ap, _∙_}
 use mathlib.Core.Bool.{Bool, true, false, _&&_}
 use mathlib.Core.List.{List, [], _∷_}
-use mathlib.Core.Option.{Option, none, some, Option·none-ne-some, Option·some-injective}
+use mathlib.Core.Option.{some, Option·none-ne-some, Option·some-injective}
 use lib.Dec.{eqb}
 use lib.ListN.{length, getElem?, getD, drop, drop-of-length-le}
 use Rattle.semantics.specs.Basic.{every}
-use Rattle.semantics.specs.Table.{Row}
-use Rattle.semantics.specs.Runs.{Run, atomOf, atomAt, isTrusted}
+use Rattle.semantics.specs.Runs.{Run, atomAt, isTrusted}
 use Rattle.semantics.specs.Scenario.{Scenario}
 use Rattle.semantics.specs.Guarantee.{Guarantee}
 use Rattle.semantics.specs.Verdict.{allTrusted}
-use Rattle.semantics.specs.Encoding.{RowBytes, trustedBytes, untrustedBytes, globalBytes, intruderBytes, roleBytes, agentVariableBytes, freshVariableBytes, localBytes, publicBytes, secretBytes, sharedBytes, pairBytes, encryptedBytes}
-use Rattle.semantics.specs.laws.List.{mem-getElem, getElem-below, getElem-there}
+use Rattle.semantics.specs.laws.List.{mem-getElem, getElem-there}
 use Rattle.rows.specs.Rows.{rowsOf, Sized}
-use Rattle.lists.specs.laws.Clear.{row-here}
+use Rattle.rows.specs.laws.Decode.{decodes-trusted}
+use Rattle.rows.specs.laws.Table.{atom-absent, atom-kind}
 use Rattle.runs.specs.Runs.{RunsAt, AgentsAt}
 use Rattle.runs.specs.declared.Runs.{Runs}
 
--- a row is a trusted agent's by its kind
-decodes-trusted : {k l r : ℕ} {row : Row} → RowBytes k l r row → isTrusted (atomOf (some row)) ≡ eqb k 1
-decodes-trusted trustedBytes = refl
-decodes-trusted untrustedBytes = refl
-decodes-trusted globalBytes = refl
-decodes-trusted intruderBytes = refl
-decodes-trusted (roleBytes i) = refl
-decodes-trusted agentVariableBytes = refl
-decodes-trusted freshVariableBytes = refl
-decodes-trusted localBytes = refl
-decodes-trusted publicBytes = refl
-decodes-trusted secretBytes = refl
-decodes-trusted sharedBytes = refl
-decodes-trusted pairBytes = refl
-decodes-trusted encryptedBytes = refl
-
 module _ (t : List ℕ) (n : ℕ) (sized : Sized t n) (r : ℕ) where
-  -- one that is absent is not
+  -- a row that is absent is no trusted agent's, one that is present is by its kind
   pub trusted-absent : n ≤ r → false ≡ isTrusted (atomAt (rowsOf t) r)
-  trusted-absent l = go (getElem? (rowsOf t) r) refl
-    where
-      go : (o : Option Row) → getElem? (rowsOf t) r ≡ o → false ≡ isTrusted (atomOf o)
-      go none e = refl
-      go (some row) e = absurd (omega (arith, getElem-below (rowsOf t) r e, sized .count))
+  trusted-absent = atom-absent t n sized isTrusted r refl
 
   pub trusted-kind : r < n → eqb (getD t (3 * r) 0) 1 ≡ isTrusted (atomAt (rowsOf t) r)
-  trusted-kind l =
-      let w = row-here t (sized .table) r (omega (arith, sized .count)) in
-      sym (rw (w .1) (decodes-trusted (w .2)))
+  trusted-kind = atom-kind t n sized isTrusted r (λ k. eqb k 1) (λ k a b row. decodes-trusted)
 
 -- a test of all elements from one on is that of the element and of those behind it
 every-from : {A : Type 0} (p : A → Bool) (xs : List A) (i : ℕ) {x : A} → getElem? xs i ≡ some x → every p (drop i xs) ≡ (p x && every p (drop (suc i) xs))

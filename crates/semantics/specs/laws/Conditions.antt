@@ -1,6 +1,5 @@
 -- The laws of the conditions that refuse: each holds, at the place that it gives, exactly as its plain statement says. Assumes nothing.
 use Prim.Native.Nat.{ℕ, suc, _+_, _≤_, _<_}
-use native.Mathlib.Decide.{decLt}
 use native.Mathlib.Omega.{arith}
 use mathlib.Core.Path.{_≡_, refl, sym, ap, _∙_}
 use mathlib.Core.Logic.{_↔_, _⊎_, inl, inr, ⊎-elim}
@@ -25,7 +24,7 @@ use Rattle.semantics.specs.laws.Test.{same-test, both-right, both-parts,
 use Rattle.semantics.specs.laws.Answer.{refused-not-accepted, refused-same}
 use Rattle.semantics.specs.laws.List.{ordered-first, ordered-rest, mem-cases, every-iff, getElem-below, getElem-there}
 use Rattle.semantics.specs.laws.Table.{repeated-exactly, rowThen, rowsFrom-then, rowsFrom-short}
-use Rattle.semantics.specs.laws.Open.{illFormedFrom-none}
+use Rattle.semantics.specs.laws.Open.{names-cases, namesPresent-exactly, illFormedFrom-none}
 use Rattle.semantics.specs.laws.Encoding.{decode-exactly}
 use Rattle.semantics.specs.laws.WellFormed.{wellFormed-exact}
 
@@ -309,31 +308,6 @@ goodRole-exactly rows roles i part = (
 pub badRole-exactly : (rows : List Row) (parts : List Part) (at : ℕ) → (badRole rows parts ≡ some at) ↔ FirstBad (GoodRoleRecord rows (rolesPresent parts)) 0 parts at
 unfolding badRole
 badRole-exactly rows parts at = firstBad-exactly (goodRole rows (rolesPresent parts)) (GoodRoleRecord rows (rolesPresent parts)) (goodRole-exactly rows (rolesPresent parts)) 0 parts at
-
--- a row names no absent role, or it is the name of one
-names-cases : (roles : ℕ) (row : Row) → T (namesPresent roles row) ⊎ ((i : ℕ) × (row ≡ atomic (role i)) × (roles ≤ i))
-names-cases roles (atomic (trusted n)) = inl tt
-names-cases roles (atomic (untrusted n)) = inl tt
-names-cases roles (atomic (global n)) = inl tt
-names-cases roles (atomic (intruder n)) = inl tt
-names-cases roles (atomic (role i)) = go (decLt i roles)
-  where
-    go : Dec (i < roles) → T (ltb i roles) ⊎ ((j : ℕ) × (atomic (role i) ≡ atomic (role j)) × (roles ≤ j))
-    go (yes l) = inl (lt→ltb i roles l)
-    go (no n) = inr (i, refl, omega arith)
-names-cases roles (atomic (variable n t)) = inl tt
-names-cases roles (atomic (local n u)) = inl tt
-names-cases roles (pkOf a) = inl tt
-names-cases roles (skOf a) = inl tt
-names-cases roles (sharedOf a b) = inl tt
-names-cases roles (pairOf l r) = inl tt
-names-cases roles (encryptedOf l r) = inl tt
-
-namesPresent-exactly : (roles : ℕ) (row : Row) → T (namesPresent roles row) ↔ ((i : ℕ) → row ≡ atomic (role i) → i < roles)
-namesPresent-exactly roles row = (
-  λ t i e. ltb-iff i roles .0 (rw e at t),
-  λ h. ⊎-elim (λ t. t) (λ w. absurd (let l = h (w .0) (w .1) in let k = w .2 in omega arith)) (names-cases roles row),
-)
 
 -- 6, after all records: the first row that names an absent role
 first-absent-role : (roles at : ℕ) (rows : List Row) (p : ℕ) → absentRoleFrom roles at rows ≡ some p → FirstAbsentRole roles at rows p

@@ -29,7 +29,7 @@ use Rattle.semantics.specs.laws.Test.{all-three, four-tests, five-tests,
 use Rattle.semantics.specs.laws.List.{every-iff, mem-getElem, mem-map, getElem-below, getElem-seam, getElem-append, keep-cons, keep-append, present-all}
 use Rattle.semantics.specs.laws.Table.{repeated-at, rowsFrom-step, rows-good, Reads, ends, reads, rowsFrom-reads}
 use Rattle.semantics.specs.laws.Frame.{firstBad-none, firstBad-all}
-use Rattle.semantics.specs.laws.Open.{badRole-present, Opened, opened-inverts, opened-guarantee}
+use Rattle.semantics.specs.laws.Open.{namesPresent-exactly, badRole-present, Opened, opened-inverts, opened-guarantee}
 
 -- a block's length by its two bytes
 block-length : (high low : ℕ) (rest : List ℕ) → blockLength (high ∷ low ∷ rest) ≡ high * 256 + low
@@ -679,27 +679,12 @@ written-runs rows roles parts runs m l h = firstBad-all (goodRun rows roles) 0 p
         let b = getElem-below runs k (w .1) in
         written-good-run rows roles (0 + k) part (w .0) (w .2) (omega arith) (h (w .0) (mem-getElem runs .1 (k, w .1)))
 
--- a row names a role that is present if it names no other
-names-present : (roles : ℕ) (row : Row) → ((i : ℕ) → row ≡ atomic (role i) → i < roles) → T (namesPresent roles row)
-names-present roles (atomic (trusted n)) h = tt
-names-present roles (atomic (untrusted n)) h = tt
-names-present roles (atomic (global n)) h = tt
-names-present roles (atomic (intruder n)) h = tt
-names-present roles (atomic (role i)) h = lt→ltb i roles (h i refl)
-names-present roles (atomic (variable n type)) h = tt
-names-present roles (atomic (local n u)) h = tt
-names-present roles (pkOf a) h = tt
-names-present roles (skOf a) h = tt
-names-present roles (sharedOf a b) h = tt
-names-present roles (pairOf l r) h = tt
-names-present roles (encryptedOf l r) h = tt
-
 -- no row is refused for the role that it names
 named-passes : (roles at : ℕ) (rows : List Row) → ((x i : ℕ) → getElem? rows x ≡ some (atomic (role i)) → i < roles) → absentRoleFrom roles at rows ≡ none
 unfolding absentRoleFrom
 named-passes roles at [] h = refl
 named-passes roles at (row ∷ rows) h =
-    passed-gives (namesPresent roles row) (absentRoleFrom roles (at + 3) rows) at (names-present roles row (λ i e. h 0 i (ap some e))) (named-passes roles (at + 3) rows (λ x i e. h (suc x) i e))
+    passed-gives (namesPresent roles row) (absentRoleFrom roles (at + 3) rows) at (namesPresent-exactly roles row .1 (λ i e. h 0 i (ap some e))) (named-passes roles (at + 3) rows (λ x i e. h (suc x) i e))
 
 -- no event is refused where all are well formed
 formed-passes : {rows : List Row} {own : ℕ} {known : List Term} {es : List Event} → WellFormedEvents rows own known es → illFormedFrom rows own known es ≡ none

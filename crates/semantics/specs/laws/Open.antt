@@ -1,18 +1,20 @@
 -- The laws of Open: what is true of an accepted file's scenario. Assumes nothing.
 use Prim.Native.Nat.{ℕ, zero, suc, _+_, _*_, _≤_, _<_}
+use native.Mathlib.Decide.{decLt}
 use native.Mathlib.Omega.{arith}
 use native.Mathlib.Nat.{add-zero, zero-add}
-use mathlib.Core.Path.{_≡_, sym, _∙_}
+use mathlib.Core.Path.{_≡_, refl, sym, _∙_}
+use mathlib.Core.Logic.{_↔_, _⊎_, inl, inr, ⊎-elim}
 use mathlib.Core.Bool.{_&&_}
 use mathlib.Core.Option.{none, some, Option·none-ne-some, Option·some-injective}
 use mathlib.Core.List.{List, [], _∷_, map, List·Memᴰ, List·Memᴰ·not-nil}
-use lib.Dec.{T, ltb, leb, ltb→lt, leb→le}
+use lib.Dec.{T, ltb, leb, ltb→lt, lt→ltb, leb→le}
 use lib.ListN.{length, getElem?, getD, take, drop, length-map, length-take, length-drop}
 use Rattle.semantics.specs.Basic.{present, presentOnes, rising}
 use Rattle.semantics.specs.Limits.{mostRoles, mostRuns, mostEvents}
 use Rattle.semantics.specs.Answer.{accepted}
-use Rattle.semantics.specs.Term.{role, Term}
-use Rattle.semantics.specs.Table.{Row, atomic, rowsFrom}
+use Rattle.semantics.specs.Term.{trusted, untrusted, global, intruder, role, variable, local, Term}
+use Rattle.semantics.specs.Table.{Row, atomic, pkOf, skOf, sharedOf, pairOf, encryptedOf, rowsFrom}
 use Rattle.semantics.specs.Value.{valueOf, withoutVariables, withoutRun}
 use Rattle.semantics.specs.Frame.{Part, unversioned, tooLong, misframed}
 use Rattle.semantics.specs.Roles.{Event, Role, eventsFrom, eventCount, knowledgeCount, knowledgeIn, eventsIn, roleIn, rolesPresent, peerFits, eventFits, knowledgeFits, goodRole, badRole, namesPresent, absentRoleFrom, rolesFrom}
@@ -20,7 +22,7 @@ use Rattle.semantics.specs.WellFormed.{wellFormed, learned, eventTerm, r
 use Rattle.semantics.specs.Runs.{atomAt, isAgent, runLength, runIn, runRecords, goodRun, badRun, runsFrom, badKnowledgeFrom}
 use Rattle.semantics.specs.Scenario.{Scenario, termPart, runPart, knowledgePart, roleParts, roleCount, runParts, scenarioOf, opened}
 use Rattle.semantics.specs.Guarantee.{HasValue, GoodRole, WellFormedEvents, noEvents, moreEvents, GoodRun, Guarantee}
-use Rattle.semantics.specs.laws.Test.{both-left, both-right, both-parts, both, present-some, passed-none, found-none, firstOf-none}
+use Rattle.semantics.specs.laws.Test.{both-left, both-right, both-parts, both, present-some, passed-none, found-none, firstOf-none, ltb-iff}
 use Rattle.semantics.specs.laws.List.{mem-cases, mem-present, every-iff, mem-getElem, mem-map, present-length}
 use Rattle.semantics.specs.laws.Answer.{accepted-same, checked-passed, bound-passed}
 use Rattle.semantics.specs.laws.Table.{rows-good}
@@ -139,6 +141,32 @@ illFormed-none rows own (q ∷ roles) h (suc i) r e =
     let w = firstOf-none (illFormedFrom rows own (roleKnowledge rows q) (q .events)) (illFormed rows (suc own) roles) h in
     let s : own + suc i ≡ suc own + i = omega arith in
     rw s (illFormed-none rows (suc own) roles (w .1) i r e)
+
+-- a row names no absent role, or it is the name of one
+pub names-cases : (roles : ℕ) (row : Row) → T (namesPresent roles row) ⊎ ((i : ℕ) × (row ≡ atomic (role i)) × (roles ≤ i))
+names-cases roles (atomic (trusted n)) = inl tt
+names-cases roles (atomic (untrusted n)) = inl tt
+names-cases roles (atomic (global n)) = inl tt
+names-cases roles (atomic (intruder n)) = inl tt
+names-cases roles (atomic (role i)) = go (decLt i roles)
+  where
+    go : Dec (i < roles) → T (ltb i roles) ⊎ ((j : ℕ) × (atomic (role i) ≡ atomic (role j)) × (roles ≤ j))
+    go (yes l) = inl (lt→ltb i roles l)
+    go (no n) = inr (i, refl, omega arith)
+names-cases roles (atomic (variable n t)) = inl tt
+names-cases roles (atomic (local n u)) = inl tt
+names-cases roles (pkOf a) = inl tt
+names-cases roles (skOf a) = inl tt
+names-cases roles (sharedOf a b) = inl tt
+names-cases roles (pairOf l r) = inl tt
+names-cases roles (encryptedOf l r) = inl tt
+
+-- so it names roles that are present exactly if it names no other
+pub namesPresent-exactly : (roles : ℕ) (row : Row) → T (namesPresent roles row) ↔ ((i : ℕ) → row ≡ atomic (role i) → i < roles)
+namesPresent-exactly roles row = (
+  λ t i e. ltb-iff i roles .0 (rw e at t),
+  λ h. ⊎-elim (λ t. t) (λ w. absurd (let l = h (w .0) (w .1) in let k = w .2 in omega arith)) (names-cases roles row),
+)
 
 -- no row names an absent role where none is refused
 pub absentRole-none : (roles at : ℕ) (rows : List Row) → absentRoleFrom roles at rows ≡ none → (x : ℕ) (row : Row) → getElem? rows x ≡ some row → T (namesPresent roles row)

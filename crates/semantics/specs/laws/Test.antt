@@ -72,6 +72,15 @@ same-test true false e = absurd (e .0 tt)
 same-test false true e = absurd (e .1 tt)
 same-test false false e = refl
 
+-- a test that passes is true, and one that does not is false
+pub passes-true : (a : Bool) → T a → a ≡ true
+passes-true true t = refl
+passes-true false t = absurd t
+
+pub fails-false : (a : Bool) → ¬ T a → a ≡ false
+fails-false true n = absurd (n tt)
+fails-false false n = refl
+
 -- a test is decided
 pub test-dec : (a : Bool) → Dec (T a)
 test-dec true = yes tt

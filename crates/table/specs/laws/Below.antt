@@ -15,9 +15,8 @@ use Rattle.semantics.specs.Table.{Row, agentLike, noPair}
 use Rattle.semantics.specs.Encoding.{RowBytes}
 use Rattle.semantics.specs.laws.List.{getElem-there}
 use Rattle.rows.specs.Rows.{IsTable, rowsOf}
-use Rattle.rows.specs.laws.Table.{table-length}
+use Rattle.rows.specs.laws.Table.{table-length, row-here}
 use Rattle.rows.specs.laws.Decode.{agentKind, decodes-agent, decodes-pair}
-use Rattle.table.specs.laws.Table.{row-bytes}
 
 -- the rows below row i
 abbrev pub rowsBelow : List ℕ → ℕ → List Row
@@ -50,7 +49,7 @@ module _ (t : List ℕ) (i : ℕ) (within : 3 * i ≤ length t) (table : IsTable
     -- a row below row i and its three bytes
     pub below-row : a < i → (row : Row) × (getElem? (rowsBelow t i) a ≡ some row) × RowBytes (getD t (3 * a) 0) (getD t (3 * a + 1) 0) (getD t (3 * a + 2) 0) row
     below-row l =
-        let w = row-bytes (take (3 * i) t) table a (omega (arith, below-length)) in
+        let w = row-here (take (3 * i) t) table a (omega (arith, below-length)) in
         (w .0, w .1, rw (getD-take (3 * i) t (3 * a) 0 (omega arith), getD-take (3 * i) t (3 * a + 1) 0 (omega arith), getD-take (3 * i) t (3 * a + 2) 0 (omega arith)) at (w .2))
 
     -- whether it is agent-like

@@ -12,13 +12,12 @@ use Rattle.semantics.specs.Basic.{keep}
 use Rattle.semantics.specs.Table.{Row, variableRow, fits, admissible, repeated, rowRefusal}
 use Rattle.semantics.specs.Encoding.{RowBytes}
 use Rattle.semantics.specs.laws.Table.{admissible-holds, row-unrefused}
-use Rattle.semantics.specs.laws.Test.{all-three}
+use Rattle.semantics.specs.laws.Test.{all-three, passes-true, fails-false}
 use Rattle.semantics.specs.laws.List.{keep-cons}
 use Rattle.semantics.specs.laws.Encoding.{decode-exactly}
 use Rattle.rows.specs.Rows.{IsTable, decodedAt}
 use Rattle.table.specs.Check.{fitsDecoded, repeatsDecoded, numberOr}
 use Rattle.rows.specs.laws.Decode.{decodes-variable}
-use Rattle.table.specs.laws.Table.{passes, fails}
 use Rattle.table.specs.laws.Below.{rowsBelow, below-length}
 
 module _ {A : Type 0} (p : A → Bool) where
@@ -59,12 +58,12 @@ module _ (below : List Row) (row : Row) where
 
   -- a row that is against the rules is refused with 4
   number-four : ¬ ((length below < 96) × (length (keep variableRow (below ++ row ∷ [])) ≤ 8) × T (fits below row)) → 4 ≡ numberOr (rowRefusal below (some row))
-  number-four n = sym (number-if false (repeated below row) (fails (admissible below row) (λ u. n (admissible-holds below row u))) refl)
+  number-four n = sym (number-if false (repeated below row) (fails-false (admissible below row) (λ u. n (admissible-holds below row u))) refl)
 
   -- a row that is not against them is refused only if it is repeated
   number-five : length below < 96 → length (keep variableRow (below ++ row ∷ [])) ≤ 8 → fits below row ≡ true → (r : Bool) → repeated below row ≡ r → numberIf true r ≡ numberOr (rowRefusal below (some row))
   unfolding admissible
-  number-five few fewVariables e r f = sym (number-if true r (passes (admissible below row) (
+  number-five few fewVariables e r f = sym (number-if true r (passes-true (admissible below row) (
       all-three (ltb (length below) 96) (leb (length (keep variableRow (below ++ row ∷ []))) 8) (fits below row) .1 (lt→ltb (length below) 96 few, le→leb (length (keep variableRow (below ++ row ∷ []))) 8 fewVariables, rw e tt)
       )) f)
 

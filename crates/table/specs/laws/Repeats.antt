@@ -10,13 +10,12 @@ use lib.Dec.{T, eqb, eqb→eq, eqb-refl}
 use lib.ListN.{length, getD, take}
 use Rattle.semantics.specs.Table.{Row, repeated}
 use Rattle.semantics.specs.laws.Table.{repeated-at}
-use Rattle.semantics.specs.laws.Test.{all-three, same-test}
+use Rattle.semantics.specs.laws.Test.{all-three, passes-true, fails-false}
 use Rattle.semantics.specs.laws.List.{getElem-below}
 use Rattle.semantics.specs.laws.Encoding.{decode-exactly}
 use Rattle.rows.specs.Rows.{IsTable, decodedAt}
 use Rattle.table.specs.Check.{repeatsDecoded, sameBytes}
 use Rattle.rows.specs.laws.Decode.{decodes-same}
-use Rattle.table.specs.laws.Table.{fails}
 use Rattle.table.specs.laws.Below.{rowsBelow, below-length, below-row}
 
 -- three bytes are the same as three others exactly if each is
@@ -38,7 +37,7 @@ module _ (t : List ℕ) (i : ℕ) (within : 3 * i ≤ length t) (table : IsTable
   repeats-yes j l e =
       let w = below-row t i within table j l in
       let s = same-bytes-iff t i j .0 (rw e tt) in
-      rw (s .0, s .1, s .2, decode-exactly (getD t (3 * j) 0) (getD t (3 * j + 1) 0) (getD t (3 * j + 2) 0) (w .0) .1 (w .2)) (same-test (repeated (rowsBelow t i) (w .0)) true (λ u. tt, λ u. repeated-at (rowsBelow t i) (w .0) .1 (j, w .1)))
+      rw (s .0, s .1, s .2, decode-exactly (getD t (3 * j) 0) (getD t (3 * j + 1) 0) (getD t (3 * j + 2) 0) (w .0) .1 (w .2)) (passes-true (repeated (rowsBelow t i) (w .0)) (repeated-at (rowsBelow t i) (w .0) .1 (j, w .1)))
 
   -- a row with the bytes of no earlier row repeats none
   pub repeats-no : ((j : ℕ) → j < i → sameBytes t i j ≡ false) → repeatsDecoded (rowsBelow t i) (decodedAt t i) ≡ false
@@ -47,7 +46,7 @@ module _ (t : List ℕ) (i : ℕ) (within : 3 * i ≤ length t) (table : IsTable
     where
       go : (o : Option Row) → decodedAt t i ≡ o → repeatsDecoded (rowsBelow t i) o ≡ false
       go none e = refl
-      go (some row) e = fails (repeated (rowsBelow t i) row) (λ u.
+      go (some row) e = fails-false (repeated (rowsBelow t i) row) (λ u.
           let p = repeated-at (rowsBelow t i) row .0 u in
           let l : p .0 < i = omega (arith, getElem-below (rowsBelow t i) (p .0) (p .1), below-length t i within table) in
           let w = below-row t i within table (p .0) l in

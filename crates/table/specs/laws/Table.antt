@@ -1,32 +1,20 @@
 -- The laws of tables of bytes: what their rows are, whatever the place at which they are read. Assumes nothing.
-use Prim.Native.Nat.{ℕ, suc, _+_, _*_, _<_}
+use Prim.Native.Nat.{ℕ, suc, _+_}
 use native.Mathlib.Omega.{arith}
 use mathlib.Core.Path.{_≡_, refl, sym, ap, _∙_}
 use mathlib.Core.Logic.{_↔_}
-use mathlib.Core.Bool.{Bool, true, false}
 use mathlib.Core.Option.{some}
 use mathlib.Core.List.{List, [], _∷_, _++_}
 use lib.Dec.{T}
-use lib.ListN.{length, getD, getElem?}
+use lib.ListN.{length}
 use Rattle.semantics.specs.Answer.{Answer, refused, accepted, refuse}
 use Rattle.semantics.specs.Table.{Row, decode, admissible, repeated, rowsFrom}
-use Rattle.semantics.specs.Encoding.{RowBytes}
 use Rattle.semantics.specs.laws.Table.{rowsFrom-step, Reads, ends, reads, rowsFrom-reads}
 use Rattle.semantics.specs.laws.Encoding.{table-exactly}
-use Rattle.semantics.specs.laws.List.{getElem-there}
 use Rattle.rows.specs.Rows.{IsTable, Sized, rowsOf, rowsOr}
 use Rattle.table.specs.Check.{judgedAs}
 use Rattle.table.specs.declared.Judged.the-variants.{Refused, Rows}
-use Rattle.rows.specs.laws.Table.{table-row, table-good, table-length}
-
--- a test that passes, and one that does not
-pub passes : (b : Bool) → T b → b ≡ true
-passes true t = refl
-passes false t = absurd t
-
-pub fails : (b : Bool) → ¬ T b → b ≡ false
-fails true n = absurd (n tt)
-fails false n = refl
+use Rattle.rows.specs.laws.Table.{table-good, table-length}
 
 -- after bytes that are read, the rest is read on from where they end
 reads-append : {below rows : List Row} {bytes : List ℕ} → Reads below bytes rows → (at : ℕ) (rest : List ℕ) → rowsFrom at below (bytes ++ rest) ≡ rowsFrom (at + length bytes) rows rest
@@ -79,11 +67,6 @@ judged-sized at bytes n j =
 -- a table is accepted at every place
 pub table-accepted : (bytes : List ℕ) → IsTable bytes → (at : ℕ) → rowsFrom at [] bytes ≡ accepted (rowsOf bytes)
 table-accepted bytes t at = rowsFrom-place 0 at bytes (rowsOf bytes) .0 t
-
--- a row of a table and its three bytes
-pub row-bytes : (bytes : List ℕ) → IsTable bytes → (i : ℕ) → i < length (rowsOf bytes)
-    → (row : Row) × (getElem? (rowsOf bytes) i ≡ some row) × RowBytes (getD bytes (3 * i) 0) (getD bytes (3 * i + 1) 0) (getD bytes (3 * i + 2) 0) row
-row-bytes bytes t i l = let w = getElem-there (rowsOf bytes) i l in (w .0, w .1, table-row bytes t i (w .0) (w .1) l)
 
 -- bytes after a table are read on from where it ends
 pub table-append : (bytes : List ℕ) → IsTable bytes → (at : ℕ) (rest : List ℕ) → rowsFrom at [] (bytes ++ rest) ≡ rowsFrom (at + length bytes) (rowsOf bytes) rest

@@ -15,7 +15,7 @@ use Rattle.semantics.specs.Table.{Row}
 use Rattle.semantics.specs.Value.{beneath}
 use Rattle.semantics.specs.Guarantee.{GoodTable, refersTo}
 use Rattle.semantics.specs.Encoding.{RowBytes, trustedBytes, untrustedBytes, globalBytes, intruderBytes, roleBytes, agentVariableBytes, freshVariableBytes, localBytes, publicBytes, secretBytes, sharedBytes, pairBytes, encryptedBytes}
-use Rattle.semantics.specs.laws.Test.{same-test}
+use Rattle.semantics.specs.laws.Test.{same-test, passes-true}
 use Rattle.semantics.specs.laws.List.{mem-cases, getElem-there, getElem-below}
 use Rattle.semantics.specs.laws.Value.{row-induction, beneath-iff}
 use Rattle.rows.specs.Rows.{rowsOf, Sized}
@@ -25,13 +25,9 @@ use Rattle.cells.specs.laws.Cells.{parts-referred, row-there, row-decodes, left
 use Rattle.cells.specs.laws.Shape.{sized-shape}
 use Rattle.variables.specs.Variables.{Beneath, Marked, Settled}
 
--- a test that is true passes, and the other way
+-- a test that is true passes
 true-passes : {b : Bool} → b ≡ true → T b
 true-passes e = rw e tt
-
-pub passes-true : (b : Bool) → T b → b ≡ true
-passes-true true t = refl
-passes-true false t = absurd t
 
 -- an atom refers to no row
 no-parts : {k l r : ℕ} {row : Row} → RowBytes k l r row → k < 8 → (q : ℕ) → List·Memᴰ q (refersTo row) → ⊥

@@ -20,7 +20,7 @@ use Rattle.semantics.specs.Replay.{isValueOf, suits}
 use Rattle.semantics.specs.Allowed.{Takes, takesNone, takesMore}
 use Rattle.semantics.specs.Allowed as allowed
 use Rattle.semantics.specs.Encoding.{RowBytes, trustedBytes, untrustedBytes, globalBytes, intruderBytes, roleBytes, agentVariableBytes, freshVariableBytes, localBytes, publicBytes, secretBytes, sharedBytes, pairBytes, encryptedBytes}
-use Rattle.semantics.specs.laws.Test.{both, both-left}
+use Rattle.semantics.specs.laws.Test.{both, both-left, passes-true, fails-false}
 use Rattle.semantics.specs.laws.List.{mem-joined, mem-map, mem-numbersFrom}
 use Rattle.semantics.specs.laws.Moves.{suits-exact, mem-candidates}
 use Rattle.rows.specs.Rows.{rowsOf}
@@ -29,7 +29,6 @@ use Rattle.cells.specs.Cells.{Shape, Canonical}
 use Rattle.cells.specs.laws.Cells.{row-there, row-decodes}
 use Rattle.variables.specs.Variables.{isFresh, firstRun, runCount, Higher, valuesFrom, Names, NotBefore, NextOf, hasNext, hasNone, MayTake, takes, takesNot}
 use Rattle.variables.specs.declared.NextValue.the-variants.{Value as isValue, Nothing}
-use Rattle.variables.specs.laws.Beneath.{passes-true}
 use Rattle.variables.specs.laws.Values.{valueAt, spanned, from-none, from-next, values-end, values-skip, values-next}
 
 -- the type of a variable by its right byte
@@ -164,11 +163,6 @@ variable-of (intruder n) t = absurd t
 variable-of (role i) t = absurd t
 variable-of (variable n type) t = (n, type, refl)
 variable-of (local n u) t = absurd t
-
--- a test that does not pass is false
-fails-false : (b : Bool) → (T b → ⊥) → b ≡ false
-fails-false true h = absurd (h tt)
-fails-false false h = refl
 
 -- a row and a run that are not before others, with no value of the variable of a row between the two
 pub record Ahead (rows : List Row) (runs x r w y v : ℕ) : Type 0 where

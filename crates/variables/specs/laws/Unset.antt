@@ -14,13 +14,13 @@ use Rattle.semantics.specs.Table.{Row, variableAtom}
 use Rattle.semantics.specs.Value.{beneath}
 use Rattle.semantics.specs.Runs.{atomAt}
 use Rattle.semantics.specs.State.{Value, assigned, unsetBeneath}
+use Rattle.semantics.specs.laws.Test.{passes-true}
 use Rattle.rows.specs.Rows.{rowsOf, Sized}
 use Rattle.rows.specs.laws.Decode.{variable-six, six-atom}
 use Rattle.cells.specs.Cells.{cellOf, absent}
 use Rattle.cells.specs.laws.Cells.{row-there, row-decodes}
 use Rattle.cells.specs.laws.Shape.{sized-shape}
 use Rattle.variables.specs.Variables.{Beneath, unsetFrom, TellsUnset, NextUnset, isNext, noNext}
-use Rattle.variables.specs.laws.Beneath.{passes-true}
 
 module _ {A B : Type 0} (f : B → Option A) (b : B → Bool) (p : A → Bool) (n : B) (ns : List B) where
   -- what is kept of the values of some chosen elements
