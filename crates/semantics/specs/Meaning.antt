@@ -56,7 +56,7 @@ pub data StandsFor (rows : List Row) (u : ℕ) (run : Run) (sets : List (Atom ×
   standsValue : {n : ℕ} {type : VariableType} {v : Value} {a : Atom} → assigned (variable n type) sets ≡ some v → ValueAtom rows v a → StandsFor rows u run sets (variable n type) a
   standsLocal : {n w : ℕ} → StandsFor rows u run sets (local n w) (local n u)
 
--- a role-level atom that is no variable, and one that is neither role name, variable nor local constant
+-- a role-level atom that is no variable
 pub data NoVariable : Atom → Type 0 where
   constantFixed : {a : Atom} → Constant a → NoVariable a
   roleFixed : {i : ℕ} → NoVariable (role i)

@@ -386,6 +386,9 @@ pub held-read :
     ↔ ((sc : Scenario) × (opened file ≡ accepted sc) × (128 ≤ length buffer) × NoBreak sc × (length (traceList sc) ≤ budgetOf file))
 held-read = caller.held-read
 
+pub held-word : (b : Answer Verdict) → (readWord (packedSearched b) ≡ 1) ↔ ((n : ℕ) × (b ≡ accepted (held n)))
+held-word = packing.held-word
+
 -- The readers give back word, number, place, run, event, kind and length of what was packed, for every answer that can be given.
 pub search-read-back : (file buffer : List ℕ) → ((b : ℕ) → List·Memᴰ b file → b < 256) → SearchRead (packedSearched (searched file buffer)) (searched file buffer)
 search-read-back = caller.search-read-back
