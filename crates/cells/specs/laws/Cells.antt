@@ -5,17 +5,18 @@ use native.Mathlib.Omega.{arith}
 use mathlib.Core.Path.{_≡_, refl, sym}
 use mathlib.Core.Logic.{_↔_, Iff·rfl, ⊎-elim}
 use mathlib.Core.Bool.{Bool, true, false, true≢false, false≢true, cond}
-use mathlib.Core.List.{List, [], _∷_, List·Memᴰ, List·Memᴰ·head as here, List·Memᴰ·tail as later}
+use mathlib.Core.List.{List, [], _∷_, List·Memᴰ}
 use mathlib.Core.Option.{some}
-use borrow.Author.Tests.{lt-ltb, le-ltb}
+use borrow.Author.Tests.{lt-ltb, le-ltb, ltb-false}
 use lib.Dec.{T, ltb}
 use lib.ListN.{length, getD, getElem?}
 use Rattle.semantics.specs.Table.{Row}
 use Rattle.semantics.specs.Guarantee.{refersTo}
-use Rattle.semantics.specs.Encoding.{RowBytes, trustedBytes, untrustedBytes, globalBytes, intruderBytes, roleBytes, agentVariableBytes, freshVariableBytes, localBytes, publicBytes, secretBytes, sharedBytes, pairBytes, encryptedBytes}
+use Rattle.semantics.specs.Encoding.{RowBytes}
 use Rattle.semantics.specs.laws.List.{getElem-there}
 use Rattle.rows.specs.Rows.{rowsOf}
-use Rattle.rows.specs.laws.Table.{table-good, table-row}
+use Rattle.rows.specs.laws.Table.{table-good, table-row, left-lower as lower-left}
+use Rattle.rows.specs.laws.Decode.{decodes-refers}
 use Rattle.cells.specs.Cells.{Shape, cellOf, cellCount, absent, secondOf, sameParts, Tells, Matches, FoundInRow, hasRun, hasNoRun, Found, isFound, notFound}
 
 -- within a list the default does not matter
@@ -26,19 +27,11 @@ getD-any (x ∷ xs) (suc i) d e l = getD-any xs i d e (le-of-suc-le-suc l)
 
 -- the parts of a row of kind 8 to 12 are rows to which it refers
 pub parts-referred : {k l r : ℕ} {row : Row} → RowBytes k l r row → 8 ≤ k → List·Memᴰ l (refersTo row) × List·Memᴰ (cond (ltb k 10) l r) (refersTo row)
-parts-referred trustedBytes h = absurd (omega arith)
-parts-referred untrustedBytes h = absurd (omega arith)
-parts-referred globalBytes h = absurd (omega arith)
-parts-referred intruderBytes h = absurd (omega arith)
-parts-referred (roleBytes i) h = absurd (omega arith)
-parts-referred agentVariableBytes h = absurd (omega arith)
-parts-referred freshVariableBytes h = absurd (omega arith)
-parts-referred localBytes h = absurd (omega arith)
-parts-referred publicBytes h = (here refl, here refl)
-parts-referred secretBytes h = (here refl, here refl)
-parts-referred sharedBytes h = (here refl, later (here refl))
-parts-referred pairBytes h = (here refl, later (here refl))
-parts-referred encryptedBytes h = (here refl, later (here refl))
+parts-referred {k} {l} {r} {row} d h = (decodes-refers d .0 h, go (ltb k 10) refl)
+  where
+    go : (b : Bool) → ltb k 10 ≡ b → List·Memᴰ (cond b l r) (refersTo row)
+    go true e = decodes-refers d .0 h
+    go false e = decodes-refers d .1 (ltb-false k 10 e)
 
 module _ (bytes : List ℕ) (n runs : ℕ) (shape : Shape bytes n runs) (x : ℕ) (low : x < n) where
   -- a row that is there
@@ -51,7 +44,7 @@ module _ (bytes : List ℕ) (n runs : ℕ) (shape : Shape bytes n runs) (x : ℕ
 
   -- the parts of a row of kind 8 to 12 are lower rows
   pub left-lower : 8 ≤ getD bytes (3 * x) 0 → getD bytes (3 * x + 1) 0 < x
-  left-lower h = table-good bytes (shape .table) .lower x (row-there .0) (row-there .1) (getD bytes (3 * x + 1) 0) (parts-referred row-decodes h .0)
+  left-lower = lower-left bytes (shape .table) x (omega (arith, shape .count))
 
   pub second-lower : 8 ≤ getD bytes (3 * x) 0 → secondOf bytes x < x
   second-lower h = table-good bytes (shape .table) .lower x (row-there .0) (row-there .1) (secondOf bytes x) (parts-referred row-decodes h .1)

@@ -1,7 +1,8 @@
 -- `records::clear_row` meets its contract: kind by kind, the code tests what the definition asks. Assumes nothing.
 use native.Mathlib.Omega.{arith}
 use borrow.Author.Needs.{needs}
-use Rattle.lists.specs.laws.Clear.{clear-low, clear-high, clear-one, clear-two, clear-not, left-lower, right-lower}
+use Rattle.rows.specs.laws.Table.{left-lower, right-lower}
+use Rattle.lists.specs.laws.Clear.{clear-low, clear-high, clear-one, clear-two, clear-not}
 use Rattle.lists.proofs.clear_row.Statement.{statement}
 use Rattle.lists.proofs.clear_row.Tie as tie
 

@@ -5,20 +5,19 @@ use native.Mathlib.Decide.{ℕ-discrete}
 use mathlib.Core.Path.{_≡_, refl, sym, ap, _∙_}
 use mathlib.Core.Bool.{Bool, true, false, _&&_, not}
 use mathlib.Core.Option.{Option, none, some}
-use mathlib.Core.List.{List, List·Memᴰ, List·Memᴰ·head as here, List·Memᴰ·tail as later}
+use mathlib.Core.List.{List}
 use lib.Dec.{ltb, leb}
-use lib.ListN.{length, getD, getElem?, set}
+use lib.ListN.{length, getD, set}
 use lib.Seq.{getD-set-same, getD-set-other}
 use borrow.Author.Tests.{ltb-false, leb-true, leb-false, lt-ltb, le-ltb, lt-leb, le-leb}
 use Rattle.semantics.specs.Basic.{present, mapped, mapped₂}
 use Rattle.semantics.specs.Term.{Term, trusted, untrusted, global, intruder, role, variable, local, agentType, freshType, pk, sk, pair, encrypted, sharedKey}
 use Rattle.semantics.specs.Table.{Row}
 use Rattle.semantics.specs.Value.{Reading, valueOf, withoutVariables, withoutRun}
-use Rattle.semantics.specs.Guarantee.{refersTo}
 use Rattle.semantics.specs.Encoding.{RowBytes, trustedBytes, untrustedBytes, globalBytes, intruderBytes, roleBytes, agentVariableBytes, freshVariableBytes, localBytes, publicBytes, secretBytes, sharedBytes, pairBytes, encryptedBytes}
 use Rattle.semantics.specs.laws.Value.{rowValue, value-unfolds}
-use Rattle.rows.specs.Rows.{IsTable, rowsOf, Sized}
-use Rattle.rows.specs.laws.Table.{table-good, row-here}
+use Rattle.rows.specs.Rows.{rowsOf, Sized}
+use Rattle.rows.specs.laws.Table.{table-good, row-here, left-lower, right-lower}
 use Rattle.lists.specs.Lists.{Bars, Valued, clearBy, clearAt}
 
 -- a number is not up to another exactly if it is above it
@@ -58,28 +57,6 @@ module _ (low high : ℕ) (reading : Reading) (bars : Bars low high reading) whe
   decodes-clear value (pairBytes {l} {r}) = mapped₂-present pair (value l) (value r)
   decodes-clear value (encryptedBytes {l} {r}) = mapped₂-present encrypted (value l) (value r)
 
--- a row of a kind from 8 on refers to its left row, and one of a kind from 10 on to its right row
-abbrev Refers : ℕ → ℕ → ℕ → List ℕ → Type 0
-Refers k l r rows = (8 ≤ k → List·Memᴰ l rows) × (10 ≤ k → List·Memᴰ r rows)
-
-refers-none : (k l r : ℕ) (rows : List ℕ) → k < 8 → Refers k l r rows
-refers-none k l r rows h = (λ m. absurd (omega arith), λ m. absurd (omega arith))
-
-decodes-refers : {k l r : ℕ} {row : Row} → RowBytes k l r row → Refers k l r (refersTo row)
-decodes-refers trustedBytes = refers-none _ _ _ _ (omega arith)
-decodes-refers untrustedBytes = refers-none _ _ _ _ (omega arith)
-decodes-refers globalBytes = refers-none _ _ _ _ (omega arith)
-decodes-refers intruderBytes = refers-none _ _ _ _ (omega arith)
-decodes-refers (roleBytes i) = refers-none _ _ _ _ (omega arith)
-decodes-refers agentVariableBytes = refers-none _ _ _ _ (omega arith)
-decodes-refers freshVariableBytes = refers-none _ _ _ _ (omega arith)
-decodes-refers localBytes = refers-none _ _ _ _ (omega arith)
-decodes-refers publicBytes = (λ m. here refl, λ m. absurd (omega arith))
-decodes-refers secretBytes = (λ m. here refl, λ m. absurd (omega arith))
-decodes-refers sharedBytes = (λ m. here refl, λ m. later (here refl))
-decodes-refers pairBytes = (λ m. here refl, λ m. later (here refl))
-decodes-refers encryptedBytes = (λ m. here refl, λ m. later (here refl))
-
 module _ (low high kind : ℕ) (left right : Bool) where
   -- an atom has a value if its kind is below low, or not up to high
   pub clear-low : kind < 8 → kind < low → true ≡ clearBy low high kind left right
@@ -116,18 +93,6 @@ module _ (low high kind : ℕ) (left right : Bool) where
       go true e d f = rw e
       go false e true f = rw (e, f) (l (ltb-false kind 8 e))
       go false e false f = rw (e, f, l (ltb-false kind 8 e), r (ltb-false kind 10 f))
-
-module _ (t : List ℕ) (table : IsTable t) (i : ℕ) (within : i < length (rowsOf t)) where
-  -- the row
-  own : (row : Row) × (getElem? (rowsOf t) i ≡ some row) × RowBytes (getD t (3 * i) 0) (getD t (3 * i + 1) 0) (getD t (3 * i + 2) 0) row
-  own = row-here t table i within
-
-  -- the rows that it refers to are below it
-  pub left-lower : 8 ≤ getD t (3 * i) 0 → getD t (3 * i + 1) 0 < i
-  left-lower h = table-good t table .lower i (own .0) (own .1) (getD t (3 * i + 1) 0) (decodes-refers (own .2) .0 h)
-
-  pub right-lower : 10 ≤ getD t (3 * i) 0 → getD t (3 * i + 2) 0 < i
-  right-lower h = table-good t table .lower i (own .0) (own .1) (getD t (3 * i + 2) 0) (decodes-refers (own .2) .1 h)
 
 -- the rows below one with a number are those marked that have a value, under each reading in which just the kinds from low to high stand for nothing
 abbrev pub Cleared : List ℕ → ℕ → ℕ → List Bool → ℕ → Type 0

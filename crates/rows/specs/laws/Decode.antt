@@ -1,13 +1,15 @@
--- What the three bytes of a row say of it: its kind and parts, and whether it is agent-like, a pair, a variable or an agent's. Assumes nothing.
+-- What the three bytes of a row say of it: its kind and parts, and whether it is agent-like, a pair, a variable or an agent's, and the rows to which it refers. Assumes nothing.
 use Prim.Native.Nat.{ℕ, zero, suc, _<_, _≤_}
 use native.Mathlib.Omega.{arith}
 use mathlib.Core.Path.{_≡_, refl, sym, ap, _∙_}
 use mathlib.Core.Bool.{Bool, true, false, _&&_, _||_, not}
+use mathlib.Core.List.{List, List·Memᴰ, List·Memᴰ·head as here, List·Memᴰ·tail as later}
 use mathlib.Core.Option.{some, Option·none-ne-some, Option·some-injective}
 use lib.Dec.{T, leb, eqb, eqb→eq}
 use borrow.Author.Tests.{ne-eqb}
 use Rattle.semantics.specs.Term.{Atom, agentType, freshType, trusted, untrusted, global, intruder, role, variable, local}
 use Rattle.semantics.specs.Table.{Row, atomic, pkOf, skOf, sharedOf, pairOf, encryptedOf, agentLike, noPair, variableAtom, variableRow}
+use Rattle.semantics.specs.Guarantee.{refersTo}
 use Rattle.semantics.specs.Runs.{atomOf, isTrusted, isAgent}
 use Rattle.semantics.specs.Encoding.{RowBytes, trustedBytes, untrustedBytes, globalBytes, intruderBytes, roleBytes, agentVariableBytes, freshVariableBytes, localBytes, publicBytes, secretBytes, sharedBytes, pairBytes, encryptedBytes}
 
@@ -142,6 +144,28 @@ decodes-same d d′ =
     let w = decodes-bytes d in
     let w′ = decodes-bytes d′ in
     (w .0 ∙ sym (w′ .0), w .1 ∙ sym (w′ .1), w .2 ∙ sym (w′ .2))
+
+-- a row of a kind from 8 on refers to its left row, and one of a kind from 10 on to its right row
+abbrev pub Refers : ℕ → ℕ → ℕ → List ℕ → Type 0
+Refers k l r rows = (8 ≤ k → List·Memᴰ l rows) × (10 ≤ k → List·Memᴰ r rows)
+
+refers-none : (k l r : ℕ) (rows : List ℕ) → k < 8 → Refers k l r rows
+refers-none k l r rows h = (λ m. absurd (omega arith), λ m. absurd (omega arith))
+
+pub decodes-refers : {k l r : ℕ} {row : Row} → RowBytes k l r row → Refers k l r (refersTo row)
+decodes-refers trustedBytes = refers-none _ _ _ _ (omega arith)
+decodes-refers untrustedBytes = refers-none _ _ _ _ (omega arith)
+decodes-refers globalBytes = refers-none _ _ _ _ (omega arith)
+decodes-refers intruderBytes = refers-none _ _ _ _ (omega arith)
+decodes-refers (roleBytes i) = refers-none _ _ _ _ (omega arith)
+decodes-refers agentVariableBytes = refers-none _ _ _ _ (omega arith)
+decodes-refers freshVariableBytes = refers-none _ _ _ _ (omega arith)
+decodes-refers localBytes = refers-none _ _ _ _ (omega arith)
+decodes-refers publicBytes = (λ m. here refl, λ m. absurd (omega arith))
+decodes-refers secretBytes = (λ m. here refl, λ m. absurd (omega arith))
+decodes-refers sharedBytes = (λ m. here refl, λ m. later (here refl))
+decodes-refers pairBytes = (λ m. here refl, λ m. later (here refl))
+decodes-refers encryptedBytes = (λ m. here refl, λ m. later (here refl))
 
 -- kinds 1 and 2 are agent-like
 pub agent-kinds : (k r : ℕ) → 1 ≤ k → k < 3 → agentKind k r ≡ true

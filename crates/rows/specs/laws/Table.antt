@@ -15,6 +15,7 @@ use Rattle.semantics.specs.laws.List.{getElem-below, getElem-there}
 use Rattle.semantics.specs.laws.Encoding.{decode-exactly}
 use Rattle.semantics.specs.laws.Table.{rows-good, rows-decoded}
 use Rattle.rows.specs.Rows.{rowsOf, IsTable, Sized, decodedAt}
+use Rattle.rows.specs.laws.Decode.{decodes-refers}
 
 module _ (bytes : List ℕ) (table : IsTable bytes) where
   -- the rows of a table are good
@@ -40,6 +41,17 @@ module _ (bytes : List ℕ) (table : IsTable bytes) where
   pub row-here : (i : ℕ) → i < length (rowsOf bytes)
       → (row : Row) × (getElem? (rowsOf bytes) i ≡ some row) × RowBytes (getD bytes (3 * i) 0) (getD bytes (3 * i + 1) 0) (getD bytes (3 * i + 2) 0) row
   row-here i l = let w = getElem-there (rowsOf bytes) i l in (w .0, w .1, table-row i (w .0) (w .1) l)
+
+  module _ (i : ℕ) (within : i < length (rowsOf bytes)) where
+    own : (row : Row) × (getElem? (rowsOf bytes) i ≡ some row) × RowBytes (getD bytes (3 * i) 0) (getD bytes (3 * i + 1) 0) (getD bytes (3 * i + 2) 0) row
+    own = row-here i within
+
+    -- the rows that it refers to are below it
+    pub left-lower : 8 ≤ getD bytes (3 * i) 0 → getD bytes (3 * i + 1) 0 < i
+    left-lower h = table-good .lower i (own .0) (own .1) (getD bytes (3 * i + 1) 0) (decodes-refers (own .2) .0 h)
+
+    pub right-lower : 10 ≤ getD bytes (3 * i) 0 → getD bytes (3 * i + 2) 0 < i
+    right-lower h = table-good .lower i (own .0) (own .1) (getD bytes (3 * i + 2) 0) (decodes-refers (own .2) .1 h)
 
 module _ (bytes : List ℕ) (n : ℕ) (sized : Sized bytes n) (test : Option Atom → Bool) (r : ℕ) where
   -- a test of atoms fails at an absent row if it fails where there is no atom
