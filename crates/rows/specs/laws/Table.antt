@@ -43,6 +43,7 @@ module _ (bytes : List ℕ) (table : IsTable bytes) where
   row-here i l = let w = getElem-there (rowsOf bytes) i l in (w .0, w .1, table-row i (w .0) (w .1) l)
 
   module _ (i : ℕ) (within : i < length (rowsOf bytes)) where
+    -- the row with this number
     own : (row : Row) × (getElem? (rowsOf bytes) i ≡ some row) × RowBytes (getD bytes (3 * i) 0) (getD bytes (3 * i + 1) 0) (getD bytes (3 * i + 2) 0) row
     own = row-here i within
 
@@ -62,7 +63,7 @@ module _ (bytes : List ℕ) (n : ℕ) (sized : Sized bytes n) (test : Option Ato
       go none e = sym nothing
       go (some row) e = absurd (omega (arith, getElem-below (rowsOf bytes) r e, sized .count))
 
-  -- and a row that is there passes it by its kind if bytes do
+  -- a row that is there passes it by its kind, if that is so of the bytes of every row
   pub atom-kind : (byKind : ℕ → Bool) → ((k a b : ℕ) (row : Row) → RowBytes k a b row → test (atomOf (some row)) ≡ byKind k) → r < n → byKind (getD bytes (3 * r) 0) ≡ test (atomAt (rowsOf bytes) r)
   atom-kind byKind says l =
       let w = row-here bytes (sized .table) r (omega (arith, sized .count)) in
