@@ -3,6 +3,7 @@ use crate::compare;
 use crate::knowledge::{self, cell, ABSENT};
 use crate::open::{blocks, judge, records, Refusal};
 use library::random::Random;
+use library::scenarios::framed;
 
 const CLAIM: u64 = 7 << 60;
 const NO_CLAIM: u64 = 8 << 60;
@@ -231,15 +232,6 @@ fn one(name: &str, (file, trace): Request) {
     compare(&format!("{name}, {rows} rows"), 40, || library::replay(&file, &trace), || replay(&file, &trace));
 }
 
-fn framed(blocks: [&[u8]; 4]) -> Vec<u8> {
-    let mut file = vec![1, 0, 0, 0, 100];
-    for block in blocks {
-        file.extend((block.len() as u16).to_be_bytes());
-        file.extend(block);
-    }
-    file
-}
-
 /// The rows with random pairs and encryptions of them up to so many.
 fn filled(random: &mut Random, mut rows: Vec<[u8; 3]>, most: usize) -> Vec<[u8; 3]> {
     while rows.len() < most {
@@ -283,7 +275,7 @@ pub fn handshakes(random: &mut Random, most: usize) -> Request {
     let answer = [1, 1, 0, second[0], 0, 2, 0, second[1], 1, 3, 0, second[2], 0, 4, 0, second[3], 1, 5, 0, last.1, 2, 6, 0, o, 2, 7, 0, q, 2, 8, 0, x];
     let roles = [&[6, 2, 3, m, p, 13, 14, 8][..], &begin, &[7, 2, 3, o, q, 12, 13, 15, 8], &answer].concat();
     let table = filled(random, rows, most).concat();
-    let file = framed([&table, &roles, &[0, 0, 1, 1, 0, 1, 0, 0, 1, 1, 0, 1], &[0, 1]]);
+    let file = framed(100, [&table, &roles, &[0, 0, 1, 1, 0, 1, 0, 0, 1, 1, 0, 1], &[0, 1]]);
     let mut trace = vec![];
     for (a, b) in [(1, 2), (3, 4)] {
         trace.extend([a, 0, b, 1, m, a, b, 0, a, 1, o, b, a, 0, b, 1, p, a, b, 0, a, 1, q, b, a, 0, b, 0]);
@@ -302,5 +294,5 @@ pub fn sends(random: &mut Random) -> Request {
         role.extend([0, i, 0, 95 - 3 * i]);
     }
     let trace = (0..STEPS as u8).flat_map(|i| [1 + i % 4, 0]).collect();
-    (framed([&rows.concat(), &role, &[0; 8], &[0]]), trace)
+    (framed(100, [&rows.concat(), &role, &[0; 8], &[0]]), trace)
 }

@@ -1,5 +1,6 @@
 //! Scenario files of one run whose only event reads several variables: some made to be slow although few values or none are allowed, and random ones.
 use crate::random::Random;
+use crate::scenarios::framed;
 
 /// Rows that all these files have: agents a and b, the role names, and k(a,b), k(b,a) of the run, which the intruder lacks, with their rows in the role.
 pub struct Reads {
@@ -83,12 +84,7 @@ impl Reads {
         self.known.dedup();
         let role = |events: &&[[u8; 4]]| [&[5, ROLES[0], ROLES[1], ROLE_KEYS[0], ROLE_KEYS[1], GLOBAL, events.len() as u8][..], &events.concat()].concat();
         let runs: Vec<u8> = runs.iter().flat_map(|&role| [role, AGENTS[0], AGENTS[1]]).collect();
-        let mut file = vec![1, 255, 255, 255, 255];
-        for block in [&self.rows.concat()[..], &roles.iter().map(role).collect::<Vec<_>>().concat(), &runs, &self.known] {
-            file.extend((block.len() as u16).to_be_bytes());
-            file.extend(block);
-        }
-        file
+        framed(u32::MAX, [&self.rows.concat(), &roles.iter().map(role).collect::<Vec<_>>().concat(), &runs, &self.known])
     }
 }
 

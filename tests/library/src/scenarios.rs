@@ -31,6 +31,17 @@ pub fn near(random: &mut Random, file: &[u8]) -> Vec<u8> {
     file.to_vec()
 }
 
+/// A file with a budget and its four blocks.
+pub fn framed(budget: u32, blocks: [&[u8]; 4]) -> Vec<u8> {
+    let mut file = vec![1];
+    file.extend(budget.to_be_bytes());
+    for block in blocks {
+        file.extend((block.len() as u16).to_be_bytes());
+        file.extend(block);
+    }
+    file
+}
+
 /// The same file with another budget.
 pub fn with_budget(file: &[u8], budget: u32) -> Vec<u8> {
     [&file[..1], &budget.to_be_bytes(), &file[5..]].concat()
@@ -247,12 +258,7 @@ impl Making {
             roles.push(role.events.len() as u8);
             roles.extend(role.events.concat());
         }
-        let mut file = vec![1, 0, 0, 0, 0];
-        for block in [&self.rows.concat(), &roles, &self.runs, &self.known] {
-            file.extend((block.len() as u16).to_be_bytes());
-            file.extend(block);
-        }
-        file
+        framed(0, [&self.rows.concat(), &roles, &self.runs, &self.known])
     }
 }
 

@@ -1,7 +1,7 @@
 //! Open of the proved library against the cases and against the reference program.
 use library::answer::opened;
 use library::random::{damage, table, Random};
-use library::scenarios::{near, scenario};
+use library::scenarios::{framed, near, scenario};
 use library::slow;
 
 const CASES: &str = include_str!("../../cases/base.txt");
@@ -42,16 +42,6 @@ fn rich_files() -> Vec<Vec<u8>> {
         .collect();
     rich.sort_by_key(|f| std::cmp::Reverse(f.len()));
     rich
-}
-
-/// A file of given blocks.
-fn framed(blocks: [&[u8]; 4]) -> Vec<u8> {
-    let mut file = vec![1, 0, 0, 0, 9];
-    for block in blocks {
-        file.extend((block.len() as u16).to_be_bytes());
-        file.extend(block);
-    }
-    file
 }
 
 #[test]
@@ -132,15 +122,15 @@ fn random_tables_in_a_file_without_roles() {
             damage(&mut random, &mut rows);
         }
         let known: Vec<u8> = (0..rows.len() as u8 / 3).filter(|_| random.chance(3)).collect();
-        agrees(&framed([&rows, &[], &[], &known]));
+        agrees(&framed(9, [&rows, &[], &[], &known]));
     }
 }
 
 #[test]
 fn ninety_six_rows_and_ninety_seven() {
     let rows: Vec<u8> = (0..97u8).flat_map(|n| [3, n, 0]).collect();
-    assert_eq!(agrees(&framed([&rows[..288], &[], &[], &[95]])), "OK");
-    assert_eq!(agrees(&framed([&rows, &[], &[], &[95]])), "REFUSED 4 295");
+    assert_eq!(agrees(&framed(9, [&rows[..288], &[], &[], &[95]])), "OK");
+    assert_eq!(agrees(&framed(9, [&rows, &[], &[], &[95]])), "REFUSED 4 295");
 }
 
 #[test]
@@ -155,7 +145,7 @@ fn four_thousand_and_ninety_six_bytes_and_one_more() {
     for (block, number) in [(0, 4), (1, 6), (2, 8), (3, 9)] {
         let mut blocks: [&[u8]; 4] = [&[]; 4];
         blocks[block] = &rest;
-        let file = framed(blocks);
+        let file = framed(9, blocks);
         assert_eq!(file.len(), 4096);
         assert!(agrees(&file).starts_with(&format!("REFUSED {number} ")));
     }
@@ -173,7 +163,7 @@ fn deep_patterns_are_quick() {
         role.extend([1, 0, 0, 95 - i]);
     }
     let roles = role.repeat(4);
-    let file = framed([&rows, &roles, &[], &[]]);
+    let file = framed(9, [&rows, &roles, &[], &[]]);
     assert_eq!(opened(library::open(&file)), "OK");
     let begin = std::time::Instant::now();
     for _ in 0..10 {

@@ -2,7 +2,7 @@
 use library::answer::{replayed, searched, trace_length, word, BROKEN};
 use library::random::{damage, Random};
 use library::reads;
-use library::scenarios::{near, scenario, with_budget};
+use library::scenarios::{framed, near, scenario, with_budget};
 use std::collections::BTreeMap;
 use std::path::Path;
 
@@ -200,16 +200,6 @@ fn budgets_at_their_ends() {
     }
 }
 
-/// A file of given blocks.
-fn framed(blocks: [&[u8]; 4]) -> Vec<u8> {
-    let mut file = vec![1, 0, 0, 0, 100];
-    for block in blocks {
-        file.extend((block.len() as u16).to_be_bytes());
-        file.extend(block);
-    }
-    file
-}
-
 /// Rows 4 to 11 are fresh variables; row 12 is an intruder constant, row 13 a global one.
 fn eight_variables() -> Vec<u8> {
     let mut rows = vec![1, 0, 0, 2, 0, 0, 5, 0, 0, 5, 1, 0];
@@ -228,7 +218,7 @@ fn a_trace_may_need_all_128_bytes() {
     let claimer = [vec![2, 2, 3, 8], reads(&[14, 6, 7, 8, 9, 10, 11]), vec![2, 0, 0, 4]].concat();
     // Three readers with an untrusted agent, then the claimer.
     let runs = [0, 0, 1, 0, 0, 1, 0, 0, 1, 1, 0, 0];
-    let file = framed([&rows, &[reader, claimer].concat(), &runs, &[0, 1]]);
+    let file = framed(100, [&rows, &[reader, claimer].concat(), &runs, &[0, 1]]);
     let verdict = agrees(&file, 128);
     assert!(verdict.starts_with("BROKEN 33 RUN 4 EVENT 7 TRACE "), "{verdict}");
     assert_eq!(verdict.split(' ').last().unwrap().len(), 256);
@@ -250,7 +240,7 @@ fn hopeless_choices_are_not_tried() {
     }
     rows.extend([12, 80, 13]);
     let role = [3, 2, 3, 13, 1, 1, 0, 1, 81];
-    let file = framed([&rows, &[&role[..], &[0, 0]].concat(), &[0, 0, 0, 0, 0, 0], &[0, 1]]);
+    let file = framed(100, [&rows, &[&role[..], &[0, 0]].concat(), &[0, 0, 0, 0, 0, 0], &[0, 1]]);
     let begin = std::time::Instant::now();
     assert_eq!(agrees(&with_budget(&file, u32::MAX), 128), "HELD 1");
     assert!(begin.elapsed().as_millis() < 1000, "{:?}", begin.elapsed());
