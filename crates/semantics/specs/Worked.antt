@@ -237,7 +237,7 @@ edges =
     -- 11: a listed row that is absent, the target
     ∷ infers (3 ∷ 0 ∷ 0 ∷ []) (0 ∷ 1 ∷ []) 1 (refuse 11 1)
     ∷ infers (3 ∷ 0 ∷ 0 ∷ []) (0 ∷ 0 ∷ []) 1 (refuse 11 2)
-    -- 6: four roles and a fifth; eight events and a ninth; records found by their counts after a bad one, so that role 1 is present; a role that is not
+    -- 6: four roles and a fifth; eight events and a ninth; a record that is incomplete; a row that names role 1, of two roles and of one
     ∷ judges (file 100 [] (times 4 idle) [] []) (accepted (held 1))
     ∷ refuses (file 100 [] (times 5 idle) [] []) 6 17
     ∷ judges (file 100 nameAndAgent (claiming 8) [] []) (accepted (held 1))
