@@ -185,7 +185,7 @@ fn follow(
     x
 }
 
-// Whether a quick answer is given up: a variable aside, the way that was not readable before is not by now.
+// Whether a quick try is given up: the way that the notes remember as not readable still is not, by the marks that now stand.
 pub fn gives_up(
     marks: [bool; 480],
     sure: &[bool],
