@@ -1,16 +1,16 @@
 -- In plain words, what stands on both sides of the theorems: the value of a row, what lies beneath it, what an atom stands for in a run, what a trace passes (document 01, 'Terms', 'Roles and moves'). Assumes nothing.
-use Prim.Native.Nat.{ℕ, zero, suc, _<_}
+use Prim.Native.Nat.{ℕ, suc, _<_}
 use mathlib.Core.Path.{_≡_}
-use mathlib.Core.List.{List, [], _∷_, List·Memᴰ}
+use mathlib.Core.List.{List, _∷_, List·Memᴰ}
 use mathlib.Core.Logic.{_↔_}
-use mathlib.Core.Option.{Option, none, some}
+use mathlib.Core.Option.{none, some}
 use lib.ListN.{length, getElem?}
 use Rattle.semantics.specs.Term.{VariableType, Atom, trusted, untrusted, global, intruder, role, variable, local, Term, atom, pk, sk, shared, pair, encrypted}
 use Rattle.semantics.specs.Table.{Row, atomic, pkOf, skOf, sharedOf, pairOf, encryptedOf}
 use Rattle.semantics.specs.Value.{Reading, asAtoms, withoutRun}
 use Rattle.semantics.specs.Runs.{Run}
 use Rattle.semantics.specs.Scenario.{Scenario}
-use Rattle.semantics.specs.State.{Value, Progress, State, Active, assigned, eventsOf}
+use Rattle.semantics.specs.State.{Value, State, Active, assigned, eventsOf}
 use Rattle.semantics.specs.Moves.{Move}
 use Rattle.semantics.specs.Guarantee.{refersTo}
 

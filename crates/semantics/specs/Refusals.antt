@@ -1,19 +1,18 @@
 -- Demand 1 in plain statements: which condition refuses, in which order, with which number and place, for each operation (document 01, 'Operations and what stops them'). Assumes nothing.
 use Prim.Native.Nat.{ℕ, suc, _+_, _≤_, _<_}
 use mathlib.Core.Path.{_≡_}
-use mathlib.Core.Logic.{_⊎_}
 use mathlib.Core.List.{List, [], _∷_, _++_, List·Memᴰ}
 use mathlib.Core.Option.{Option, none, some}
 use lib.ListN.{length, getElem?}
 use Rattle.semantics.specs.Basic.{keep, Ordered}
-use Rattle.semantics.specs.Answer.{Answer, refused, accepted, refuse}
-use Rattle.semantics.specs.Term.{agentType, freshType, trusted, untrusted, global, intruder, role, variable, local, Term}
+use Rattle.semantics.specs.Answer.{Answer, accepted}
+use Rattle.semantics.specs.Term.{agentType, Atom, trusted, untrusted, role, variable, Term}
 use Rattle.semantics.specs.Table.{Row, atomic, pkOf, skOf, sharedOf, pairOf, encryptedOf, variableRow, rowsFrom}
-use Rattle.semantics.specs.Value.{valueOf, withoutVariables, withoutRun}
+use Rattle.semantics.specs.Value.{withoutVariables, withoutRun}
 use Rattle.semantics.specs.Frame.{Part, unversioned, tooLong, misframed}
 use Rattle.semantics.specs.Roles.{EventKind, send, read, claim, Event, Role, eventCount, knowledgeIn, eventsIn, roleLength, rolesFrom, badRole, absentRoleFrom}
 use Rattle.semantics.specs.WellFormed.{learned, eventTerm, roleKnowledge, illFormed}
-use Rattle.semantics.specs.Runs.{Run, atomAt, isAgent, runIn, badRun, badKnowledgeFrom}
+use Rattle.semantics.specs.Runs.{runIn, badRun, badKnowledgeFrom}
 use Rattle.semantics.specs.Scenario.{Scenario, termPart, knowledgePart, roleParts, roleCount, runParts, opened}
 use Rattle.semantics.specs.State.{State}
 use Rattle.semantics.specs.Moves.{Move}
@@ -39,7 +38,7 @@ Below below P r = (row : Row) × (getElem? below r ≡ some row) × P row
 
 -- "Rows referred to are lower than the row itself", and of the kinds that the table of kinds asks for
 pub data Fits (below : List Row) : Row → Type 0 where
-  fitsAtom : {a : _} → Fits below (atomic a)
+  fitsAtom : {a : Atom} → Fits below (atomic a)
   fitsPk : {a : ℕ} → Below below AgentLike a → Fits below (pkOf a)
   fitsSk : {a : ℕ} → Below below AgentLike a → Fits below (skOf a)
   fitsShared : {a b : ℕ} → Below below AgentLike a → Below below AgentLike b → Fits below (sharedOf a b)

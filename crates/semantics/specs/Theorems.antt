@@ -9,7 +9,7 @@ use lib.Dec.{T}
 use lib.ListN.{length, getElem?, take, drop}
 use Rattle.semantics.specs.Basic.{Ordered}
 use Rattle.semantics.specs.Limits.{mostRows, mostVariables, mostRoles, mostRuns, mostEvents, mostFileBytes, mostTraceBytes}
-use Rattle.semantics.specs.Answer.{Answer, refused, accepted, refuse}
+use Rattle.semantics.specs.Answer.{Answer, accepted, refuse}
 use Rattle.semantics.specs.Term.{Atom, role, trusted, Term, atom, inverse, pk, sk, encrypted}
 use Rattle.semantics.specs.Inference.{Derives, derivable}
 use Rattle.semantics.specs.Table.{Row, atomic, rowsFrom}
@@ -388,6 +388,13 @@ held-read = caller.held-read
 
 pub held-word : (b : Answer Verdict) → (readWord (packedSearched b) ≡ 1) ↔ ((n : ℕ) × (b ≡ accepted (held n)))
 held-word = packing.held-word
+
+-- So is ACCEPTED's exactly on an accepted file, and DERIVABLE's exactly on that answer.
+pub accepted-word : (b : Answer Scenario) → (readWord (packedOpened b) ≡ 4) ↔ ((sc : Scenario) × (b ≡ accepted sc))
+accepted-word = packing.accepted-word
+
+pub derivable-word : (b : Answer Bool) → (readWord (packedDerived b) ≡ 5) ↔ (b ≡ accepted true)
+derivable-word = packing.derivable-word
 
 -- The readers give back word, number, place, run, event, kind and length of what was packed, for every answer that can be given.
 pub search-read-back : (file buffer : List ℕ) → ((b : ℕ) → List·Memᴰ b file → b < 256) → SearchRead (packedSearched (searched file buffer)) (searched file buffer)

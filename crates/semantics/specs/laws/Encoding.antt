@@ -73,10 +73,6 @@ blocks-frame noBlocks = tt
 blocks-frame (moreBlocks {high = high} {low = low} {block = block} {blocks = blocks} {bytes = bytes} e p) =
     framed-step (length blocks) high low (block ++ bytes) .1 (rw length-append (omega arith), rw (drop-at block bytes (high * 256 + low) (sym e)) (blocks-frame p))
 
--- bytes are framed exactly if they are so many blocks
-pub blocks-framed : (n : ℕ) (bytes : List ℕ) → T (framed n bytes) ↔ ((blocks : List (List ℕ)) × (length blocks ≡ n) × Blocks blocks bytes)
-blocks-framed n bytes = (framed-cut n bytes, λ w. rw (w .1) at (blocks-frame (w .2)))
-
 -- four blocks behind a version and a budget make a framed file
 framed-four : (version b₃ b₂ b₁ b₀ : ℕ) (rest : List ℕ) (blocks : List (List ℕ)) → length blocks ≡ 4 → Blocks blocks rest
     → Framed (version ∷ b₃ ∷ b₂ ∷ b₁ ∷ b₀ ∷ rest) (b₃ * 16777216 + b₂ * 65536 + b₁ * 256 + b₀) blocks

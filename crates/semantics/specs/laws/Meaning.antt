@@ -1,17 +1,17 @@
 -- The laws of plain words: values, what lies beneath a row, readings, the start, trusted runs, active runs and what a trace passes are as their plain statements say. Assumes nothing.
-use Prim.Native.Nat.{ℕ, zero, suc, _+_, _≤_, _<_}
+use Prim.Native.Nat.{ℕ, zero, suc, _+_, _<_}
 use native.Mathlib.Nat.{not-suc-le-zero}
 use native.Mathlib.Decide.{ℕ-discrete}
 use native.Mathlib.Omega.{arith}
 use mathlib.Core.Path.{_≡_, refl, sym, ap, _∙_}
 use mathlib.Core.Logic.{_↔_, _⊎_, inl, inr, ⊎-elim}
-use mathlib.Core.Bool.{Bool, true, false, _&&_, not}
+use mathlib.Core.Bool.{true, false}
 use mathlib.Core.Option.{Option, none, some, Option·none-ne-some, Option·some-injective}
 use mathlib.Core.List.{List, [], _∷_, _++_, map, List·Memᴰ, List·Memᴰ·head, List·Memᴰ·tail, List·Memᴰ·not-nil, List·Memᴰ·append-cases, Memᴰ·append-left, Memᴰ·append-right}
 use lib.Dec.{T, eqb}
 use lib.ListN.{length, getElem?, set, length-set, length-map}
 use lib.Seq.{lt-length-set}
-use Rattle.semantics.specs.Basic.{Ordered, decided, present, andThen, mapped, mapped₂, keep, presentOnes, numbersFrom}
+use Rattle.semantics.specs.Basic.{Ordered, decided, andThen, mapped, mapped₂, keep, presentOnes, numbersFrom}
 use Rattle.semantics.specs.Term.{VariableType, atom?, Atom, trusted, untrusted, global, intruder, role, variable, local, Term, atom, pk, sk, shared, pair, encrypted, inverse}
 use Rattle.semantics.specs.Table.{Row, atomic, pkOf, skOf, sharedOf, pairOf, encryptedOf, variableAtom}
 use Rattle.semantics.specs.Value.{Reading, valueOf, beneath, asAtoms, withoutVariables, withoutRun}
@@ -24,10 +24,10 @@ use Rattle.semantics.specs.Moves.{Move, Message, message, toSet, advance
 use Rattle.semantics.specs.Tree.{Follows, stays, moves}
 use Rattle.semantics.specs.Verdict.{allTrusted}
 use Rattle.semantics.specs.Allowed.{Step, step, AllowedTrace}
-use Rattle.semantics.specs.Guarantee.{refersTo, GoodTable, HasValue}
+use Rattle.semantics.specs.Guarantee.{refersTo, GoodTable}
 use Rattle.semantics.specs.Meaning.{InverseIs, ofPublic, ofSecret, ofItself, ValueIs, atomValue, pkValue, skValue, sharedValue, pairValue, encryptedValue, LiesBeneath, itself, inside, Constant, trustedAgent, untrustedAgent, globalConstant, intruderConstant, ValueAtom, ownAtom, localAtom, StandsFor, standsItself, standsAgent, standsValue, standsLocal, NoVariable, constantFixed, roleFixed, localFixed, Passes, passesFirst, passesNext, passesOther, ActiveIn, KnownAtStart, fromList, anIntruderConstant, UnsetAt, TermsOf}
 use Rattle.semantics.specs.laws.Test.{same-test, andThen-some, mapped-some, mapped₂-some, eqb-iff}
-use Rattle.semantics.specs.laws.List.{mem-cases, mem-map, mem-present, mem-keep, mem-numbersFrom, mem-getElem, every-iff, getElem-below, getElem-there, set-same, set-other, keep-cons, ordered-keep, ordered-present, ordered-numbersFrom}
+use Rattle.semantics.specs.laws.List.{mem-cases, mem-map, mem-present, mem-keep, mem-numbersFrom, every-iff, getElem-below, getElem-there, set-same, set-other, keep-cons, ordered-keep, ordered-present, ordered-numbersFrom}
 use Rattle.semantics.specs.laws.Value.{rowValue, value-unfolds, beneath-iff, row-induction, value-within}
 use Rattle.semantics.specs.laws.Moves.{active-in}
 use Rattle.semantics.specs.laws.Reached.{assigned-new, assigned-stays, unmoved, isUnset, unset-iff, unset-mem}

@@ -4,34 +4,24 @@ use native.Mathlib.Decide.{decLt}
 use native.Mathlib.Omega.{arith}
 use mathlib.Core.Path.{_≡_, refl, sym, ap, _∙_}
 use mathlib.Core.Logic.{_↔_, _⊎_, inl, inr, ⊎-elim}
-use mathlib.Core.Bool.{Bool, true, false, not}
-use mathlib.Core.Option.{Option, none, some, Option·none-ne-some, Option·some-injective}
-use mathlib.Core.List.{List, [], _∷_, _++_, map, List·Memᴰ}
-use lib.Dec.{T, ltb}
+use mathlib.Core.Option.{Option, none, some, Option·none-ne-some}
+use mathlib.Core.List.{List, _++_}
+use lib.Dec.{ltb}
 use lib.ListN.{length, take, drop, length-append, length-drop}
 use lib.Seq.{take-append-seam, drop-append-seam}
-use Rattle.semantics.specs.Basic.{presentOnes}
-use Rattle.semantics.specs.Answer.{Refusal, Answer, refused, accepted, refuse, checked, _>>=_, _>>_}
-use Rattle.semantics.specs.Term.{Term}
-use Rattle.semantics.specs.Inference.{Derives, derivable}
-use Rattle.semantics.specs.Table.{Row, rowsFrom}
-use Rattle.semantics.specs.Value.{valueOf, asAtoms}
+use Rattle.semantics.specs.Answer.{Answer, refused, accepted, refuse, checked, _>>=_, _>>_}
 use Rattle.semantics.specs.Frame.{budgetOf}
 use Rattle.semantics.specs.Scenario.{Scenario, scenarioOf, opened}
 use Rattle.semantics.specs.State.{State, initial}
 use Rattle.semantics.specs.Moves.{Move}
-use Rattle.semantics.specs.Verdict.{Entry, Claim, traceList, broken, Verdict, brokenAt, held, stopped, verdict, traceBytes, shortBuffer, searched, written, bufferAfter}
+use Rattle.semantics.specs.Verdict.{Claim, traceList, broken, Verdict, brokenAt, held, stopped, verdict, traceBytes, shortBuffer, searched, written, bufferAfter}
 use Rattle.semantics.specs.Replay.{replayedFrom, replayed}
-use Rattle.semantics.specs.Derive.{absentFrom, derivableRow, derived}
-use Rattle.semantics.specs.Allowed.{AllowedTrace, Names}
+use Rattle.semantics.specs.Allowed.{AllowedTrace}
 use Rattle.semantics.specs.Demand.{SomeBreak, FirstBreak, NoBreak}
 use Rattle.semantics.specs.Refusals.{SearchRefuses, openRefuses, tooShort, ReplayRefuses, fileRefused, stepRefused}
-use Rattle.semantics.specs.laws.Test.{provided-some, provided-none, not-iff, ltb-iff}
-use Rattle.semantics.specs.laws.List.{mem-present, mem-map, mem-getElem}
+use Rattle.semantics.specs.laws.Test.{provided-some, ltb-iff}
+use Rattle.semantics.specs.laws.List.{mem-getElem}
 use Rattle.semantics.specs.laws.Answer.{refused-not-accepted, refused-same, accepted-same, checked-passed, bound-refused, bound-accepted}
-use Rattle.semantics.specs.laws.Inference.{derivable-exact, derives-monotone}
-use Rattle.semantics.specs.laws.Table.{rows-good}
-use Rattle.semantics.specs.laws.Value.{asAtoms-value}
 use Rattle.semantics.specs.laws.Refusals.{open-refuses, open-accepts}
 use Rattle.semantics.specs.laws.Traces.{traces-exact}
 use Rattle.semantics.specs.laws.Bytes.{trace-bytes}
@@ -186,13 +176,6 @@ module _ (file buffer : List ℕ) where
 
       whole : length (traceBytes ms) + length rest ≡ length buffer
       whole = let l = found .2 in let k = length-drop (length (traceBytes ms)) buffer in omega (arith, fits)
-
--- the terms of the listed rows
-pub mem-listed : (rows : List Row) (list : List ℕ) {t : Term} → List·Memᴰ t (presentOnes (map (valueOf asAtoms rows) list)) ↔ ((r : ℕ) × List·Memᴰ r list × (valueOf asAtoms rows r ≡ some t))
-mem-listed rows list {t} = (
-  λ m. let w = mem-map (valueOf asAtoms rows) list .0 (mem-present (map (valueOf asAtoms rows) list) .0 m) in (w .0, w .1, sym (w .2)),
-  λ w. mem-present (map (valueOf asAtoms rows) list) .1 (mem-map (valueOf asAtoms rows) list .1 (w .0, w .1, sym (w .2))),
-)
 
 module _ (file trace : List ℕ) where
   -- what Replay goes on with

@@ -1,12 +1,11 @@
 -- The laws of refusals: Open and Derive refuse exactly by the first condition that holds, in the order of document 01. Assumes nothing.
-use Prim.Native.Nat.{ℕ, _≤_, _<_}
+use Prim.Native.Nat.{ℕ}
 use mathlib.Core.Path.{_≡_, refl, sym, ap, _∙_}
 use mathlib.Core.Logic.{_↔_, _⊎_, inl, inr, ⊎-elim}
 use mathlib.Core.Bool.{Bool}
-use mathlib.Core.Option.{Option, none, some, Option·none-ne-some, Option·some-injective}
+use mathlib.Core.Option.{Option, none, some}
 use mathlib.Core.List.{List, [], _∷_}
-use lib.ListN.{length}
-use Rattle.semantics.specs.Answer.{Answer, refused, accepted, refuse, checked, _>>=_, _>>_}
+use Rattle.semantics.specs.Answer.{Answer, accepted, refuse, checked, _>>=_, _>>_}
 use Rattle.semantics.specs.Table.{Row, rowsFrom}
 use Rattle.semantics.specs.Value.{valueOf, asAtoms}
 use Rattle.semantics.specs.Scenario.{Scenario, termPart, scenarioOf, opened}

@@ -3,15 +3,14 @@ use Prim.Native.Nat.{ℕ, zero, suc, _+_, _*_, _≤_, _<_}
 use native.Mathlib.Nat.{add-zero, zero-add, le-refl}
 use native.Mathlib.Omega.{arith}
 use mathlib.Core.Path.{_≡_, refl, sym, ap, _∙_}
-use mathlib.Core.Logic.{_↔_, _⊎_, inl, inr, ⊎-elim}
-use mathlib.Core.Bool.{Bool, true, false}
+use mathlib.Core.Logic.{_↔_, _⊎_, inl, inr}
 use mathlib.Core.Option.{Option, none, some, Option·none-ne-some, Option·some-injective}
 use mathlib.Core.List.{List, [], _∷_, _++_, append-assoc, append-nil}
-use lib.Dec.{T, leb}
-use lib.ListN.{length, take, drop, length-append, length-take, length-drop, take-append-drop}
-use lib.Seq.{take-append-seam, drop-append-seam, length-take-le, take-at}
+use lib.Dec.{leb}
+use lib.ListN.{length, take, drop, length-append, take-append-drop}
+use lib.Seq.{drop-append-seam, length-take-le, take-at}
 use Rattle.semantics.specs.Basic.{joined}
-use Rattle.semantics.specs.Answer.{Answer, refused, accepted, refuse}
+use Rattle.semantics.specs.Answer.{Answer, accepted, refuse}
 use Rattle.semantics.specs.Scenario.{Scenario}
 use Rattle.semantics.specs.State.{Value, State}
 use Rattle.semantics.specs.Moves.{Move}
