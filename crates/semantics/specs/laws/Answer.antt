@@ -1,4 +1,4 @@
--- Laws of answers: what the acceptance of a sequence of conditions says of each. Assumes nothing.
+-- Laws of answers: what the acceptance or the refusal of a sequence of conditions says of each. Assumes nothing.
 use Prim.Native.Nat.{ℕ}
 use native.Mathlib.Omega.{arith}
 use mathlib.Core.Path.{_≡_, refl, sym, ap}

@@ -1,4 +1,4 @@
--- The laws of Search, Derive and Replay on bytes: what each answer says, and what is left in the buffer. Assumes nothing.
+-- The laws of Search and Replay on bytes: what each answer says, and what is left in the buffer. Assumes nothing.
 use Prim.Native.Nat.{ℕ, zero, suc, _+_, _≤_, _<_}
 use native.Mathlib.Decide.{decLt}
 use native.Mathlib.Omega.{arith}

@@ -1,4 +1,4 @@
--- The worked cases computed: every case of the table holds, and P7 to P11 hold of the inference relation itself. Assumes nothing.
+-- The worked cases computed: every case of both tables holds, and P7 to P11 hold of the inference relation itself. Assumes nothing.
 use mathlib.Core.Path.{_≡_, refl}
 use mathlib.Core.Bool.{true, false}
 use mathlib.Core.List.{List, [], _∷_}
