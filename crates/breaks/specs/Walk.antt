@@ -11,7 +11,7 @@ use Rattle.semantics.specs.Answer.{accepted}
 use Rattle.semantics.specs.Scenario.{Scenario, opened}
 use Rattle.semantics.specs.State as definitions
 use Rattle.semantics.specs.State.{Value, Active, active}
-use Rattle.semantics.specs.Moves.{Move, choices, performed, toSet, branch, movesOfRun, movesOf}
+use Rattle.semantics.specs.Moves.{Move, choices, performed, toSet, branch, movesOfRun, full, movesIn}
 use Rattle.semantics.specs.Tree.{listed}
 use Rattle.semantics.specs.Verdict as verdicts
 use Rattle.semantics.specs.Verdict.{Entry, Finding, found, nothing, cut, walked, broken, valueBytes, traceBytes}
@@ -29,11 +29,11 @@ use Rattle.breaks.specs.declared.Walked.{Walked}
 use Rattle.breaks.specs.declared.Walked.the-variants.{Broken, Clean, Cut}
 
 -- whether the trace of an entry breaks a claim: its state says
-abbrev pub judged : Scenario → Entry → Option verdicts.Claim
+abbrev pub judged : Scenario → Entry → Option definitions.Claim
 judged sc e = broken sc (e .1)
 
 -- a break: its place in the list, the length of its trace in bytes, and the claim
-abbrev pub breakAs : ℕ → Entry → verdicts.Claim → Break
+abbrev pub breakAs : ℕ → Entry → definitions.Claim → Break
 breakAs p e c = record { place = p; length = length (traceBytes (e .0)); run = c .run; event = c .event; kind = kindAs (c .kind) }
 
 -- what a walk answers: the break, how many entries there are without one, or that the budget ended
@@ -63,7 +63,7 @@ afterMove m e = (m ∷ e .0, e .1)
 
 -- the entries below a state: those of the moves' states, each after its move
 abbrev pub below : Scenario → ℕ → List (Move × definitions.State) → List Entry
-below sc n branches = joined (λ b. map (afterMove (b .0)) (listed (movesOf sc) n (b .1))) branches
+below sc n branches = joined (λ b. map (afterMove (b .0)) (listed (movesIn full sc) n (b .1))) branches
 
 -- the branches of a run's next event with values for its first variables, and every choice for the others
 abbrev pub branches : Scenario → definitions.State → ℕ → Active → List Value → List Atom → List (Move × definitions.State)

@@ -5,12 +5,13 @@ use mathlib.Core.Bool.{Bool}
 use mathlib.Core.List.{List}
 use mathlib.Core.Option.{Option, some}
 use lib.ListN.{length, getElem?}
+use Rattle.semantics.specs.Roles.{secrecy}
 use Rattle.semantics.specs.Basic.{andThen}
 use Rattle.semantics.specs.Runs.{Run}
 use Rattle.semantics.specs.Scenario.{Scenario}
 use Rattle.semantics.specs.Guarantee.{Guarantee}
-use Rattle.semantics.specs.State.{Progress, State, eventsOf}
-use Rattle.semantics.specs.Verdict.{Claim, secrecy, brokenEvent}
+use Rattle.semantics.specs.State.{Progress, State, eventsOf, Claim}
+use Rattle.semantics.specs.Verdict.{brokenEvent}
 use Rattle.knowledge.specs.Marks.{Exact}
 use Rattle.runs.specs.declared.Runs.{Runs}
 use Rattle.runs.specs.Runs.{RunsAt}

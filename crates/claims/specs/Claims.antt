@@ -1,7 +1,8 @@
 -- Which claim a state breaks, as the code answers it. Assumes nothing.
 use mathlib.Core.Option.{Option, none, some}
-use Rattle.semantics.specs.Verdict as definitions
-use Rattle.semantics.specs.Verdict.{secrecy}
+use Rattle.semantics.specs.Roles.{secrecy}
+use Rattle.semantics.specs.Roles as roles
+use Rattle.semantics.specs.State as definitions
 use Rattle.claims.specs.declared.Claim.{Claim}
 use Rattle.claims.specs.declared.ClaimKind.{ClaimKind}
 use Rattle.claims.specs.declared.ClaimKind.the-variants.{Secrecy}
@@ -9,7 +10,7 @@ use Rattle.claims.specs.declared.Claimed.{Claimed}
 use Rattle.claims.specs.declared.Claimed.the-variants.{Broken, Nothing}
 
 -- the kind of a claim
-abbrev pub kindAs : definitions.ClaimKind → ClaimKind
+abbrev pub kindAs : roles.ClaimKind → ClaimKind
 kindAs secrecy = Secrecy
 
 -- a claim: its run, its event and its kind

@@ -46,12 +46,3 @@ clearAt low high t clear r = clearBy low high (getD t (3 * r) 0) (getD clear (ge
 -- whether a row is one of n and has a value
 abbrev pub hasValue : ℕ → List Bool → ℕ → Bool
 hasValue n clear r = ltb r n && getD clear r false
-
--- the place of the first byte that fails a test or is below a number, which rises above each byte passed
-unfoldable pub unfitFrom : (ℕ → Bool) → ℕ → ℕ → List ℕ → Option ℕ
-unfitFrom fits at least [] = none
-unfitFrom fits at least (r ∷ bytes) =
-    elim (leb least r && fits r) [
-      | true ↦ unfitFrom fits (suc at) (suc r) bytes
-      | false ↦ some at
-    ]

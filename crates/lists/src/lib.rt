@@ -2,10 +2,11 @@
 ghost use mathlib.Core.Path.{_≡_};
 ghost use Prim.Native.Nat.{_<_, _≤_};
 ghost use lib.ListN.{length};
+ghost use Rattle.semantics.specs.Basic.{unfitFrom};
 ghost use Rattle.semantics.specs.Value.{Reading};
 ghost use Rattle.semantics.specs.Runs.{badKnowledgeFrom};
 ghost use Rattle.rows.specs.Rows.{placeAs, rowsOf, Sized};
-ghost use Rattle.lists.specs.Lists.{Bars, Valued, clearAt, hasValue, unfitFrom};
+ghost use Rattle.lists.specs.Lists.{Bars, Valued, clearAt, hasValue};
 use rows::Place;
 
 // Whether a row has a value if atoms of the kinds from low to high have none, given which of the rows below it have one.

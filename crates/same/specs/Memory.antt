@@ -6,7 +6,7 @@ use lib.ListN.{length}
 use Rattle.semantics.specs.Answer.{accepted}
 use Rattle.semantics.specs.Scenario.{Scenario, opened}
 use Rattle.semantics.specs.State.{State}
-use Rattle.semantics.specs.Moves.{Move, movesOf}
+use Rattle.semantics.specs.Moves.{Move, full, movesIn}
 use Rattle.semantics.specs.Tree.{listed}
 use Rattle.semantics.specs.Allowed.{AllowedTrace}
 use Rattle.runs.specs.declared.Runs.{Runs}
@@ -26,7 +26,7 @@ pub record Remembers (file t : List ℕ) (n : ℕ) (r : Runs) (variables memory 
   pub size : length memory ≡ wordCount
   pub rows : Variables t n variables
   pub right : (key : List ℕ) (count : ℕ) → Says memory key count → (sc : Scenario) (d : State) (ms : List Move) (done names : List ℕ) (depth : ℕ)
-      → Reached file t n r sc d ms done names → IsKey variables done names depth key → Clean sc (listed (movesOf sc) depth d) count
+      → Reached file t n r sc d ms done names → IsKey variables done names depth key → Clean sc (listed (movesIn full sc) depth d) count
 
 -- What a walk needs besides a state: a buffer for any trace, a budget and a depth that fit a count and a word, and a memory that is right.
 pub record Room (file t : List ℕ) (n : ℕ) (r : Runs) (variables trace memory : List ℕ) (left depth : ℕ) : Type 0 where

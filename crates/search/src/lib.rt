@@ -6,7 +6,7 @@ ghost use Rattle.semantics.specs.Basic.{total};
 ghost use Rattle.semantics.specs.Answer.{accepted};
 ghost use Rattle.semantics.specs.Scenario.{Scenario, opened};
 ghost use Rattle.semantics.specs.State.{initial, eventsLeft};
-ghost use Rattle.semantics.specs.Moves.{movesOf};
+ghost use Rattle.semantics.specs.Moves.{full, movesIn};
 ghost use Rattle.semantics.specs.Tree.{listed};
 ghost use Rattle.semantics.specs.Verdict.{verdict, searched, written, bufferAfter};
 ghost use Rattle.scenario.specs.Opened.{layoutOf};
@@ -52,7 +52,7 @@ fn event_count(r: Runs) -> usize
 // Walks through the whole list of an accepted file, with a memory that is empty at first.
 fn walk_all(trace: &mut [u8], file: &[u8], l: Layout, left: usize) -> Walked
     requires { ⌜ ((sc : Scenario) × (opened (now file) ≡ accepted sc) × (l ≡ layoutOf (now file) sc)) × ((128 ≤ length (now trace)) × (left < 4294967296)) ⌝ }
-    ensures { λ w. ⌜ ((sc : Scenario) → opened (now (file .entry)) ≡ accepted sc → l ≡ layoutOf (now (file .entry)) sc → Finds sc left (listed (movesOf sc) (eventsLeft sc (initial sc)) (initial sc)) (now (trace .entry)) 0 (now (trace .exit)) w) ⌝ }
+    ensures { λ w. ⌜ ((sc : Scenario) → opened (now (file .entry)) ≡ accepted sc → l ≡ layoutOf (now (file .entry)) sc → Finds sc left (listed (movesIn full sc) (eventsLeft sc (initial sc)) (initial sc)) (now (trace .entry)) 0 (now (trace .exit)) w) ⌝ }
 {
     let r = runs::runs_of(file, l);
     let n = l.terms.count;
@@ -85,7 +85,7 @@ fn walk_all(trace: &mut [u8], file: &[u8], l: Layout, left: usize) -> Walked
 // The verdict on an accepted file. Without a budget no memory is cleared.
 fn judged(file: &[u8], l: Layout, trace: &mut [u8]) -> Searched
     requires { ⌜ ((sc : Scenario) × (opened (now file) ≡ accepted sc) × (l ≡ layoutOf (now file) sc)) × (128 ≤ length (now trace)) ⌝ }
-    ensures { λ r. ⌜ ((sc : Scenario) → opened (now (file .entry)) ≡ accepted sc → l ≡ layoutOf (now (file .entry)) sc → (r ≡ verdictAs (verdict sc)) × (now (trace .exit) ≡ written (now (trace .entry)) (accepted (verdict sc)))) ⌝ }
+    ensures { λ r. ⌜ ((sc : Scenario) → opened (now (file .entry)) ≡ accepted sc → l ≡ layoutOf (now (file .entry)) sc → (r ≡ verdictAs (verdict full sc)) × (now (trace .exit) ≡ written (now (trace .entry)) (accepted (verdict full sc)))) ⌝ }
 {
     let budget = frame::budget(file);
     if budget == 0 {

@@ -10,13 +10,12 @@ use Rattle.semantics.specs.Term.{VariableType, agentType, freshType, Ato
 use Rattle.semantics.specs.Inference.{Derives}
 use Rattle.semantics.specs.Table.{Row}
 use Rattle.semantics.specs.Value.{valueOf}
-use Rattle.semantics.specs.Roles.{EventKind, send, read, claim, Event}
-use Rattle.semantics.specs.Runs.{Run, atomAt, isAgent}
+use Rattle.semantics.specs.Roles.{ClaimKind, secrecy, EventKind, send, read, claim, Event}
+use Rattle.semantics.specs.Runs.{Run, atomAt, isAgent, allTrusted}
 use Rattle.semantics.specs.Scenario.{Scenario}
-use Rattle.semantics.specs.State.{Value, Progress, State, initial, Active, active, eventsOf, readingIn}
-use Rattle.semantics.specs.Moves.{Move, Message, toSet, messageAfter, advanced}
+use Rattle.semantics.specs.State.{Value, Progress, State, initial, Active, active, eventsOf, readingIn, Message, Claim}
+use Rattle.semantics.specs.Moves.{Move, toSet, messageAfter, advanced, Listing, full}
 use Rattle.semantics.specs.Tree.{Follows, Earlier}
-use Rattle.semantics.specs.Verdict.{Claim, secrecy, allTrusted}
 
 -- 000's Readable, with the inference relation: which patterns a role can read
 pub data Readable : List Term → Term → Type 0 where
@@ -37,7 +36,7 @@ pub data Readable : List Term → Term → Type 0 where
 pub data WellFormed (own : ℕ) (known : List Term) : EventKind → ℕ → Term → Type 0 where
   wellSent : {peer : ℕ} {t : Term} → Derives known (atom (role own)) → Derives known (atom (role peer)) → Derives known t → WellFormed own known send peer t
   wellRead : {peer : ℕ} {t : Term} → Derives known (atom (role own)) → Derives known (atom (role peer)) → Readable known t → WellFormed own known read peer t
-  wellClaimed : {peer : ℕ} {t : Term} → Derives known (atom (role own)) → Derives known t → WellFormed own known claim peer t
+  wellClaimed : {peer : ℕ} {t : Term} → Derives known (atom (role own)) → Derives known t → WellFormed own known (claim secrecy) peer t
 
 -- the values that a variable may take
 pub data MayTake (rows : List Row) (runs : ℕ) : Atom → Value → Type 0 where
@@ -62,7 +61,7 @@ pub data Performs (known : List Term) : EventKind → Option Message → List Te
       {m : Message} {after : List Term} → Derives known (m .sender) → Derives known (m .receiver) → Derives known (m .term) → after ≡ known
       → Performs known read (some m) after
   -- "A claim adds nothing."
-  claims : {m : Option Message} {after : List Term} → after ≡ known → Performs known claim m after
+  claims : {kind : ClaimKind} {m : Option Message} {after : List Term} → after ≡ known → Performs known (claim kind) m after
 
 -- An allowed move: "A run's next event is its only move", "A read gives values to the variables of its pattern not yet set in that run".
 pub data Step (sc : Scenario) (s : State) (m : Move) (s′ : State) : Type 0 where
@@ -75,6 +74,14 @@ pub data Step (sc : Scenario) (s : State) (m : Move) (s′ : State) : Type 0 whe
 abbrev pub AllowedTrace : Scenario → List Move → State → Type 0
 AllowedTrace sc ms s = Follows (Step sc) (initial sc) ms s
 
+-- the moves that a list goes on with: the full list has every allowed move
+abbrev pub StepIn : Listing → Scenario → State → Move → State → Type 0
+StepIn full sc = Step sc
+
+-- a trace of a list, with the state at its end; of the full list it is any allowed trace
+abbrev pub TraceIn : Listing → Scenario → List Move → State → Type 0
+TraceIn l sc ms s = Follows (StepIn l sc) (initial sc) ms s
+
 -- "each by row and then run"
 pub data ValueBefore (v w : Value) : Type 0 where
   byRow : v .row < w .row → ValueBefore v w
@@ -85,13 +92,17 @@ pub data MoveBefore (m m′ : Move) : Type 0 where
   earlierRun : m .run < m′ .run → MoveBefore m m′
   earlierValues : m .run ≡ m′ .run → Earlier ValueBefore (m .values) (m′ .values) → MoveBefore m m′
 
+-- what a trace's end says against a claim of a kind, in the run with a number
+pub data Against (sc : Scenario) (s : State) (u : ℕ) (run : Run) (p : Progress) (e : Event) : ClaimKind → Type 0 where
+  -- "the claimed value is derivable at the trace's end"
+  valueKnown : {t : Term} → valueOf (readingIn (sc .rows) u run (p .values)) (sc .rows) (e .row) ≡ some t → Derives (s .known) t → Against sc s u run p e secrecy
+
 -- "A trace breaks a claim if it passes that claim in a run whose agents (over the file's roles) are all trusted and the claimed value is derivable at the trace's end."
 pub data Breaks (sc : Scenario) (s : State) (c : Claim) : Type 0 where
   breaks :
-      {k : ℕ} {run : Run} {p : Progress} {e : Event} {t : Term} → getElem? (sc .runs) k ≡ some run → getElem? (s .progress) k ≡ some p
-      → getElem? (eventsOf sc run) (c .event) ≡ some e → c .event < p .done → e .kind ≡ claim → T (allTrusted (sc .rows) run)
-      → valueOf (readingIn (sc .rows) (suc k) run (p .values)) (sc .rows) (e .row) ≡ some t → Derives (s .known) t → c .run ≡ suc k
-      → c .kind ≡ secrecy → Breaks sc s c
+      {k : ℕ} {run : Run} {p : Progress} {e : Event} → getElem? (sc .runs) k ≡ some run → getElem? (s .progress) k ≡ some p
+      → getElem? (eventsOf sc run) (c .event) ≡ some e → c .event < p .done → e .kind ≡ claim (c .kind) → T (allTrusted (sc .rows) run)
+      → Against sc s (suc k) run p e (c .kind) → c .run ≡ suc k → Breaks sc s c
 
 -- "the lowest run, then the lowest event"
 abbrev pub ClaimBefore : Claim → Claim → Type 0

@@ -3,7 +3,7 @@ use Prim.Native.Nat.{ℕ, zero, suc, _+_, _*_}
 use mathlib.Core.Bool.{Bool, true, false, _&&_, _||_, not}
 use mathlib.Core.List.{List, [], _∷_, _++_, map, List·Memᴰ}
 use mathlib.Core.Option.{Option, none, some}
-use lib.Dec.{ltb, eqb}
+use lib.Dec.{ltb, leb, eqb}
 
 -- whether a decision says yes
 abbrev pub decided : {A : Type 0} → Dec A → Bool
@@ -79,3 +79,12 @@ total (n ∷ ns) = n + total ns
 pub data Ordered {A : Type 0} (R : A → A → Type 0) : List A → Type 0 where
   ordered-none : Ordered R []
   ordered-more : {x : A} {xs : List A} → ((y : A) → List·Memᴰ y xs → R x y) → Ordered R xs → Ordered R (x ∷ xs)
+
+-- the place of the first byte that fails a test or is below a number, which rises above each byte passed
+unfoldable pub unfitFrom : (ℕ → Bool) → ℕ → ℕ → List ℕ → Option ℕ
+unfitFrom fits at least [] = none
+unfitFrom fits at least (r ∷ bytes) =
+    elim (leb least r && fits r) [
+      | true ↦ unfitFrom fits (suc at) (suc r) bytes
+      | false ↦ some at
+    ]

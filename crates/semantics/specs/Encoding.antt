@@ -6,7 +6,7 @@ use lib.ListN.{length}
 use Rattle.semantics.specs.Term.{agentType, freshType, trusted, untrusted, global, intruder, role, variable, local}
 use Rattle.semantics.specs.Table.{Row, atomic, pkOf, skOf, sharedOf, pairOf, encryptedOf}
 use Rattle.semantics.specs.Frame.{budgetOf}
-use Rattle.semantics.specs.Roles.{EventKind, send, read, claim, Event, Role}
+use Rattle.semantics.specs.Roles.{secrecy, EventKind, send, read, claim, Event, Role}
 use Rattle.semantics.specs.Runs.{Run}
 use Rattle.semantics.specs.Scenario.{Scenario, termPart, rolePart, runPart, knowledgePart}
 
@@ -59,7 +59,7 @@ pub data TermBytes : List Row → List ℕ → Type 0 where
 pub data KindByte : EventKind → ℕ → Type 0 where
   sendByte : KindByte send 0
   readByte : KindByte read 1
-  claimByte : KindByte claim 2
+  claimByte : KindByte (claim secrecy) 2
 
 -- "events of 4 bytes (kind ..; label; peer role; term row)", from a place in the file on
 pub data EventBytes : ℕ → List Event → List ℕ → Type 0 where

@@ -20,6 +20,7 @@ pub mod Derive
 pub mod Packing
 pub mod Allowed
 pub mod Demand
+pub mod Same
 pub mod Guarantee
 pub mod Meaning
 pub mod Encoding

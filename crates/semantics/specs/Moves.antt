@@ -13,7 +13,7 @@ use Rattle.semantics.specs.Value.{Reading, valueOf}
 use Rattle.semantics.specs.Roles.{EventKind, send, read, claim, Event}
 use Rattle.semantics.specs.Runs.{Run, atomAt}
 use Rattle.semantics.specs.Scenario.{Scenario}
-use Rattle.semantics.specs.State.{Value, Progress, State, Active, active, readingIn, newVariables, paired}
+use Rattle.semantics.specs.State.{Value, Progress, Message, State, Active, active, readingIn, newVariables, paired}
 
 -- "A trace is a row of steps: run (1 to 4), .. new values"
 pub record Move : Type 0 where
@@ -60,12 +60,7 @@ unfoldable pub choices : List Row → ℕ → List Atom → List (List Value)
 choices rows runs [] = [] ∷ []
 choices rows runs (x ∷ xs) = joined (λ v. map (λ vs. v ∷ vs) (choices rows runs xs)) (candidates rows runs x)
 
--- A message: the values of an event's sender, receiver and term. (A read's sender is its peer; nothing turns on which is which.)
-pub record Message : Type 0 where
-  pub sender : Term
-  pub receiver : Term
-  pub term : Term
-
+-- the message of an event
 unfoldable pub message : List Row → Reading → Run → Event → Option Message
 message rows reading run e =
     andThen (reading (role (run .role))) λ a.
@@ -79,7 +74,7 @@ knownAfter send known (some m) = some (m .sender ∷ m .receiver ∷ m .term ∷
 knownAfter read known none = none
 knownAfter read known (some m) =
     provided (derivable known (m .sender) && derivable known (m .receiver) && derivable known (m .term)) known
-knownAfter claim known m = some known
+knownAfter (claim kind) known m = some known
 
 -- the variables to which a run's next event gives values
 abbrev pub toSet : Scenario → Active → List Atom
@@ -116,6 +111,15 @@ movesOfRun sc s u (some a) =
     presentOnes
     (map (λ vs. mapped (branch u vs) (performed sc s a vs)) (choices (sc .rows) (length (sc .runs)) (toSet sc a)))
 
+-- Which list of traces is meant, by the moves that it goes on with.
+pub data Listing : Type 0 where
+  -- every allowed move
+  full : Listing
+
+-- the runs whose moves a list goes on with
+unfoldable pub runsIn : Listing → Scenario → State → List ℕ
+runsIn full sc s = numbersFrom 1 (length (sc .runs))
+
 -- the moves of a state, "ordered by run, then by the new values"
-unfoldable pub movesOf : Scenario → State → List (Move × State)
-movesOf sc s = joined (λ u. movesOfRun sc s u (active sc s u)) (numbersFrom 1 (length (sc .runs)))
+unfoldable pub movesIn : Listing → Scenario → State → List (Move × State)
+movesIn l sc s = joined (λ u. movesOfRun sc s u (active sc s u)) (runsIn l sc s)

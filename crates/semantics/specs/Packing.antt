@@ -5,9 +5,11 @@ use mathlib.Core.Bool.{Bool, true, false}
 use mathlib.Core.Option.{Option, none, some}
 use lib.Dec.{eqb}
 use lib.ListN.{length}
+use Rattle.semantics.specs.Roles.{ClaimKind, secrecy}
+use Rattle.semantics.specs.State.{Claim}
 use Rattle.semantics.specs.Answer.{Refusal, Answer, refused, accepted}
 use Rattle.semantics.specs.Scenario.{Scenario}
-use Rattle.semantics.specs.Verdict.{Claim, ClaimKind, secrecy, Verdict, brokenAt, held, stopped, traceBytes}
+use Rattle.semantics.specs.Verdict.{Verdict, brokenAt, held, stopped, traceBytes}
 
 -- the words
 abbrev pub refusedWord : ℕ

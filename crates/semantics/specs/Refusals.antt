@@ -10,7 +10,7 @@ use Rattle.semantics.specs.Term.{agentType, Atom, trusted, untrusted, ro
 use Rattle.semantics.specs.Table.{Row, atomic, pkOf, skOf, sharedOf, pairOf, encryptedOf, variableRow, rowsFrom}
 use Rattle.semantics.specs.Value.{withoutVariables, withoutRun}
 use Rattle.semantics.specs.Frame.{Part, unversioned, tooLong, misframed}
-use Rattle.semantics.specs.Roles.{EventKind, send, read, claim, Event, Role, eventCount, knowledgeIn, eventsIn, roleLength, rolesFrom, badRole, absentRoleFrom}
+use Rattle.semantics.specs.Roles.{secrecy, EventKind, send, read, claim, Event, Role, eventCount, knowledgeIn, eventsIn, roleLength, rolesFrom, badRole, absentRoleFrom}
 use Rattle.semantics.specs.WellFormed.{learned, eventTerm, roleKnowledge, illFormed}
 use Rattle.semantics.specs.Runs.{runIn, badRun, badKnowledgeFrom}
 use Rattle.semantics.specs.Scenario.{Scenario, termPart, knowledgePart, roleParts, roleCount, runParts, opened}
@@ -77,7 +77,7 @@ pub data FirstBad (Good : ℕ → Part → Type 0) : ℕ → List Part → ℕ �
 pub data PeerFits (roles : ℕ) : EventKind → ℕ → Type 0 where
   sendsTo : {peer : ℕ} → peer < roles → PeerFits roles send peer
   readsFrom : {peer : ℕ} → peer < roles → PeerFits roles read peer
-  claims : {peer : ℕ} → peer ≡ 0 → PeerFits roles claim peer
+  claims : {peer : ℕ} → peer ≡ 0 → PeerFits roles (claim secrecy) peer
 
 -- "6, at the first record of which it holds: a role record incomplete, a fifth, with more than 8 events, or against the previous section, with peer and rows present and no variable beneath its knowledge": a record of which it does not hold
 pub record GoodRoleRecord (rows : List Row) (roles i : ℕ) (part : Part) : Type 0 where

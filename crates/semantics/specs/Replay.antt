@@ -10,9 +10,9 @@ use Rattle.semantics.specs.Answer.{Answer, refused, accepted, refuse, _>
 use Rattle.semantics.specs.Term.{Atom}
 use Rattle.semantics.specs.Table.{Row}
 use Rattle.semantics.specs.Scenario.{Scenario, opened}
-use Rattle.semantics.specs.State.{Value, State, initial, Active, active}
+use Rattle.semantics.specs.State.{Value, State, initial, Active, active, Claim}
 use Rattle.semantics.specs.Moves.{Move, candidates, toSet, performed}
-use Rattle.semantics.specs.Verdict.{Claim, broken}
+use Rattle.semantics.specs.Verdict.{broken}
 
 abbrev pub sameValue : Value → Value → Bool
 sameValue v w = eqb (v .row) (w .row) && eqb (v .run) (w .run)

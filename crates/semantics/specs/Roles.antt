@@ -12,12 +12,23 @@ use Rattle.semantics.specs.Table.{Row, atomic, pkOf, skOf, sharedOf, pai
 use Rattle.semantics.specs.Value.{valueOf, withoutVariables}
 use Rattle.semantics.specs.Frame.{Part, records, complete, firstBad}
 
+-- "events: send, read, secrecy claim"
+pub data ClaimKind : Type 0 where
+  secrecy : ClaimKind
+
 -- "kind 0 send, 1 read, 2 claim"
 pub data EventKind : Type 0 where
-  send read claim : EventKind
+  send read : EventKind
+  claim : ClaimKind → EventKind
 
 abbrev pub eventKinds : List EventKind
-eventKinds = send ∷ read ∷ claim ∷ []
+eventKinds = send ∷ read ∷ claim secrecy ∷ []
+
+-- the kind of claim that an event is, if it is one
+abbrev pub claimKind : EventKind → Option ClaimKind
+claimKind send = none
+claimKind read = none
+claimKind (claim kind) = some kind
 
 -- "events of 4 bytes (kind ..; label; peer role; term row)". The label names the event and decides nothing.
 pub record Event : Type 0 where
@@ -79,7 +90,7 @@ rolesPresent parts = min mostRoles (length parts)
 abbrev pub peerFits : ℕ → EventKind → ℕ → Bool
 peerFits roles send peer = ltb peer roles
 peerFits roles read peer = ltb peer roles
-peerFits roles claim peer = eqb peer 0
+peerFits roles (claim secrecy) peer = eqb peer 0
 
 abbrev pub eventFits : List Row → ℕ → Option Event → Bool
 eventFits rows roles none = false

@@ -5,7 +5,7 @@ use mathlib.Core.List.{List, [], _∷_, _++_, map}
 use mathlib.Core.Option.{Option, none, some}
 use lib.Dec.{ltb, leb}
 use lib.ListN.{getD, getElem?, drop}
-use Rattle.semantics.specs.Basic.{present, every}
+use Rattle.semantics.specs.Basic.{present, every, unfitFrom}
 use Rattle.semantics.specs.Limits.{mostRuns}
 use Rattle.semantics.specs.Term.{Atom, trusted, untrusted, global, intruder, role, variable, local}
 use Rattle.semantics.specs.Table.{Row, atomic, pkOf, skOf, sharedOf, pairOf, encryptedOf}
@@ -51,6 +51,10 @@ isAgent (some (role i)) = false
 isAgent (some (variable n t)) = false
 isAgent (some (local n u)) = false
 
+-- "a run whose agents (over the file's roles) are all trusted"
+unfoldable pub allTrusted : List Row → Run → Bool
+allTrusted rows run = every (λ r. isTrusted (atomAt rows r)) (run .agents)
+
 -- "role, then one agent row for each role"
 abbrev pub runLength : ℕ → List ℕ → ℕ
 runLength roles bytes = suc roles
@@ -76,10 +80,5 @@ unfoldable pub runsFrom : List Part → List Run
 runsFrom parts = map runIn parts
 
 -- "Knowledge: rows rising, with no role name, variable or local constant beneath." "9: a knowledge byte against its rule", the byte being at least a number.
-unfoldable pub badKnowledgeFrom : List Row → ℕ → ℕ → List ℕ → Option ℕ
-badKnowledgeFrom rows at least [] = none
-badKnowledgeFrom rows at least (r ∷ bytes) =
-    elim (leb least r && present (valueOf withoutRun rows r)) [
-      | true ↦ badKnowledgeFrom rows (suc at) (suc r) bytes
-      | false ↦ some at
-    ]
+abbrev pub badKnowledgeFrom : List Row → ℕ → ℕ → List ℕ → Option ℕ
+badKnowledgeFrom rows at least bytes = unfitFrom (λ r. present (valueOf withoutRun rows r)) at least bytes

@@ -9,7 +9,7 @@ use Rattle.semantics.specs.Basic.{decided, present, andThen, mapped, kee
 use Rattle.semantics.specs.Term.{Atom, trusted, untrusted, global, intruder, role, variable, local, atom?, Term, atom}
 use Rattle.semantics.specs.Table.{Row, variableAtom}
 use Rattle.semantics.specs.Value.{Reading, valueOf, withoutRun, beneath}
-use Rattle.semantics.specs.Roles.{EventKind, send, read, claim, Event, Role}
+use Rattle.semantics.specs.Roles.{ClaimKind, EventKind, send, read, claim, Event, Role}
 use Rattle.semantics.specs.Runs.{Run, atomAt}
 use Rattle.semantics.specs.Scenario.{Scenario}
 
@@ -24,6 +24,18 @@ pub record Progress : Type 0 where
   pub done : ℕ
   -- its variables that have a value
   pub values : List (Atom × Value)
+
+-- A message: the values of an event's sender, receiver and term. (A read's sender is its peer; nothing turns on which is which.)
+pub record Message : Type 0 where
+  pub sender : Term
+  pub receiver : Term
+  pub term : Term
+
+-- A claim of the scenario: "run from 1, event from 0".
+pub record Claim : Type 0 where
+  pub run : ℕ
+  pub event : ℕ
+  pub kind : ClaimKind
 
 pub record State : Type 0 where
   pub known : List Term
@@ -116,7 +128,7 @@ unsetBeneath rows sets pattern =
 unfoldable pub newVariables : List Row → List (Atom × Value) → EventKind → ℕ → List Atom
 newVariables rows sets send row = []
 newVariables rows sets read row = unsetBeneath rows sets row
-newVariables rows sets claim row = []
+newVariables rows sets (claim kind) row = []
 
 -- variables with their values, in order
 abbrev pub paired : List Atom → List Value → List (Atom × Value)

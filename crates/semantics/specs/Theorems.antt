@@ -17,16 +17,16 @@ use Rattle.semantics.specs.Value.{Reading, valueOf, beneath, withoutVari
 use Rattle.semantics.specs.Frame.{Part, unversioned, tooLong, misframed, budgetOf}
 use Rattle.semantics.specs.Roles.{EventKind, read, Event, Role, rolesPresent, badRole, absentRoleFrom}
 use Rattle.semantics.specs.WellFormed.{readable, wellFormed, learned, roleKnowledge, illFormed}
-use Rattle.semantics.specs.Runs.{Run, badRun, badKnowledgeFrom}
+use Rattle.semantics.specs.Runs.{Run, badRun, badKnowledgeFrom, allTrusted}
 use Rattle.semantics.specs.Scenario.{Scenario, opened}
-use Rattle.semantics.specs.State.{Value, Progress, State, Active, active, assigned, readingIn, initial, eventsOf, unsetBeneath, newVariables}
-use Rattle.semantics.specs.Moves.{Move, Message, message, toSet, setAfter, messageAfter, advanced, movesOf}
+use Rattle.semantics.specs.State.{Value, Progress, State, Active, active, assigned, readingIn, initial, eventsOf, unsetBeneath, newVariables, Message, Claim}
+use Rattle.semantics.specs.Moves.{Move, message, toSet, setAfter, messageAfter, advanced, Listing, full, movesIn}
 use Rattle.semantics.specs.Tree.{Earlier}
-use Rattle.semantics.specs.Verdict.{Entry, Claim, traceList, allTrusted, broken, Verdict, brokenAt, held, stopped, traceBytes, searched, bufferAfter}
+use Rattle.semantics.specs.Verdict.{Entry, traceList, broken, Verdict, brokenAt, held, stopped, traceBytes, searchedIn, searched, bufferIn, bufferAfter}
 use Rattle.semantics.specs.Replay.{after, replayed}
 use Rattle.semantics.specs.Derive.{absentFrom, derived}
 use Rattle.semantics.specs.Packing.{packedDerived, packedOpened, packedReplayed, packedSearched, readWord, DeriveRead, OpenRead, ReplayRead, SearchRead}
-use Rattle.semantics.specs.Allowed.{Readable, WellFormed, Takes, Step, AllowedTrace, MoveBefore, Breaks, Names}
+use Rattle.semantics.specs.Allowed.{Readable, WellFormed, Takes, Step, AllowedTrace, StepIn, TraceIn, MoveBefore, Breaks, Names}
 use Rattle.semantics.specs.Demand.{DeriveAsks, SomeBreak, FirstBreak, NoBreak}
 use Rattle.semantics.specs.Guarantee.{GoodTable, Guarantee}
 use Rattle.semantics.specs.Meaning.{InverseIs, ValueIs, LiesBeneath, StandsFor, NoVariable, Constant, Passes, ActiveIn, TermsOf, KnownAtStart, UnsetAt}
@@ -111,7 +111,7 @@ absent-exactly = condition.absentFrom-exactly
 pub open-refuses : (file : List ℕ) (n at : ℕ) → (opened file ≡ refuse n at) ↔ OpenRefuses file n at
 open-refuses = refusal.open-refuses
 
-pub search-refuses : (file buffer : List ℕ) (n at : ℕ) → (searched file buffer ≡ refuse n at) ↔ SearchRefuses file buffer n at
+pub search-refuses : (l : Listing) (file buffer : List ℕ) (n at : ℕ) → (searchedIn l file buffer ≡ refuse n at) ↔ SearchRefuses file buffer n at
 search-refuses = operation.search-refuses
 
 pub derive-refuses : (table list : List ℕ) (target n at : ℕ) → (derived table list target ≡ refuse n at) ↔ DeriveRefuses table list target n at
@@ -129,9 +129,9 @@ pub open-total : (file : List ℕ) → ((sc : Scenario) × (opened file ≡ acce
 open-total = place.open-total
 
 pub search-total :
-    (file buffer : List ℕ)
-    → ((v : Verdict) × (searched file buffer ≡ accepted v))
-    ⊎ ((n : ℕ) × (at : ℕ) × (searched file buffer ≡ refuse n at) × (((1 ≤ n) × (n ≤ 9) × (at ≤ length file)) ⊎ ((n ≡ 10) × (at ≡ length buffer))))
+    (l : Listing) (file buffer : List ℕ)
+    → ((v : Verdict) × (searchedIn l file buffer ≡ accepted v))
+    ⊎ ((n : ℕ) × (at : ℕ) × (searchedIn l file buffer ≡ refuse n at) × (((1 ≤ n) × (n ≤ 9) × (at ≤ length file)) ⊎ ((n ≡ 10) × (at ≡ length buffer))))
 search-total = place.search-total
 
 pub derive-total :
@@ -148,15 +148,15 @@ replay-total = place.replay-total
 
 -- A refused call, HELD and STOPPED leave the lent buffer as it was. BROKEN leaves the trace at its front, the rest kept, the length kept.
 pub search-keeps :
-    (file buffer : List ℕ) (b : Answer Verdict) → searched file buffer ≡ b → ((p : ℕ) (ms : List Move) (x : Claim) → ¬ (b ≡ accepted (brokenAt p ms x)))
-    → bufferAfter file buffer ≡ buffer
+    (l : Listing) (file buffer : List ℕ) (b : Answer Verdict) → searchedIn l file buffer ≡ b → ((p : ℕ) (ms : List Move) (x : Claim) → ¬ (b ≡ accepted (brokenAt p ms x)))
+    → bufferIn l file buffer ≡ buffer
 search-keeps = operation.search-keeps
 
 pub search-writes :
-    (file buffer : List ℕ) (p : ℕ) (ms : List Move) (x : Claim) → searched file buffer ≡ accepted (brokenAt p ms x)
-    → (take (length (traceBytes ms)) (bufferAfter file buffer) ≡ traceBytes ms)
-    × (drop (length (traceBytes ms)) (bufferAfter file buffer) ≡ drop (length (traceBytes ms)) buffer)
-    × (length (bufferAfter file buffer) ≡ length buffer)
+    (l : Listing) (file buffer : List ℕ) (p : ℕ) (ms : List Move) (x : Claim) → searchedIn l file buffer ≡ accepted (brokenAt p ms x)
+    → (take (length (traceBytes ms)) (bufferIn l file buffer) ≡ traceBytes ms)
+    × (drop (length (traceBytes ms)) (bufferIn l file buffer) ≡ drop (length (traceBytes ms)) buffer)
+    × (length (bufferIn l file buffer) ≡ length buffer)
 search-writes = operation.search-writes
 
 -- DEMAND 2. "A term is reported derivable from a finite set of terms exactly if the inference rules derive it, through terms inside or outside the table."
@@ -200,28 +200,28 @@ wellFormed-decided = well.wellFormed-exact
 
 -- DEMAND 3. "For every scenario that Search accepts, whatever its budget: BROKEN exactly if some allowed trace, at a place in the list up to the budget, passes a secrecy claim of a run whose agents are all trusted and ends with the claimed value derivable; trace, place and claim are those of the first such trace in the list."
 pub search-broken :
-    (file buffer : List ℕ) (p : ℕ) (ms : List Move) (x : Claim)
-    → (searched file buffer ≡ accepted (brokenAt p ms x)) ↔ ((sc : Scenario) × (opened file ≡ accepted sc) × (128 ≤ length buffer) × FirstBreak sc p ms x)
+    (l : Listing) (file buffer : List ℕ) (p : ℕ) (ms : List Move) (x : Claim)
+    → (searchedIn l file buffer ≡ accepted (brokenAt p ms x)) ↔ ((sc : Scenario) × (opened file ≡ accepted sc) × (128 ≤ length buffer) × FirstBreak l sc p ms x)
 search-broken = operation.search-broken
 
 pub search-breaks :
-    (file buffer : List ℕ)
-    → ((p : ℕ) × (ms : List Move) × (x : Claim) × (searched file buffer ≡ accepted (brokenAt p ms x)))
-    ↔ ((sc : Scenario) × (opened file ≡ accepted sc) × (128 ≤ length buffer) × SomeBreak sc)
+    (l : Listing) (file buffer : List ℕ)
+    → ((p : ℕ) × (ms : List Move) × (x : Claim) × (searchedIn l file buffer ≡ accepted (brokenAt p ms x)))
+    ↔ ((sc : Scenario) × (opened file ≡ accepted sc) × (128 ≤ length buffer) × SomeBreak l sc)
 search-breaks = operation.search-breaks
 
 -- "HELD exactly if no allowed trace at all does so and the list is no longer than the budget; its number is the list's length."
 pub search-held :
-    (file buffer : List ℕ) (n : ℕ)
-    → (searched file buffer ≡ accepted (held n))
-    ↔ ((sc : Scenario) × (opened file ≡ accepted sc) × (128 ≤ length buffer) × NoBreak sc × (length (traceList sc) ≤ budgetOf file) × (n ≡ length (traceList sc)))
+    (l : Listing) (file buffer : List ℕ) (n : ℕ)
+    → (searchedIn l file buffer ≡ accepted (held n))
+    ↔ ((sc : Scenario) × (opened file ≡ accepted sc) × (128 ≤ length buffer) × NoBreak l sc × (length (traceList l sc) ≤ budgetOf file) × (n ≡ length (traceList l sc)))
 search-held = operation.search-held
 
 -- "STOPPED in all other cases; its number is the budget."
 pub search-stopped :
-    (file buffer : List ℕ) (n : ℕ)
-    → (searched file buffer ≡ accepted (stopped n))
-    ↔ ((sc : Scenario) × (opened file ≡ accepted sc) × (128 ≤ length buffer) × (n ≡ budgetOf file) × (¬ SomeBreak sc) × (¬ (NoBreak sc × (length (traceList sc) ≤ budgetOf file))))
+    (l : Listing) (file buffer : List ℕ) (n : ℕ)
+    → (searchedIn l file buffer ≡ accepted (stopped n))
+    ↔ ((sc : Scenario) × (opened file ≡ accepted sc) × (128 ≤ length buffer) × (n ≡ budgetOf file) × (¬ SomeBreak l sc) × (¬ (NoBreak l sc × (length (traceList l sc) ≤ budgetOf file))))
 search-stopped = operation.search-stopped
 
 pub budget-of-file : (file : List ℕ) (sc : Scenario) → opened file ≡ accepted sc → sc .budget ≡ budgetOf file
@@ -234,19 +234,26 @@ claim-named = break.broken-named
 pub claim-none : (sc : Scenario) (s : State) → (broken sc s ≡ none) ↔ ((x : Claim) → Breaks sc s x → ⊥)
 claim-none = break.broken-none
 
--- The list holds exactly the allowed traces, each once, in order, a trace before its extensions.
-pub list-allowed : (sc : Scenario) (ms : List Move) (s : State) → List·Memᴰ (ms, s) (traceList sc) ↔ AllowedTrace sc ms s
+-- Search goes through the full list, which is the list of all allowed traces.
+pub search-full : (file buffer : List ℕ) → (searched file buffer ≡ searchedIn full file buffer) × (bufferAfter file buffer ≡ bufferIn full file buffer)
+search-full file buffer = (refl, refl)
+
+pub full-list : (sc : Scenario) (ms : List Move) (s : State) → TraceIn full sc ms s ↔ AllowedTrace sc ms s
+full-list = trace.full-exact
+
+-- A list holds exactly its traces, each once, in order, a trace before its extensions.
+pub list-allowed : (l : Listing) (sc : Scenario) (ms : List Move) (s : State) → List·Memᴰ (ms, s) (traceList l sc) ↔ TraceIn l sc ms s
 list-allowed = trace.traces-exact
 
 pub list-in-order :
-    (sc : Scenario) (i j : ℕ) (e f : Entry) → getElem? (traceList sc) i ≡ some e → getElem? (traceList sc) j ≡ some f → (i < j) ↔ Earlier MoveBefore (e .0) (f .0)
+    (l : Listing) (sc : Scenario) (i j : ℕ) (e f : Entry) → getElem? (traceList l sc) i ≡ some e → getElem? (traceList l sc) j ≡ some f → (i < j) ↔ Earlier MoveBefore (e .0) (f .0)
 list-in-order = trace.traces-ordered
 
-pub list-once : (sc : Scenario) (i j : ℕ) (e f : Entry) → getElem? (traceList sc) i ≡ some e → getElem? (traceList sc) j ≡ some f → e .0 ≡ f .0 → i ≡ j
+pub list-once : (l : Listing) (sc : Scenario) (i j : ℕ) (e f : Entry) → getElem? (traceList l sc) i ≡ some e → getElem? (traceList l sc) j ≡ some f → e .0 ≡ f .0 → i ≡ j
 list-once = trace.traces-once
 
 pub list-extensions :
-    (sc : Scenario) (i j : ℕ) (e f : Entry) → getElem? (traceList sc) i ≡ some e → getElem? (traceList sc) j ≡ some f → (m : Move) (ms : List Move)
+    (l : Listing) (sc : Scenario) (i j : ℕ) (e f : Entry) → getElem? (traceList l sc) i ≡ some e → getElem? (traceList l sc) j ≡ some f → (m : Move) (ms : List Move)
     → f .0 ≡ e .0 ++ m ∷ ms → i < j
 list-extensions = trace.traces-prefix
 
@@ -258,11 +265,11 @@ trace-end = trace.traces-end
 pub trace-fits : (sc : Scenario) → Guarantee sc → (ms : List Move) (s : State) → AllowedTrace sc ms s → length (traceBytes ms) ≤ mostTraceBytes
 trace-fits = bytes.trace-bytes
 
--- The moves of a state are exactly the allowed moves, in order; so is the move that Replay takes.
-pub moves-allowed : (sc : Scenario) (s : State) (m : Move) (s′ : State) → List·Memᴰ (m, s′) (movesOf sc s) ↔ Step sc s m s′
+-- The moves that a list goes on with are exactly those, in order, and of the full list every allowed move; so is the move that Replay takes.
+pub moves-allowed : (sc : Scenario) (s : State) (l : Listing) (m : Move) (s′ : State) → List·Memᴰ (m, s′) (movesIn l sc s) ↔ StepIn l sc s m s′
 moves-allowed = move.moves-exact
 
-pub moves-in-order : (sc : Scenario) (s : State) → Ordered (λ b e. MoveBefore (b .0) (e .0)) (movesOf sc s)
+pub moves-in-order : (sc : Scenario) (s : State) (l : Listing) → Ordered (λ b e. MoveBefore (b .0) (e .0)) (movesIn l sc s)
 moves-in-order = move.moves-ordered
 
 pub replayed-move-allowed : (sc : Scenario) (s : State) (m : Move) (s′ : State) → (after sc s m ≡ some s′) ↔ Step sc s m s′
@@ -276,7 +283,7 @@ pub replay-answers :
 replay-answers = operation.replay-answers
 
 pub search-replays :
-    (file buffer : List ℕ) (p : ℕ) (ms : List Move) (x : Claim) → searched file buffer ≡ accepted (brokenAt p ms x) → replayed file (traceBytes ms) ≡ accepted (some x)
+    (l : Listing) (file buffer : List ℕ) (p : ℕ) (ms : List Move) (x : Claim) → searchedIn l file buffer ≡ accepted (brokenAt p ms x) → replayed file (traceBytes ms) ≡ accepted (some x)
 search-replays = operation.search-replays
 
 -- IN PLAIN WORDS. What stands on both sides of the statements above. Known at the start are the file's list and the intruder constants of the table; no run has moved.
@@ -381,9 +388,9 @@ passed-event-has-value = reach.passed-value
 
 -- TO THE CALLER. The word of Search's number is HELD's exactly if the file is accepted, the buffer is long enough, no allowed trace breaks a claim and the list is no longer than the budget.
 pub held-read :
-    (file buffer : List ℕ)
-    → (readWord (packedSearched (searched file buffer)) ≡ 1)
-    ↔ ((sc : Scenario) × (opened file ≡ accepted sc) × (128 ≤ length buffer) × NoBreak sc × (length (traceList sc) ≤ budgetOf file))
+    (l : Listing) (file buffer : List ℕ)
+    → (readWord (packedSearched (searchedIn l file buffer)) ≡ 1)
+    ↔ ((sc : Scenario) × (opened file ≡ accepted sc) × (128 ≤ length buffer) × NoBreak l sc × (length (traceList l sc) ≤ budgetOf file))
 held-read = caller.held-read
 
 pub held-word : (b : Answer Verdict) → (readWord (packedSearched b) ≡ 1) ↔ ((n : ℕ) × (b ≡ accepted (held n)))
@@ -397,7 +404,7 @@ pub derivable-word : (b : Answer Bool) → (readWord (packedDerived b) ≡ 5) �
 derivable-word = packing.derivable-word
 
 -- The readers give back word, number, place, run, event, kind and length of what was packed, for every answer that can be given.
-pub search-read-back : (file buffer : List ℕ) → ((b : ℕ) → List·Memᴰ b file → b < 256) → SearchRead (packedSearched (searched file buffer)) (searched file buffer)
+pub search-read-back : (l : Listing) (file buffer : List ℕ) → ((b : ℕ) → List·Memᴰ b file → b < 256) → SearchRead (packedSearched (searchedIn l file buffer)) (searchedIn l file buffer)
 search-read-back = caller.search-read-back
 
 pub open-read-back : (file : List ℕ) → OpenRead (packedOpened (opened file)) (opened file)

@@ -5,17 +5,17 @@ use mathlib.Core.List.{List, [], _∷_, _++_, map}
 use mathlib.Core.Option.{Option, none, some}
 use lib.Dec.{ltb}
 use lib.ListN.{length, getElem?, drop}
-use Rattle.semantics.specs.Basic.{andThen, provided, every, joined, numbersFrom, firstOf}
+use Rattle.semantics.specs.Basic.{andThen, provided, joined, numbersFrom, firstOf}
 use Rattle.semantics.specs.Limits.{mostTraceBytes}
 use Rattle.semantics.specs.Answer.{Answer, refused, accepted, checked, _>>=_, _>>_}
 use Rattle.semantics.specs.Inference.{derivable}
-use Rattle.semantics.specs.Table.{Row}
+use Rattle.semantics.specs.Term.{Term}
 use Rattle.semantics.specs.Value.{valueOf}
-use Rattle.semantics.specs.Roles.{EventKind, send, read, claim, Event}
-use Rattle.semantics.specs.Runs.{Run, atomAt, isTrusted}
+use Rattle.semantics.specs.Roles.{ClaimKind, secrecy, claimKind, Event}
+use Rattle.semantics.specs.Runs.{Run, allTrusted}
 use Rattle.semantics.specs.Scenario.{Scenario, opened}
-use Rattle.semantics.specs.State.{Value, Progress, State, initial, eventsOf, readingIn, eventsLeft}
-use Rattle.semantics.specs.Moves.{Move, movesOf}
+use Rattle.semantics.specs.State.{Value, Progress, State, Claim, initial, eventsOf, readingIn, eventsLeft}
+use Rattle.semantics.specs.Moves.{Move, Listing, full, movesIn}
 use Rattle.semantics.specs.Tree.{listed}
 
 -- a trace with the state that it ends in
@@ -23,32 +23,27 @@ abbrev pub Entry : Type 0
 Entry = List Move × State
 
 -- "The list has each of them once; the file alone fixes it"
-unfoldable pub traceList : Scenario → List Entry
-traceList sc = listed (movesOf sc) (eventsLeft sc (initial sc)) (initial sc)
+unfoldable pub traceList : Listing → Scenario → List Entry
+traceList l sc = listed (movesIn l sc) (eventsLeft sc (initial sc)) (initial sc)
 
-pub data ClaimKind : Type 0 where
-  secrecy : ClaimKind
+-- "the claimed value is the claim's term as it stands in that run"
+abbrev pub claimedValue : Scenario → ℕ → Run → Progress → Event → Option Term
+claimedValue sc u run p e = valueOf (readingIn (sc .rows) u run (p .values)) (sc .rows) (e .row)
 
--- A claim of the scenario: "run from 1, event from 0".
-pub record Claim : Type 0 where
-  pub run : ℕ
-  pub event : ℕ
-  pub kind : ClaimKind
+-- whether a term is there and derivable
+abbrev pub isKnown : List Term → Option Term → Bool
+isKnown known none = false
+isKnown known (some t) = derivable known t
 
--- "a run whose agents (over the file's roles) are all trusted"
-unfoldable pub allTrusted : List Row → Run → Bool
-allTrusted rows run = every (λ r. isTrusted (atomAt rows r)) (run .agents)
+-- whether a claim of a kind does not hold at the end of a trace: "the claimed value is derivable at the trace's end"
+abbrev pub isAgainst : Scenario → State → ℕ → Run → Progress → Event → ClaimKind → Bool
+isAgainst sc s u run p e secrecy = isKnown (s .known) (claimedValue sc u run p e)
 
-abbrev pub isClaim : EventKind → Bool
-isClaim send = false
-isClaim read = false
-isClaim claim = true
-
--- "the claimed value is the claim's term as it stands in that run": whether an event is a claim that is broken at the end of a trace
+-- the claim of an event, if it is one and the trace breaks it
 unfoldable pub brokenEvent : Scenario → State → ℕ → Run → Progress → ℕ → Event → Option Claim
 brokenEvent sc s u run p j e =
-    andThen (valueOf (readingIn (sc .rows) u run (p .values)) (sc .rows) (e .row)) λ t.
-    provided (isClaim (e .kind) && allTrusted (sc .rows) run && derivable (s .known) t) (record { run = u; event = j; kind = secrecy })
+    andThen (claimKind (e .kind)) λ kind.
+    provided (allTrusted (sc .rows) run && isAgainst sc s u run p e kind) (record { run = u; event = j; kind = kind })
 
 -- "A trace passes a claim in a run if that claim is among the run's moves in it": the run's first broken claim among the events that it has made
 unfoldable pub brokenInRun : Scenario → State → ℕ → Option Claim
@@ -93,10 +88,11 @@ verdictFrom size budget (found n e c) = brokenAt n (e .0) c
 verdictFrom size budget nothing = held size
 verdictFrom size budget cut = stopped budget
 
-unfoldable pub verdict : Scenario → Verdict
-verdict sc =
-    verdictFrom (length (traceList sc)) (sc .budget)
-    (walked (λ e. broken sc (e .1)) (sc .budget) (traceList sc))
+-- the verdict by a list
+unfoldable pub verdict : Listing → Scenario → Verdict
+verdict l sc =
+    verdictFrom (length (traceList l sc)) (sc .budget)
+    (walked (λ e. broken sc (e .1)) (sc .budget) (traceList l sc))
 
 -- "run (1 to 4), count of new values, two bytes (row, run) for each"
 abbrev pub valueBytes : List Value → List ℕ
@@ -114,11 +110,15 @@ unfoldable pub shortBuffer : List ℕ → Option ℕ
 shortBuffer buffer = provided (ltb (length buffer) mostTraceBytes) (length buffer)
 
 -- "Search refuses as Open, then 10"
-unfoldable pub searched : List ℕ → List ℕ → Answer Verdict
-searched file buffer = do
+unfoldable pub searchedIn : Listing → List ℕ → List ℕ → Answer Verdict
+searchedIn l file buffer = do
   sc ← opened file
   checked 10 (shortBuffer buffer)
-  accepted (verdict sc)
+  accepted (verdict l sc)
+
+-- Search, which goes through the list of all allowed traces
+abbrev pub searched : List ℕ → List ℕ → Answer Verdict
+searched file buffer = searchedIn full file buffer
 
 -- "BROKEN writes the trace at the buffer's front .. and keeps the rest ..; HELD and STOPPED keep all of it." A refusal changes no lent byte.
 abbrev pub written : List ℕ → Answer Verdict → List ℕ
@@ -127,5 +127,8 @@ written buffer (accepted (brokenAt n ms c)) = traceBytes ms ++ drop (length (tra
 written buffer (accepted (held n)) = buffer
 written buffer (accepted (stopped n)) = buffer
 
-unfoldable pub bufferAfter : List ℕ → List ℕ → List ℕ
-bufferAfter file buffer = written buffer (searched file buffer)
+unfoldable pub bufferIn : Listing → List ℕ → List ℕ → List ℕ
+bufferIn l file buffer = written buffer (searchedIn l file buffer)
+
+abbrev pub bufferAfter : List ℕ → List ℕ → List ℕ
+bufferAfter file buffer = bufferIn full file buffer

@@ -8,7 +8,7 @@ use Rattle.semantics.specs.Term.{Atom, trusted, untrusted, global, intru
 use Rattle.semantics.specs.Inference.{derivable}
 use Rattle.semantics.specs.Table.{Row}
 use Rattle.semantics.specs.Value.{valueOf, asAtoms}
-use Rattle.semantics.specs.Roles.{EventKind, send, read, claim, Event, Role}
+use Rattle.semantics.specs.Roles.{secrecy, EventKind, send, read, claim, Event, Role}
 
 -- "A variable can always occur in a read pattern. Any other term can only occur .. if it can be inferred" (000)
 unfoldable pub readableAtom : List Term → Atom → Bool
@@ -34,13 +34,13 @@ readable known (encrypted t k) = derivable known (encrypted t k) || (derivable k
 unfoldable pub wellFormed : ℕ → List Term → EventKind → ℕ → Term → Bool
 wellFormed own known send peer t = derivable known (atom (role own)) && derivable known (atom (role peer)) && derivable known t
 wellFormed own known read peer t = derivable known (atom (role own)) && derivable known (atom (role peer)) && readable known t
-wellFormed own known claim peer t = derivable known (atom (role own)) && derivable known t
+wellFormed own known (claim secrecy) peer t = derivable known (atom (role own)) && derivable known t
 
 -- "A read adds its whole pattern to the role's knowledge and nothing else."
 abbrev pub learned : List Term → EventKind → Term → List Term
 learned known send t = known
 learned known read t = t ∷ known
-learned known claim t = known
+learned known (claim kind) t = known
 
 -- the term of an event, at role level
 unfoldable pub eventTerm : List Row → Event → Option Term

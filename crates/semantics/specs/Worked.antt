@@ -5,14 +5,15 @@ use mathlib.Core.Bool.{Bool, true, false}
 use mathlib.Core.Option.{Option, none, some}
 use mathlib.Core.List.{List, [], _∷_, _++_}
 use lib.ListN.{length, replicate}
+use Rattle.semantics.specs.Roles.{secrecy}
 use Rattle.semantics.specs.Basic.{joined, numbersFrom}
 use Rattle.semantics.specs.Limits.{mostTraceBytes}
 use Rattle.semantics.specs.Answer.{Answer, accepted, refuse}
 use Rattle.semantics.specs.Term.{trusted, global, Term, atom}
 use Rattle.semantics.specs.Scenario.{opened}
-use Rattle.semantics.specs.State.{Value}
+use Rattle.semantics.specs.State.{Value, Claim}
 use Rattle.semantics.specs.Moves.{Move}
-use Rattle.semantics.specs.Verdict.{secrecy, Claim, Verdict, brokenAt, held, stopped, searched, bufferAfter}
+use Rattle.semantics.specs.Verdict.{Verdict, brokenAt, held, stopped, searched, bufferAfter}
 use Rattle.semantics.specs.Replay.{replayed}
 use Rattle.semantics.specs.Derive.{derived}
 
@@ -20,9 +21,13 @@ use Rattle.semantics.specs.Derive.{derived}
 abbrev block : List ℕ → List ℕ
 block bytes = 0 ∷ length bytes ∷ bytes
 
--- a file with a budget below 256
+-- a file of a version with a budget below 256 and some blocks
+abbrev fileOf : ℕ → ℕ → List (List ℕ) → List ℕ
+fileOf version budget blocks = version ∷ 0 ∷ 0 ∷ 0 ∷ budget ∷ joined block blocks
+
+-- "First a version byte 1 .. then four blocks"
 abbrev file : ℕ → List ℕ → List ℕ → List ℕ → List ℕ → List ℕ
-file budget terms roles runs knowledge = 1 ∷ 0 ∷ 0 ∷ 0 ∷ budget ∷ (block terms ++ (block roles ++ (block runs ++ block knowledge)))
+file budget terms roles runs knowledge = fileOf 1 budget (terms ∷ roles ∷ runs ∷ knowledge ∷ [])
 
 -- two agents, the second of kind 1 (trusted) or 2; both role names; a local constant n
 abbrev names : ℕ → List ℕ

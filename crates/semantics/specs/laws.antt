@@ -25,5 +25,9 @@ pub mod Operations
 pub mod Places
 pub mod Packing
 pub mod Caller
+pub mod Each
+pub mod SameValues
+pub mod Same
+pub mod SameKnown
 pub mod Derive
 pub mod Worked

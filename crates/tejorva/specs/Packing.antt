@@ -5,9 +5,11 @@ use mathlib.Core.Bool.{Bool, true, false}
 use mathlib.Core.List.{List}
 use mathlib.Core.Option.{Option, none, some}
 use lib.ListN.{length}
+use Rattle.semantics.specs.Roles.{ClaimKind, secrecy}
+use Rattle.semantics.specs.State.{Claim}
 use Rattle.semantics.specs.Answer.{Answer, refused, accepted}
 use Rattle.semantics.specs.Scenario.{Scenario}
-use Rattle.semantics.specs.Verdict.{Claim, ClaimKind, secrecy, Verdict, brokenAt, held, stopped, traceBytes}
+use Rattle.semantics.specs.Verdict.{Verdict, brokenAt, held, stopped, traceBytes}
 use Rattle.semantics.specs.Packing.{heldWord, stoppedWord, acceptedWord, derivableWord, notDerivableWord, noClaimWord, wordAlone, packedRefusal, packedNumber, packedClaim, packedBreak, packedKind, packedDerived, packedOpened, packedReplayed, packedSearched}
 use Rattle.claims.specs.Claims.{kindAs}
 use Rattle.claims.specs.declared.Claim.{Claim as CodeClaim}

@@ -6,7 +6,7 @@ ghost use Rattle.semantics.specs.Term.{Atom};
 ghost use Rattle.semantics.specs.Scenario.{Scenario};
 ghost use Rattle.semantics.specs.State as definitions;
 ghost use Rattle.semantics.specs.State.{Value, Active, active};
-ghost use Rattle.semantics.specs.Moves.{Move, movesOf, movesOfRun};
+ghost use Rattle.semantics.specs.Moves.{Move, full, movesIn, movesOfRun};
 ghost use Rattle.semantics.specs.Tree.{listed};
 ghost use Rattle.rows.specs.Rows.{rowsOf};
 ghost use Rattle.variables.specs.Variables.{Beneath, unsetFrom};
@@ -40,7 +40,7 @@ pub fn walk(
     depth: usize,
 ) -> Walked
     requires { ⌜ ((sc : Scenario) × (d : definitions.State) × (ms : List Move) × Here (now file) (now t) n r sc d (stateOf done (now names) (now classes) marks) ms at) × Room (now file) (now t) n r variables (now trace) (now memory) left depth ⌝ }
-    ensures { λ w. ⌜ ((sc : Scenario) (d : definitions.State) (ms : List Move) → Here (now (file .entry)) (now (t .entry)) n r sc d (stateOf done (now (names .entry)) (now (classes .entry)) marks) ms at → Finds sc left (listed (movesOf sc) depth d) (now (trace .entry)) at (now (trace .exit)) w) ⌝ }
+    ensures { λ w. ⌜ ((sc : Scenario) (d : definitions.State) (ms : List Move) → Here (now (file .entry)) (now (t .entry)) n r sc d (stateOf done (now (names .entry)) (now (classes .entry)) marks) ms at → Finds sc left (listed (movesIn full sc) depth d) (now (trace .entry)) at (now (trace .exit)) w) ⌝ }
     ensures { λ w. ⌜ Remembers (now (file .entry)) (now (t .entry)) n r variables (now (memory .exit)) ⌝ }
 {
     if left == 0 {

@@ -9,7 +9,7 @@ use Rattle.semantics.specs.Basic.{joined, presentOnes, mapped, numbersFrom}
 use Rattle.semantics.specs.Term.{Atom}
 use Rattle.semantics.specs.Scenario.{Scenario}
 use Rattle.semantics.specs.State.{Value, State, Active, active}
-use Rattle.semantics.specs.Moves.{Move, candidates, choices, performed, toSet, branch, movesOfRun, movesOf}
+use Rattle.semantics.specs.Moves.{Move, candidates, choices, performed, toSet, branch, movesOfRun, full, runsIn, movesIn}
 use Rattle.semantics.specs.Tree.{listed}
 use Rattle.semantics.specs.Verdict.{Entry}
 use Rattle.semantics.specs.Allowed.{Takes}
@@ -47,21 +47,21 @@ present-joined {C = C} f g (x ∷ xs) =
 
 module _ (sc : Scenario) (n : ℕ) where
   -- the entries of a state: its own, then those below it
-  pub entries-leaf : (d : State) → listed (movesOf sc) 0 d ≡ ([], d) ∷ []
-  entries-leaf d = listed-zero (movesOf sc) d
+  pub entries-leaf : (d : State) → listed (movesIn full sc) 0 d ≡ ([], d) ∷ []
+  entries-leaf d = listed-zero (movesIn full sc) d
 
-  pub entries-of : (d : State) → listed (movesOf sc) (suc n) d ≡ ([], d) ∷ below sc n (movesOf sc d)
-  entries-of d = listed-suc (movesOf sc) n d
+  pub entries-of : (d : State) → listed (movesIn full sc) (suc n) d ≡ ([], d) ∷ below sc n (movesIn full sc d)
+  entries-of d = listed-suc (movesIn full sc) n d
 
   -- those of the runs from one on
   abbrev pub runsFrom : State → ℕ → List Entry
   runsFrom d k = joined (λ u. below sc n (movesOfRun sc d u (active sc d u))) (numbersFrom (suc k) (length (sc .runs) - k))
 
-  pub runs-all : (d : State) → below sc n (movesOf sc d) ≡ runsFrom d 0
-  unfolding movesOf
+  pub runs-all : (d : State) → below sc n (movesIn full sc d) ≡ runsFrom d 0
+  unfolding movesIn runsIn
   runs-all d =
       let z : length (sc .runs) ≡ length (sc .runs) - 0 = omega arith in
-      joined-joined (λ b. map (afterMove (b .0)) (listed (movesOf sc) n (b .1))) (λ u. movesOfRun sc d u (active sc d u)) (numbersFrom 1 (length (sc .runs)))
+      joined-joined (λ b. map (afterMove (b .0)) (listed (movesIn full sc) n (b .1))) (λ u. movesOfRun sc d u (active sc d u)) (numbersFrom 1 (length (sc .runs)))
       ∙ ap (λ (m : ℕ). joined (λ u. below sc n (movesOfRun sc d u (active sc d u))) (numbersFrom 1 m)) z
 
   pub runs-next : (d : State) (k : ℕ) → k < length (sc .runs) → runsFrom d k ≡ below sc n (movesOfRun sc d (suc k) (active sc d (suc k))) ++ runsFrom d (suc k)
@@ -103,14 +103,14 @@ module _ (sc : Scenario) (n : ℕ) where
     pub branches-more : (x : Atom) (xs : List Atom) → below sc n (branches sc d u a vs (x ∷ xs)) ≡ valuesOf xs (candidates (sc .rows) (length (sc .runs)) x)
     branches-more x xs =
         ap (below sc n) (one-more x xs)
-        ∙ joined-joined (λ b. map (afterMove (b .0)) (listed (movesOf sc) n (b .1))) (λ v. branches sc d u a (vs ++ (v ∷ [])) xs) (candidates (sc .rows) (length (sc .runs)) x)
+        ∙ joined-joined (λ b. map (afterMove (b .0)) (listed (movesIn full sc) n (b .1))) (λ v. branches sc d u a (vs ++ (v ∷ [])) xs) (candidates (sc .rows) (length (sc .runs)) x)
 
     -- no variable is left: one branch, or none
     alone : branches sc d u a vs [] ≡ presentOnes (mapped (branch u vs) (performed sc d a vs) ∷ [])
     unfolding choices
     alone = ap (λ (l : List Value). presentOnes (mapped (branch u l) (performed sc d a l) ∷ [])) (append-nil vs)
 
-    pub branches-allowed : {d′ : State} → performed sc d a vs ≡ some d′ → below sc n (branches sc d u a vs []) ≡ map (afterMove (record { run = u; values = vs })) (listed (movesOf sc) n d′)
+    pub branches-allowed : {d′ : State} → performed sc d a vs ≡ some d′ → below sc n (branches sc d u a vs []) ≡ map (afterMove (record { run = u; values = vs })) (listed (movesIn full sc) n d′)
     branches-allowed e =
         ap (below sc n) (alone ∙ ap (λ (o : Option State). presentOnes (mapped (branch u vs) o ∷ [])) e) ∙ append-nil _
 

@@ -5,8 +5,9 @@ use mathlib.Core.Path.{_≡_, refl, sym, ap, _∙_, subst}
 use mathlib.Core.List.{List, [], _∷_, _++_, append-assoc, append-nil}
 use mathlib.Core.Option.{Option, none, some, Option·none-ne-some}
 use lib.ListN.{length, length-append}
+use Rattle.semantics.specs.State.{Claim}
 use Rattle.semantics.specs.Scenario.{Scenario}
-use Rattle.semantics.specs.Verdict.{Entry, Claim, Finding, found, nothing, cut, later, walked}
+use Rattle.semantics.specs.Verdict.{Entry, Finding, found, nothing, cut, later, walked}
 use Rattle.breaks.specs.declared.Break.{Break}
 use Rattle.breaks.specs.declared.Walked.{Walked}
 use Rattle.breaks.specs.declared.Walked.the-variants.{Broken, Clean, Cut}

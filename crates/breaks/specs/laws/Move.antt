@@ -10,10 +10,10 @@ use lib.ListN.{length, getD, set, take, drop, length-append, length-map}
 use Rattle.semantics.specs.Basic.{joined}
 use Rattle.semantics.specs.Limits.{mostTraceBytes}
 use Rattle.semantics.specs.Scenario.{Scenario}
-use Rattle.semantics.specs.State.{Value, State, Active, active, initial}
-use Rattle.semantics.specs.Moves.{Move, toSet, performed, movesOf}
+use Rattle.semantics.specs.State.{Value, State, Active, active, initial, Claim}
+use Rattle.semantics.specs.Moves.{Move, toSet, performed, full, movesIn}
 use Rattle.semantics.specs.Tree.{listed, Follows, stays, moves}
-use Rattle.semantics.specs.Verdict.{Entry, Claim, Finding, found, nothing, cut, walked, valueBytes, moveBytes, traceBytes}
+use Rattle.semantics.specs.Verdict.{Entry, Finding, found, nothing, cut, walked, valueBytes, moveBytes, traceBytes}
 use Rattle.semantics.specs.Allowed.{Takes, Step, step, AllowedTrace}
 use Rattle.semantics.specs.Guarantee.{Guarantee}
 use Rattle.semantics.specs.laws.Tree.{follows-append, follows-map, listed-sound}
@@ -120,38 +120,38 @@ module _ {file t : List ℕ} {n : ℕ} {r : Runs} {sc : Scenario} {d : State} {s
   }
 
   -- a break below it has a trace that fits
-  pub break-fits : {d′ : State} → performed sc d a vs ≡ some d′ → (depth : ℕ) {ms′ : List Move} {end : State} → List·Memᴰ (ms′, end) (listed (movesOf sc) depth d′) → at + length (moveBytes taken) + length (traceBytes ms′) ≤ mostTraceBytes
+  pub break-fits : {d′ : State} → performed sc d a vs ≡ some d′ → (depth : ℕ) {ms′ : List Move} {end : State} → List·Memᴰ (ms′, end) (listed (movesIn full sc) depth d′) → at + length (moveBytes taken) + length (traceBytes ms′) ≤ mostTraceBytes
   break-fits {d′} p depth {ms′} {end} m =
-      let rest = follows-map {Step = λ s m s′. List·Memᴰ (m, s′) (movesOf sc s)} (λ s. Unit {0}) (λ s g m s′ q. tt) {Step′ = Step sc} (λ s g m s′ q. moves-exact sc s m s′ .0 q) tt (listed-sound (movesOf sc) depth d′ m) in
+      let rest = follows-map {Step = λ s m s′. List·Memᴰ (m, s′) (movesIn full sc s)} (λ s. Unit {0}) (λ s g m s′ q. tt) {Step′ = Step sc} (λ s g m s′ q. moves-exact sc s full m s′ .0 q) tt (listed-sound (movesIn full sc) depth d′ m) in
       let all : AllowedTrace sc (ms ++ (taken ∷ ms′)) end = follows-append (move .here .allowed) (moves (move-step p) rest) in
       let fits = trace-bytes sc (move .here .given .good) (ms ++ (taken ∷ ms′)) end all in
       omega (arith, fits, ap length (trace-append ms (taken ∷ ms′)), length-append (traceBytes ms) (traceBytes (taken ∷ ms′)), ap length (trace-more taken ms′), length-append (moveBytes taken) (traceBytes ms′), move .here .place)
 
-  module _ {d′ : State} (allowed : performed sc d a vs ≡ some d′) (left depth : ℕ) {b b′ : List ℕ} {at′ : ℕ} {w : Walked} (finds : Finds sc left (listed (movesOf sc) depth d′) b at′ b′ w) where
+  module _ {d′ : State} (allowed : performed sc d a vs ≡ some d′) (left depth : ℕ) {b b′ : List ℕ} {at′ : ℕ} {w : Walked} (finds : Finds sc left (listed (movesIn full sc) depth d′) b at′ b′ w) where
     -- what is found below it, after the move
-    all : below sc depth (branches sc d (suc k) a vs []) ≡ map (afterMove taken) (listed (movesOf sc) depth d′)
+    all : below sc depth (branches sc d (suc k) a vs []) ≡ map (afterMove taken) (listed (movesIn full sc) depth d′)
     all = branches-allowed sc depth d (suc k) a vs allowed
 
-    mapped-walk : walked (judged sc) left (map (afterMove taken) (listed (movesOf sc) depth d′)) ≡ changed (judged sc) (afterMove taken) (walked (judged sc) left (listed (movesOf sc) depth d′))
-    mapped-walk = walked-map (judged sc) (afterMove taken) (λ e. refl) left (listed (movesOf sc) depth d′)
+    mapped-walk : walked (judged sc) left (map (afterMove taken) (listed (movesIn full sc) depth d′)) ≡ changed (judged sc) (afterMove taken) (walked (judged sc) left (listed (movesIn full sc) depth d′))
+    mapped-walk = walked-map (judged sc) (afterMove taken) (λ e. refl) left (listed (movesIn full sc) depth d′)
 
     pub move-clean : {m : ℕ} → w ≡ Clean m → (b′ ≡ b) × Finds sc left (below sc depth (branches sc d (suc k) a vs [])) b at b (Clean m)
     move-clean {m} q =
-        let x = answer-clean (listed (movesOf sc) depth d′) (walked (judged sc) left (listed (movesOf sc) depth d′)) (sym q ∙ finds .answer) in
+        let x = answer-clean (listed (movesIn full sc) depth d′) (walked (judged sc) left (listed (movesIn full sc) depth d′)) (sym q ∙ finds .answer) in
         let none-found = mapped-walk ∙ ap (changed (judged sc) (afterMove taken)) (x .0) in (
           finds .buffer ∙ ap (bufferAs b at′) (x .0),
           finds-same sc left all (record {
-            answer = ap Clean (x .1 ∙ sym (length-map (listed (movesOf sc) depth d′) (afterMove taken))) ∙ sym (ap (walkedAs (map (afterMove taken) (listed (movesOf sc) depth d′))) none-found);
+            answer = ap Clean (x .1 ∙ sym (length-map (listed (movesIn full sc) depth d′) (afterMove taken))) ∙ sym (ap (walkedAs (map (afterMove taken) (listed (movesIn full sc) depth d′))) none-found);
             buffer = sym (ap (bufferAs b at) none-found);
           }),
         )
 
     pub move-cut : w ≡ Cut → (b′ ≡ b) × Finds sc left (below sc depth (branches sc d (suc k) a vs [])) b at b Cut
     move-cut q =
-        let x = answer-cut (listed (movesOf sc) depth d′) (walked (judged sc) left (listed (movesOf sc) depth d′)) (sym q ∙ finds .answer) in
+        let x = answer-cut (listed (movesIn full sc) depth d′) (walked (judged sc) left (listed (movesIn full sc) depth d′)) (sym q ∙ finds .answer) in
         let is-cut = mapped-walk ∙ ap (changed (judged sc) (afterMove taken)) x in (
           finds .buffer ∙ ap (bufferAs b at′) x,
-          finds-same sc left all (record { answer = sym (ap (walkedAs (map (afterMove taken) (listed (movesOf sc) depth d′))) is-cut); buffer = sym (ap (bufferAs b at) is-cut) }),
+          finds-same sc left all (record { answer = sym (ap (walkedAs (map (afterMove taken) (listed (movesIn full sc) depth d′))) is-cut); buffer = sym (ap (bufferAs b at) is-cut) }),
         )
 
     -- a break: what is known of it
@@ -159,21 +159,21 @@ module _ {file t : List ℕ} {n : ℕ} {r : Runs} {sc : Scenario} {d : State} {s
       pub place : ℕ
       pub entry : Entry
       pub claim : Claim
-      pub isFound : walked (judged sc) left (listed (movesOf sc) depth d′) ≡ found place entry claim
+      pub isFound : walked (judged sc) left (listed (movesIn full sc) depth d′) ≡ found place entry claim
       pub isBreak : x ≡ breakAs place entry claim
       pub fits : at + length (moveBytes taken) + length (traceBytes (entry .0)) ≤ mostTraceBytes
       pub written : b′ ≡ over b at′ (traceBytes (entry .0))
 
     pub move-below : {x : Break} → w ≡ Broken x → Below x
     move-below {x} q =
-        let y = answer-broken (listed (movesOf sc) depth d′) (walked (judged sc) left (listed (movesOf sc) depth d′)) (sym q ∙ finds .answer) in
+        let y = answer-broken (listed (movesIn full sc) depth d′) (walked (judged sc) left (listed (movesIn full sc) depth d′)) (sym q ∙ finds .answer) in
         record {
           place = y .0;
           entry = y .1;
           claim = y .2;
           isFound = y .3;
           isBreak = y .4;
-          fits = break-fits allowed depth (found-within (judged sc) left (listed (movesOf sc) depth d′) (y .3) .1);
+          fits = break-fits allowed depth (found-within (judged sc) left (listed (movesIn full sc) depth d′) (y .3) .1);
           written = finds .buffer ∙ ap (bufferAs b at′) (y .3);
         }
 
@@ -192,6 +192,6 @@ module _ {file t : List ℕ} {n : ℕ} {r : Runs} {sc : Scenario} {d : State} {s
         finds-same sc left all (record {
           answer = ap (λ (z : Break). Broken (madeLonger z bytes)) (y .isBreak)
               ∙ ap (λ (l : ℕ). Broken (record { place = y .place; length = l; run = y .claim .run; event = y .claim .event; kind = kindAs (y .claim .kind) })) (sym long)
-              ∙ sym (ap (walkedAs (map (afterMove taken) (listed (movesOf sc) depth d′))) is-found);
+              ∙ sym (ap (walkedAs (map (afterMove taken) (listed (movesIn full sc) depth d′))) is-found);
           buffer = whole ∙ sym (ap (bufferAs b at) is-found);
         })

@@ -5,7 +5,8 @@ use mathlib.Core.Path.{_≡_, refl, sym, ap, _∙_, subst}
 use mathlib.Core.List.{List, [], _∷_, _++_, map, List·Memᴰ}
 use mathlib.Core.Option.{Option, none, some, Option·some-injective, Option·none-ne-some}
 use lib.ListN.{length}
-use Rattle.semantics.specs.Verdict.{Entry, Claim, Finding, found, nothing, cut, later, walked}
+use Rattle.semantics.specs.State.{Claim}
+use Rattle.semantics.specs.Verdict.{Entry, Finding, found, nothing, cut, later, walked}
 use Rattle.semantics.specs.laws.List.{mem-getElem}
 use Rattle.semantics.specs.laws.Verdict.{Walked, walkedFound, walkedAll, walkedCut, walked-view}
 

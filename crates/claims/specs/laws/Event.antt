@@ -3,7 +3,7 @@ use Prim.Native.Nat.{ℕ, zero, suc, _+_, _<_, _≤_}
 use native.Mathlib.Omega.{arith}
 use mathlib.Core.Path.{_≡_, refl, sym, ap, _∙_}
 use mathlib.Core.Logic.{_↔_}
-use mathlib.Core.Bool.{Bool, true, false, true≢false}
+use mathlib.Core.Bool.{Bool, true, false, true≢false, _&&_}
 use mathlib.Core.List.{List}
 use mathlib.Core.Option.{Option, none, some, Option·some-injective, Option·none-ne-some}
 use lib.ListN.{length, getD, getElem?}
@@ -11,12 +11,12 @@ use Rattle.semantics.specs.Basic.{andThen, provided}
 use Rattle.semantics.specs.Term.{Term}
 use Rattle.semantics.specs.Inference.{Derives, derivable}
 use Rattle.semantics.specs.Value.{Reading, valueOf}
-use Rattle.semantics.specs.Roles.{EventKind, send, read, claim, Event, eventKinds}
-use Rattle.semantics.specs.Runs.{Run}
+use Rattle.semantics.specs.Roles.{secrecy, EventKind, send, read, claim, claimKind, Event, eventKinds}
+use Rattle.semantics.specs.Runs.{Run, allTrusted}
 use Rattle.semantics.specs.Scenario.{Scenario}
 use Rattle.semantics.specs.Guarantee.{Guarantee}
 use Rattle.semantics.specs.State.{Progress, State, eventsOf, readingIn}
-use Rattle.semantics.specs.Verdict.{isClaim, allTrusted, brokenEvent}
+use Rattle.semantics.specs.Verdict.{claimedValue, isKnown, isAgainst, brokenEvent}
 use Rattle.semantics.specs.laws.List.{getElem-below, getElem-there}
 use Rattle.semantics.specs.laws.Inference.{derivable-exact}
 use Rattle.cells.specs.Cells.{cellOf, Within, cellValue}
@@ -36,13 +36,12 @@ none-past {A} xs j l = go (getElem? xs j) refl
     go (some x) e = absurd (omega (arith, getElem-below xs j e))
 
 -- a mark that stands exactly if a value is there and derives decides
-mark-decides : {A : Type 0} (mark : Bool) (known : List Term) (o : Option Term) (x : A) → (mark ≡ true) ↔ ((t : Term) × (o ≡ some t) × Derives known t)
-    → andThen o (λ t. provided (derivable known t) x) ≡ provided mark x
-mark-decides true known none x e = let w = e .0 refl in absurd (Option·none-ne-some (w .0) (w .1))
-mark-decides false known none x e = refl
-mark-decides {A} mark known (some t) x e = go mark (derivable known t) refl e
+mark-decides : (mark : Bool) (known : List Term) (o : Option Term) → (mark ≡ true) ↔ ((t : Term) × (o ≡ some t) × Derives known t) → isKnown known o ≡ mark
+mark-decides true known none e = let w = e .0 refl in absurd (Option·none-ne-some (w .0) (w .1))
+mark-decides false known none e = refl
+mark-decides mark known (some t) e = go mark (derivable known t) refl e
   where
-    go : (m b : Bool) → derivable known t ≡ b → (m ≡ true) ↔ ((u : Term) × (some t ≡ some u) × Derives known u) → provided b x ≡ provided m x
+    go : (m b : Bool) → derivable known t ≡ b → (m ≡ true) ↔ ((u : Term) × (some t ≡ some u) × Derives known u) → b ≡ m
     go true true f e = refl
     go false false f e = refl
     go true false f e =
@@ -52,16 +51,16 @@ mark-decides {A} mark known (some t) x e = go mark (derivable known t) refl e
     go false true f e = absurd (true≢false (sym (e .1 (t, refl, derivable-exact known t .0 (rw f tt)))))
 
 -- the kind of a claim by its byte
-kind-two : (b : ℕ) (kind : EventKind) → getElem? eventKinds b ≡ some kind → b ≡ 2 → kind ≡ claim
-kind-two b kind h e = sym (Option·some-injective claim kind (rw e at h))
+kind-two : (b : ℕ) (kind : EventKind) → getElem? eventKinds b ≡ some kind → b ≡ 2 → kind ≡ claim secrecy
+kind-two b kind h e = sym (Option·some-injective (claim secrecy) kind (rw e at h))
 
-kind-other : (b : ℕ) (kind : EventKind) → getElem? eventKinds b ≡ some kind → (b ≡ 2 → ⊥) → isClaim kind ≡ false
+kind-other : (b : ℕ) (kind : EventKind) → getElem? eventKinds b ≡ some kind → (b ≡ 2 → ⊥) → claimKind kind ≡ none
 kind-other b send h n = refl
 kind-other b read h n = refl
-kind-other zero claim h n = cc
-kind-other (suc zero) claim h n = cc
-kind-other (suc (suc zero)) claim h n = absurd (n refl)
-kind-other (suc (suc (suc b))) claim h n = absurd (Option·none-ne-some claim h)
+kind-other zero (claim x) h n = cc
+kind-other (suc zero) (claim x) h n = cc
+kind-other (suc (suc zero)) (claim x) h n = absurd (n refl)
+kind-other (suc (suc (suc b))) (claim x) h n = absurd (Option·none-ne-some (claim x) h)
 
 -- what follows from a value is none if it always is
 pub andThen-none : {A B : Type 0} (o : Option A) (f : A → Option B) → ((x : A) → f x ≡ none) → andThen o f ≡ none
@@ -96,12 +95,12 @@ module _ {file : List ℕ} {r : Runs} {sc : Scenario} {d : State} {marks : List 
 
   module _ (ev : Event) {kind own peer row : ℕ} (is : EventRead sc run ev kind own peer row) where
     abbrev value : Option Term
-    value = valueOf (readingIn (sc .rows) (suc k) run (p .values)) (sc .rows) (ev .row)
+    value = claimedValue sc (suc k) run p ev
 
     -- an event of another kind is no claim
     other-event : (kind ≡ 2 → ⊥) → brokenEvent sc d (suc k) run p j ev ≡ none
     unfolding brokenEvent
-    other-event n = andThen-none value _ (λ t. rw (kind-other kind (ev .kind) (is .kind) n) refl)
+    other-event n = ap (λ o. andThen o (λ x. provided (allTrusted (sc .rows) run && isAgainst sc d (suc k) run p ev x) (record { run = suc k; event = j; kind = x }))) (kind-other kind (ev .kind) (is .kind) n)
 
     -- the value of its row in the run
     same-value : cellValue (readings sc (setsOf (d .progress))) (sc .rows) row (suc k) ≡ value
@@ -117,7 +116,8 @@ module _ {file : List ℕ} {r : Runs} {sc : Scenario} {d : State} {marks : List 
     unfolding brokenEvent
     claim-event trusts e =
         let exact = at .exact row (suc k) within in
-        rw (kind-two kind (ev .kind) (is .kind) e, ← trusts) (mark-decides (getD marks (cellOf row (suc k)) false) (d .known) value (claimAt k j) (rw same-value at exact))
+        ap (λ o. andThen (claimKind o) (λ x. provided (allTrusted (sc .rows) run && isAgainst sc d (suc k) run p ev x) (record { run = suc k; event = j; kind = x }))) (kind-two kind (ev .kind) (is .kind) e)
+        ∙ (λ i. provided (sym trusts i && mark-decides (getD marks (cellOf row (suc k)) false) (d .known) value (rw same-value at exact) i) (claimAt k j))
 
   -- the same of an event as the code reads it
   module _ (e : RunEvent) (seen : Reads file r k j e) (below : j < getD (r .events) k 0) where

@@ -12,11 +12,11 @@ use lib.ListN.{getElem?}
 use Rattle.semantics.specs.Basic.{provided, firstOf, numbersFrom}
 use Rattle.semantics.specs.Inference.{derivable}
 use Rattle.semantics.specs.Value.{valueOf}
-use Rattle.semantics.specs.Roles.{Event}
-use Rattle.semantics.specs.Runs.{Run}
+use Rattle.semantics.specs.Roles.{claimKind, Event}
+use Rattle.semantics.specs.Runs.{Run, allTrusted}
 use Rattle.semantics.specs.Scenario.{Scenario}
 use Rattle.semantics.specs.State.{Progress, State, eventsOf, readingIn}
-use Rattle.semantics.specs.Verdict.{isClaim, allTrusted, brokenEvent, brokenInRun}
+use Rattle.semantics.specs.Verdict.{isAgainst, brokenEvent, brokenInRun}
 use Rattle.rows.specs.Rows.{Sized}
 use Rattle.cells.specs.Cells.{Shape}
 use Rattle.runs.specs.declared.Runs.{Runs}
@@ -46,11 +46,6 @@ none-more file r marks k j before here sc d run p at trusts i l =
     let m : i ≤ j = omega arith in
     ⊎-elim (λ (e : i ≡ j). rw e (here sc d run p at trusts)) (before sc d run p at trusts i) (eq-or-lt-of-le m)
 
--- a test of which a part fails
-no-part : (a b : Bool) → (a && false && b) ≡ false
-no-part true b = refl
-no-part false b = refl
-
 module _ {file : List ℕ} {r : Runs} {sc : Scenario} {d : State} {marks : List Bool} {k : ℕ} {run : Run} {p : Progress} (at : AtRun file r sc d marks k run p) where
   -- the first broken claim of the run is the first of its events'
   in-run : brokenInRun sc d k ≡ firstOf (map (eventBreaks sc d k run p) (numbersFrom 0 (p .done)))
@@ -61,8 +56,8 @@ module _ {file : List ℕ} {r : Runs} {sc : Scenario} {d : State} {marks : List 
   untrusted-event : false ≡ allTrusted (sc .rows) run → (j : ℕ) (ev : Event) → brokenEvent sc d (suc k) run p j ev ≡ none
   unfolding brokenEvent
   untrusted-event e j ev =
-      andThen-none (valueOf (readingIn (sc .rows) (suc k) run (p .values)) (sc .rows) (ev .row)) (λ t. provided (isClaim (ev .kind) && allTrusted (sc .rows) run && derivable (d .known) t) (claimAt k j))
-      (λ t. rw (← e, no-part) refl)
+      andThen-none (claimKind (ev .kind)) (λ x. provided (allTrusted (sc .rows) run && isAgainst sc d (suc k) run p ev x) (record { run = suc k; event = j; kind = x }))
+      (λ x. rw (← e) refl)
 
   -- a run with an untrusted agent breaks none
   pub run-untrusted : false ≡ allTrusted (sc .rows) run → Nothing ≡ claimedAs (brokenInRun sc d k)

@@ -11,7 +11,7 @@ use lib.ListN.{length, getD, getElem?}
 use Rattle.semantics.specs.Runs.{Run}
 use Rattle.semantics.specs.Scenario.{Scenario}
 use Rattle.semantics.specs.State.{Progress, State}
-use Rattle.semantics.specs.Verdict as definitions
+use Rattle.semantics.specs.State as definitions
 use Rattle.semantics.specs.Verdict.{brokenInRun, broken}
 use Rattle.semantics.specs.laws.List.{getElem-there}
 use Rattle.rows.specs.Rows.{rowsOf}

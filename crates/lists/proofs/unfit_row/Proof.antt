@@ -7,7 +7,8 @@ use lib.ListN.{length}
 use borrow.Author.Needs.{needs}
 use borrow.Author.Tests.{not-true, not-false}
 use Rattle.rows.specs.Rows.{placeAs}
-use Rattle.lists.specs.Lists.{hasValue, unfitFrom}
+use Rattle.semantics.specs.Basic.{unfitFrom}
+use Rattle.lists.specs.Lists.{hasValue}
 use Rattle.lists.specs.laws.Knowledge.{marked-absent, marked-not, marked-is, unfitLeft, unfit-all, unfit-none, unfit-low, unfit-here, unfit-later}
 use Rattle.lists.proofs.unfit_row.Statement.{statement}
 use Rattle.lists.proofs.unfit_row.Tie as tie

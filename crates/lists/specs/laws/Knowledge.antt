@@ -11,7 +11,7 @@ use lib.Dec.{ltb, leb, leb·zero}
 use lib.ListN.{length, getD, take, drop, drop-of-length-le}
 use lib.Seq.{drop-cons}
 use borrow.Author.Tests.{ltb-true, ltb-false, le-leb, lt-leb, lt-ltb, le-ltb}
-use Rattle.semantics.specs.Basic.{present, every, rising}
+use Rattle.semantics.specs.Basic.{unfitFrom, present, every, rising}
 use Rattle.semantics.specs.Table.{Row}
 use Rattle.semantics.specs.Value.{Reading, valueOf, withoutVariables, withoutRun}
 use Rattle.semantics.specs.Roles.{knowledgeIn, knowledgeFits}
@@ -20,7 +20,7 @@ use Rattle.rows.specs.Rows.{placeAs}
 use Rattle.rows.specs.declared.Place.{Place}
 use Rattle.rows.specs.declared.Place.the-variants.{At, Nowhere}
 use Rattle.semantics.specs.laws.Value.{value-within}
-use Rattle.lists.specs.Lists.{Valued, hasValue, unfitFrom}
+use Rattle.lists.specs.Lists.{Valued, hasValue}
 
 -- a row that is absent has no value
 absent-value : (reading : Reading) (rows : List Row) (r : ℕ) → length rows ≤ r → false ≡ present (valueOf reading rows r)
@@ -110,10 +110,6 @@ module _ (fits : ℕ → Bool) where
   fit-rising at [] = fit-from at 0 []
   fit-rising at (r ∷ bytes) = fit-from at 0 (r ∷ bytes) ∙ rw (leb·zero r)
 
--- what is found behind a byte that passes a test, and else its own place
-abbrev passed : Bool → ℕ → Option ℕ → Option ℕ
-passed b at later = elim b [ true ↦ later | false ↦ some at ]
-
 -- whether there is no place
 abbrev pub nowhere : Place → Bool
 nowhere (At place) = false
@@ -123,16 +119,10 @@ nowhere-none : (o : Option ℕ) → nowhere (placeAs o) ≡ not (present o)
 nowhere-none none = refl
 nowhere-none (some place) = refl
 
--- the first unfit byte of the knowledge list
-pub unfit-knowledge : (rows : List Row) (at least : ℕ) (bytes : List ℕ) → unfitFrom (λ r. present (valueOf withoutRun rows r)) at least bytes ≡ badKnowledgeFrom rows at least bytes
-unfolding unfitFrom badKnowledgeFrom
-unfit-knowledge rows at least [] = refl
-unfit-knowledge rows at least (r ∷ bytes) = ap (passed (leb least r && present (valueOf withoutRun rows r)) at) (unfit-knowledge rows (suc at) (suc r) bytes)
-
--- which the code finds by the rows marked
+-- the first unfit byte of the knowledge list, which the code finds by the rows marked
 pub knowledge-found : (rows : List Row) (n : ℕ) (clear : List Bool) → n ≡ length rows → Valued rows withoutRun clear → (base : ℕ) (bytes : List ℕ)
     → unfitFrom (hasValue n clear) base 0 bytes ≡ badKnowledgeFrom rows base 0 bytes
-knowledge-found rows n clear e v base bytes = rw (value-marked withoutRun rows n clear e v) (unfit-knowledge rows base 0 bytes)
+knowledge-found rows n clear e v base bytes = rw (value-marked withoutRun rows n clear e v)
 
 -- and so whether the knowledge of a role fits
 pub knowledge-fits : (s : List ℕ) (n : ℕ) (clear : List Bool) (k : ℕ) → k ≡ getD s 0 0 → {place : Place} → place ≡ placeAs (unfitFrom (hasValue n clear) 0 0 (take (1 + k - 1) (drop 1 s)))

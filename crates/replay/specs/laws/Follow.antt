@@ -15,7 +15,7 @@ use Rattle.semantics.specs.Scenario.{Scenario, opened}
 use Rattle.semantics.specs.State.{State, initial}
 use Rattle.semantics.specs.Moves.{Move}
 use Rattle.semantics.specs.Replay.{after, valuesIn, firstStep, replayedFrom, replayed}
-use Rattle.semantics.specs.Verdict as verdicts
+use Rattle.semantics.specs.State as states
 use Rattle.semantics.specs.Verdict.{broken}
 use Rattle.claims.specs.Claims.{claimedAs}
 use Rattle.claims.specs.declared.Claim.{Claim}
@@ -170,13 +170,13 @@ module _ (file trace : List ℕ) where
 pub claim-broken : (sc : Scenario) (trace : List ℕ) (d : State) {c : Claim} → claimedAs (broken sc d) ≡ claimed.Broken c → followedOf sc trace ≡ accepted (broken sc d) → Broken c ≡ replayedAs (followedOf sc trace)
 claim-broken sc trace d {c} e f = go (broken sc d) e ∙ ap replayedAs (sym f)
   where
-    go : (o : Option verdicts.Claim) → claimedAs o ≡ claimed.Broken c → Broken c ≡ replayedAs (accepted o)
+    go : (o : Option states.Claim) → claimedAs o ≡ claimed.Broken c → Broken c ≡ replayedAs (accepted o)
     go none q = let z : _≡_ {A = ℕ} 0 1 = cc in absurd (omega arith)
     go (some k) q = cc
 
 pub claim-none : (sc : Scenario) (trace : List ℕ) (d : State) → claimedAs (broken sc d) ≡ claimed.Nothing → followedOf sc trace ≡ accepted (broken sc d) → NoClaim ≡ replayedAs (followedOf sc trace)
 claim-none sc trace d e f = go (broken sc d) e ∙ ap replayedAs (sym f)
   where
-    go : (o : Option verdicts.Claim) → claimedAs o ≡ claimed.Nothing → NoClaim ≡ replayedAs (accepted o)
+    go : (o : Option states.Claim) → claimedAs o ≡ claimed.Nothing → NoClaim ≡ replayedAs (accepted o)
     go none q = refl
     go (some k) q = let z : _≡_ {A = ℕ} 0 1 = cc in absurd (omega arith)

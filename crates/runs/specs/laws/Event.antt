@@ -6,7 +6,7 @@ use mathlib.Core.List.{List, List·Memᴰ}
 use mathlib.Core.Option.{Option, none, some, Option·none-ne-some}
 use lib.Dec.{T, ltb→lt, eqb→eq}
 use lib.ListN.{length, getElem?, getD}
-use Rattle.semantics.specs.Roles.{EventKind, send, read, claim, Event, Role, eventKinds, eventFrom, peerFits}
+use Rattle.semantics.specs.Roles.{secrecy, EventKind, send, read, claim, Event, Role, eventKinds, eventFrom, peerFits}
 use Rattle.semantics.specs.Runs.{Run, atomAt, isAgent}
 use Rattle.semantics.specs.Scenario.{Scenario}
 use Rattle.semantics.specs.State.{eventsOf}
@@ -26,7 +26,7 @@ bytes-event (some k) peer row at {e} h =
 peer-role : (roles : ℕ) (kind : EventKind) (peer : ℕ) → T (peerFits roles kind peer) → 0 < roles → peer < roles
 peer-role roles send peer t l = ltb→lt peer roles t
 peer-role roles read peer t l = ltb→lt peer roles t
-peer-role roles claim peer t l = let e = eqb→eq peer 0 t in omega arith
+peer-role roles (claim secrecy) peer t l = let e = eqb→eq peer 0 t in omega arith
 
 -- the events of a run are those of its role
 events-role : (sc : Scenario) (run : Run) {r : Role} → getElem? (sc .roles) (run .role) ≡ some r → eventsOf sc run ≡ r .events

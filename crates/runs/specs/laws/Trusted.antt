@@ -9,10 +9,9 @@ use mathlib.Core.Option.{some, Option·none-ne-some, Option·some-injective}
 use lib.Dec.{eqb}
 use lib.ListN.{length, getElem?, getD, drop, drop-of-length-le}
 use Rattle.semantics.specs.Basic.{every}
-use Rattle.semantics.specs.Runs.{Run, atomAt, isTrusted}
+use Rattle.semantics.specs.Runs.{Run, atomAt, isTrusted, allTrusted}
 use Rattle.semantics.specs.Scenario.{Scenario}
 use Rattle.semantics.specs.Guarantee.{Guarantee}
-use Rattle.semantics.specs.Verdict.{allTrusted}
 use Rattle.semantics.specs.laws.List.{mem-getElem, getElem-there}
 use Rattle.rows.specs.Rows.{rowsOf, Sized}
 use Rattle.rows.specs.laws.Decode.{decodes-trusted}

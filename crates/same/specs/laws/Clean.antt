@@ -7,7 +7,7 @@ use mathlib.Core.Option.{none, Option·none-ne-some}
 use lib.ListN.{length}
 use Rattle.semantics.specs.Scenario.{Scenario}
 use Rattle.semantics.specs.State.{State}
-use Rattle.semantics.specs.Moves.{Move, movesOf}
+use Rattle.semantics.specs.Moves.{Move, full, movesIn}
 use Rattle.semantics.specs.Tree.{listed}
 use Rattle.semantics.specs.Verdict as verdicts
 use Rattle.semantics.specs.Verdict.{Entry, Finding, nothing, cut, walked}
@@ -22,11 +22,11 @@ use Rattle.breaks.specs.declared.Walked.the-variants as answers
 use Rattle.breaks.specs.Walk.{judged, walkedAs, bufferAs, Finds}
 use Rattle.breaks.specs.laws.Walked.{nothing-within}
 use Rattle.breaks.specs.laws.Finds.{answer-clean}
-use Rattle.same.specs.Same.{Each, cons, SameEntry}
+use Rattle.semantics.specs.Same.{Each, cons, SameEntry}
 use Rattle.same.specs.Clean.{Clean, Placed, SamePositions, SameNames}
-use Rattle.same.specs.laws.Each.{each-length}
-use Rattle.same.specs.laws.Same.{listed-same, broken-same}
-use Rattle.same.specs.laws.Sent.{same-reached}
+use Rattle.semantics.specs.laws.Each.{each-length}
+use Rattle.semantics.specs.laws.Same.{listed-same, broken-same}
+use Rattle.semantics.specs.laws.SameKnown.{same-reached}
 use Rattle.same.specs.laws.Names.{same-names}
 
 module _ (sc : Scenario) (left : ℕ) (es : List Entry) where
@@ -65,8 +65,8 @@ pub clean-buffer : {sc : Scenario} {left : ℕ} {es : List Entry} {before after 
 clean-buffer {sc} {left} {es} {before} {at = at} finds = finds .buffer ∙ ap (bufferAs before at) (answer-clean es (walked (judged sc) left es) (finds .answer) .0)
 
 -- A list has the trace of its own state first, so there is one.
-pub clean-some : {sc : Scenario} (depth : ℕ) (d : State) {m : ℕ} → Clean sc (listed (movesOf sc) depth d) m → 1 ≤ m
-clean-some {sc} depth d clean = omega (arith, getElem-below (listed (movesOf sc) depth d) 0 (listed-first (movesOf sc) depth d), clean .counted)
+pub clean-some : {sc : Scenario} (depth : ℕ) (d : State) {m : ℕ} → Clean sc (listed (movesIn full sc) depth d) m → 1 ≤ m
+clean-some {sc} depth d clean = omega (arith, getElem-below (listed (movesIn full sc) depth d) 0 (listed-first (movesIn full sc) depth d), clean .counted)
 
 -- A walk through such entries answers how many they are, if the budget is enough.
 pub clean-finds : {sc : Scenario} {left : ℕ} {es : List Entry} {m : ℕ} → Clean sc es m → m ≤ left → (before : List ℕ) (at : ℕ) → Finds sc left es before at before (answers.Clean m)
@@ -88,8 +88,8 @@ module _ {sc : Scenario} (g : Guarantee sc) where
 
   -- Below reached states with equal positions and names are equally many entries that break no claim.
   pub clean-same : {ms ms′ : List Move} {d d′ : State} {done done′ names names′ : List ℕ} → AllowedTrace sc ms d → AllowedTrace sc ms′ d′ → Placed sc d done names → Placed sc d′ done′ names′
-      → SamePositions sc done done′ → SameNames sc names names′ → (depth : ℕ) {m : ℕ} → Clean sc (listed (movesOf sc) depth d) m → Clean sc (listed (movesOf sc) depth d′) m
+      → SamePositions sc done done′ → SameNames sc names names′ → (depth : ℕ) {m : ℕ} → Clean sc (listed (movesIn full sc) depth d) m → Clean sc (listed (movesIn full sc) depth d′) m
   clean-same {d = d} {d′ = d′} t t′ placed placed′ positions names depth clean =
-      let same : Each (SameEntry (sc .rows)) (listed (movesOf sc) depth d) (listed (movesOf sc) depth d′) =
-      listed-same sc (g .table) depth d d′ (same-reached g t t′ (same-names g placed placed′ positions names)) in
+      let same : Each (SameEntry (sc .rows)) (listed (movesIn full sc) depth d) (listed (movesIn full sc) depth d′) =
+      listed-same sc (g .table) full depth d d′ (same-reached g t t′ (same-names g placed placed′ positions names)) in
       record { unbroken = unbroken-same same (clean .unbroken); counted = sym (each-length same) ∙ clean .counted }

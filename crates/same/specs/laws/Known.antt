@@ -10,7 +10,7 @@ use lib.ListN.{length, getD, set}
 use Rattle.semantics.specs.Basic.{present}
 use Rattle.semantics.specs.Scenario.{Scenario}
 use Rattle.semantics.specs.State.{Value, State, Active}
-use Rattle.semantics.specs.Moves.{Move, performed, movesOf}
+use Rattle.semantics.specs.Moves.{Move, performed, full, movesIn}
 use Rattle.semantics.specs.Tree.{listed}
 use Rattle.semantics.specs.laws.Test.{present-some, absent-none}
 use Rattle.runs.specs.declared.RunEvent.{RunEvent}
@@ -38,7 +38,7 @@ told-none o e h = absent-none o (subst (λ (b : Bool). T (not b)) (sym h ∙ e) 
 module _ {file t : List ℕ} {n : ℕ} {r : Runs} {sc : Scenario} {d : State} {s : CodeState} {ms : List Move} {at k : ℕ} {e : RunEvent} {a : Active} (move : AtMove file t n r sc d s ms at k e a)
     {vs : List Value} {names classes : List ℕ} {marks : List Bool} {values : Values} (chosen : Chosen sc d a e vs names classes marks values) {d′ : State} (allowed : performed sc d a vs ≡ some d′) where
   -- how many traces were walked: at least one, and no more than the budget
-  pub count-fits : (depth : ℕ) {left : ℕ} {b b′ : List ℕ} {at′ : ℕ} {w : Walked} → Finds sc left (listed (movesOf sc) depth d′) b at′ b′ w → {m : ℕ} → w ≡ answers.Clean m → (0 < m) × (m ≤ left)
+  pub count-fits : (depth : ℕ) {left : ℕ} {b b′ : List ℕ} {at′ : ℕ} {w : Walked} → Finds sc left (listed (movesIn full sc) depth d′) b at′ b′ w → {m : ℕ} → w ≡ answers.Clean m → (0 < m) × (m ≤ left)
   count-fits depth finds q = let f = rw q at finds in (clean-some depth d′ (clean-found f), clean-within f)
 
   module _ {done next : List ℕ} (size : length done ≡ 4) (same : done ≡ s .done) (moved : next ≡ set done k (getD done k 0 + 1)) {variables memory : List ℕ} (remembers : Remembers file t n r variables memory)
@@ -47,7 +47,7 @@ module _ {file t : List ℕ} {n : ℕ} {r : Runs} {sc : Scenario} {d : State} {s
     reached = reached-next move chosen allowed size same moved
 
     module _ {known : ℕ} (found : LookedUp memory key known) (some-known : 0 < known) (left : ℕ) (b : List ℕ) where
-      clean : Clean sc (listed (movesOf sc) depth d′) known
+      clean : Clean sc (listed (movesIn full sc) depth d′) known
       clean = remembered remembers reached isKey found some-known
 
       -- more than the budget allows
@@ -59,6 +59,6 @@ module _ {file t : List ℕ} {n : ℕ} {r : Runs} {sc : Scenario} {d : State} {s
       known-clean l = move-clean move chosen allowed left depth (clean-finds clean l b at) refl .1
 
     -- the state was walked without a break and is stored
-    pub stored-right : {left : ℕ} {b b′ : List ℕ} {at′ : ℕ} {w : Walked} → Finds sc left (listed (movesOf sc) depth d′) b at′ b′ w → {m : ℕ} → w ≡ answers.Clean m
+    pub stored-right : {left : ℕ} {b b′ : List ℕ} {at′ : ℕ} {w : Walked} → Finds sc left (listed (movesIn full sc) depth d′) b at′ b′ w → {m : ℕ} → w ≡ answers.Clean m
         → {after : List ℕ} → Stored memory after key m → Remembers file t n r variables after
     stored-right finds q stored = remembers-stored remembers reached isKey stored (clean-found (rw q at finds))

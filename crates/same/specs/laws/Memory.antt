@@ -12,7 +12,7 @@ use Rattle.semantics.specs.Table.{Row}
 use Rattle.semantics.specs.Runs.{atomOf, atomAt}
 use Rattle.semantics.specs.Scenario.{Scenario}
 use Rattle.semantics.specs.State.{State}
-use Rattle.semantics.specs.Moves.{Move, movesOf}
+use Rattle.semantics.specs.Moves.{Move, full, movesIn}
 use Rattle.semantics.specs.Tree.{listed}
 use Rattle.semantics.specs.laws.List.{getElem-there}
 use Rattle.rows.specs.Rows.{rowsOf}
@@ -39,7 +39,7 @@ remembers-start file t n r rows zeros = record {
 module _ {file t : List ℕ} {n : ℕ} {r : Runs} {variables memory : List ℕ} (remembers : Remembers file t n r variables memory)
     {sc : Scenario} {d : State} {ms : List Move} {done names : List ℕ} (reached : Reached file t n r sc d ms done names) {depth : ℕ} {key : List ℕ} (isKey : IsKey variables done names depth key) where
   -- what is found of a state's key is so below the state
-  pub remembered : {count : ℕ} → LookedUp memory key count → 0 < count → Clean sc (listed (movesOf sc) depth d) count
+  pub remembered : {count : ℕ} → LookedUp memory key count → 0 < count → Clean sc (listed (movesIn full sc) depth d) count
   remembered {count} found l = remembers .right key count (found .says l) sc d ms done names depth reached isKey
 
   -- states of which the keys agree have equal positions and names of variables
@@ -61,7 +61,7 @@ module _ {file t : List ℕ} {n : ℕ} {r : Runs} {variables memory : List ℕ} 
         ∙ ap (λ (c : ℕ). getD names′ c 0) cell ∙ getD-any names′ (cellOf x (suc k)) 0 absent (omega (arith, size′))
 
   -- a memory stays right once the count below a state is stored with its key
-  pub remembers-stored : {after : List ℕ} {count : ℕ} → Stored memory after key count → Clean sc (listed (movesOf sc) depth d) count → Remembers file t n r variables after
+  pub remembers-stored : {after : List ℕ} {count : ℕ} → Stored memory after key count → Clean sc (listed (movesIn full sc) depth d) count → Remembers file t n r variables after
   remembers-stored {after} {count} stored clean = record {
     size = stored .size ∙ remembers .size;
     rows = remembers .rows;
@@ -72,7 +72,7 @@ module _ {file t : List ℕ} {n : ℕ} {r : Runs} {variables memory : List ℕ} 
   }
     where
       own : (key′ : List ℕ) → SameWords key′ key → {count′ : ℕ} → count′ ≡ count → {sc′ : Scenario} {d′ : State} {ms′ : List Move} {done′ names′ : List ℕ} {depth′ : ℕ}
-          → Reached file t n r sc′ d′ ms′ done′ names′ → IsKey variables done′ names′ depth′ key′ → Clean sc′ (listed (movesOf sc′) depth′ d′) count′
+          → Reached file t n r sc′ d′ ms′ done′ names′ → IsKey variables done′ names′ depth′ key′ → Clean sc′ (listed (movesIn full sc′) depth′ d′) count′
       own key′ words {count′} e {sc′} {d′} {ms′} {done′} {names′} {depth′} reached′ isKey′ =
           let same : sc′ ≡ sc = cc (reached .isOpened, reached′ .isOpened) in
           let agree : Agree variables done done′ names names′ depth depth′ = keys-agree isKey isKey′ (λ j l. sym (words j l)) in

@@ -20,9 +20,9 @@ use Rattle.classes.specs.Classes.{Named, unnamed, named}
 use Rattle.state.specs.Readings.{setsIn, setsOf, readings}
 use Rattle.state.specs.laws.Readings.{reading-run}
 use Rattle.state.specs.laws.Start.{atom-below}
-use Rattle.same.specs.Same.{Both, noneOf, someOf, Each, SameValue, SameSets, SameRun}
+use Rattle.semantics.specs.Same.{Both, noneOf, someOf, Each, SameValue, SameSets, SameRun}
 use Rattle.same.specs.Clean.{Placed, SamePositions, SameNames}
-use Rattle.same.specs.laws.Each.{each-from}
+use Rattle.semantics.specs.laws.Each.{each-from}
 
 -- a cell fixes its row and its run
 cell-run : (x x′ w w′ : ℕ) → x < 96 → x′ < 96 → cellOf x w ≡ cellOf x′ w′ → (x ≡ x′) × (w ≡ w′)

@@ -5,6 +5,7 @@ use mathlib.Core.Path.{_≡_, refl, sym, ap, _∙_}
 use Rattle.semantics.specs.Answer.{accepted}
 use Rattle.semantics.specs.Scenario.{Scenario, opened}
 use Rattle.semantics.specs.State.{initial, eventsLeft}
+use Rattle.semantics.specs.Moves.{full}
 use Rattle.semantics.specs.Verdict.{verdict, written}
 use Rattle.scenario.specs.Opened.{layoutOf}
 use Rattle.runs.specs.laws.Blocks.{opened-framed}
@@ -29,7 +30,7 @@ walk-all-requires c κs = let p = c .before .before .before .before .before .pre
 -- the verdict, whatever the walk answers
 by-walk : (c : tie.After-walk-all) (sc : Scenario)
     → opened (c .before .before .before .before .before .before .args .file .now) ≡ accepted sc → c .before .before .before .before .before .before .args .l ≡ layoutOf (c .before .before .before .before .before .before .args .file .now) sc
-    → (answered (c .before .before .before .budget .result) (c .walk-all .result) ≡ verdictAs (verdict sc)) × (c .walk-all .last .0 ≡ written (c .before .before .before .before .before .before .args .trace .now) (accepted (verdict sc)))
+    → (answered (c .before .before .before .budget .result) (c .walk-all .result) ≡ verdictAs (verdict full sc)) × (c .walk-all .last .0 ≡ written (c .before .before .before .before .before .before .args .trace .now) (accepted (verdict full sc)))
 by-walk c sc o l = verdict-walked sc _ (opened-budget _ sc o (c .before .before .before .budget .ensures .0)) refl (c .walk-all .ensures sc o l)
 
 returns-2 : tie.Need-returns-2

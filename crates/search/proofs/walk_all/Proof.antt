@@ -7,7 +7,7 @@ use mathlib.Core.List.{[]}
 use lib.ListN.{length}
 use Rattle.semantics.specs.Scenario.{Scenario}
 use Rattle.semantics.specs.State.{initial}
-use Rattle.semantics.specs.Moves.{movesOf}
+use Rattle.semantics.specs.Moves.{full, movesIn}
 use Rattle.semantics.specs.Tree.{listed}
 use Rattle.runs.specs.laws.Blocks.{opened-framed}
 use Rattle.state.specs.laws.Given.{opened-knowledge, given-layout}
@@ -67,7 +67,7 @@ returns c sc o l =
     let given = given-layout _ sc o l runs (c .before .before .before .before .before .before .before .before .before .before .before .before .before .before .before .block-of .ensures) in
     let here = here-first o given (c .before .before .before .before .before .before .before .before .before .before .before .before .before .initial .ensures sc given (opened-knowledge _ sc o (c .before .before .before .before .before .before .before .before .before .before .before .before .before .before .block-of2 .ensures))) refl in
     let depth = c .before .before .before .before .event-count .ensures .0 ∙ total-left _ sc _ runs (events-size (c .before .before .before .before .before .before .before .before .before .before .before .before .before .before .before .before)) in
-    finds-same sc _ (ap (λ (m : ℕ). listed (movesOf sc) m (initial sc)) (sym depth)) (c .before .before .before .walk .ensures .0 sc (initial sc) [] here)
+    finds-same sc _ (ap (λ (m : ℕ). listed (movesIn full sc) m (initial sc)) (sym depth)) (c .before .before .before .walk .ensures .0 sc (initial sc) [] here)
 
 pub walk-all-spec : {M : Type 1} → statement M
 walk-all-spec =

@@ -14,9 +14,9 @@ use Rattle.semantics.specs.Frame.{budgetOf}
 use Rattle.semantics.specs.Scenario.{Scenario, scenarioOf, opened}
 use Rattle.semantics.specs.Runs.{Run}
 use Rattle.semantics.specs.State.{Progress, initial, eventsLeft}
-use Rattle.semantics.specs.Moves.{movesOf}
+use Rattle.semantics.specs.Moves.{full, movesIn}
 use Rattle.semantics.specs.Tree.{listed, stays}
-use Rattle.semantics.specs.Verdict.{Entry, Finding, found, nothing, cut, walked, Verdict, verdictFrom, verdict, traceList, traceBytes, shortBuffer, searched, written, bufferAfter}
+use Rattle.semantics.specs.Verdict.{Entry, Finding, found, nothing, cut, walked, Verdict, verdictFrom, verdict, traceList, traceBytes, shortBuffer, searched, written, bufferAfter, searchedIn, bufferIn}
 use Rattle.semantics.specs.laws.Open.{opened-inverts}
 use Rattle.scenario.specs.Opened.{openedAs}
 use Rattle.scenario.specs.declared.Opened.the-variants as opening
@@ -54,13 +54,13 @@ module _ (sc : Scenario) (before : List ℕ) where
   buffer-found size budget cut = refl
 
   -- the verdict, by a walk through all traces with the file's budget
-  pub verdict-walked : {after : List ℕ} {w : Walked} {left : ℕ} → left ≡ sc .budget → {depth : ℕ} → depth ≡ eventsLeft sc (initial sc) → Finds sc left (listed (movesOf sc) depth (initial sc)) before 0 after w
-      → (answered left w ≡ verdictAs (verdict sc)) × (after ≡ written before (accepted (verdict sc)))
+  pub verdict-walked : {after : List ℕ} {w : Walked} {left : ℕ} → left ≡ sc .budget → {depth : ℕ} → depth ≡ eventsLeft sc (initial sc) → Finds sc left (listed (movesIn full sc) depth (initial sc)) before 0 after w
+      → (answered left w ≡ verdictAs (verdict full sc)) × (after ≡ written before (accepted (verdict full sc)))
   unfolding verdict traceList
   verdict-walked {after} {w} {left} e {depth} l finds =
-      let es = listed (movesOf sc) depth (initial sc) in
-      let whole : verdictFrom (length es) left (walked (judged sc) left es) ≡ verdict sc =
-      (λ i. verdictFrom (length (listed (movesOf sc) (l i) (initial sc))) (e i) (walked (judged sc) (e i) (listed (movesOf sc) (l i) (initial sc)))) in (
+      let es = listed (movesIn full sc) depth (initial sc) in
+      let whole : verdictFrom (length es) left (walked (judged sc) left es) ≡ verdict full sc =
+      (λ i. verdictFrom (length (listed (movesIn full sc) (l i) (initial sc))) (e i) (walked (judged sc) (e i) (listed (movesIn full sc) (l i) (initial sc)))) in (
         ap (answered left) (finds .answer) ∙ answer-found es left (walked (judged sc) left es) ∙ ap verdictAs whole,
         finds .buffer ∙ buffer-found (length es) left (walked (judged sc) left es) ∙ ap (λ (v : Verdict). written before (accepted v)) whole,
       )
@@ -91,36 +91,36 @@ here-first {sc = sc} isOpened given state e = rw e (record {
 })
 
 -- the walk with no budget
-pub first-cut : (sc : Scenario) {left : ℕ} → left ≡ 0 → (depth : ℕ) (before : List ℕ) → Finds sc left (listed (movesOf sc) depth (initial sc)) before 0 before walking.Cut
+pub first-cut : (sc : Scenario) {left : ℕ} → left ≡ 0 → (depth : ℕ) (before : List ℕ) → Finds sc left (listed (movesIn full sc) depth (initial sc)) before 0 before walking.Cut
 first-cut sc {left} z depth before = walk-cut sc left (initial sc) before 0 depth z
 
 module _ (file buffer : List ℕ) where
   -- a refused file
   pub searched-refused : {number place : ℕ} → opening.Refused number place ≡ openedAs file (opened file) → (Refused number place ≡ searchedAs (searched file buffer)) × (buffer ≡ bufferAfter file buffer)
-  unfolding searched bufferAfter
+  unfolding searchedIn bufferIn
   searched-refused {number} {place} e = go (opened file) e
     where
       judge : Answer Scenario → Answer Verdict
-      judge a = _>>=_ a (λ sc. _>>_ (checked 10 (shortBuffer buffer)) (accepted (verdict sc)))
+      judge a = _>>=_ a (λ sc. _>>_ (checked 10 (shortBuffer buffer)) (accepted (verdict full sc)))
 
       go : (a : Answer Scenario) → opening.Refused number place ≡ openedAs file a → (Refused number place ≡ searchedAs (judge a)) × (buffer ≡ written buffer (judge a))
       go (refused r) q = (cc, refl)
       go (accepted sc) q = let z : _≡_ {A = ℕ} 0 1 = cc in absurd (omega arith)
 
   module _ (sc : Scenario) (isOpened : opened file ≡ accepted sc) where
-    by-buffer : (b : Bool) → ltb (length buffer) 128 ≡ b → searched file buffer ≡ _>>_ (checked 10 (provided b (length buffer))) (accepted (verdict sc))
-    unfolding searched shortBuffer
+    by-buffer : (b : Bool) → ltb (length buffer) 128 ≡ b → searched file buffer ≡ _>>_ (checked 10 (provided b (length buffer))) (accepted (verdict full sc))
+    unfolding searchedIn shortBuffer
     by-buffer b e = rw (isOpened, e) refl
 
     -- a buffer that is too short
     pub searched-short : length buffer < 128 → (Refused 10 (length buffer) ≡ searchedAs (searched file buffer)) × (buffer ≡ bufferAfter file buffer)
-    unfolding bufferAfter
+    unfolding bufferIn
     searched-short l = let e = by-buffer true (lt-ltb (length buffer) 128 l) in (ap searchedAs (sym e), ap (written buffer) (sym e))
 
     -- one that is not
-    pub searched-judged : 128 ≤ length buffer → searched file buffer ≡ accepted (verdict sc)
+    pub searched-judged : 128 ≤ length buffer → searched file buffer ≡ accepted (verdict full sc)
     searched-judged l = by-buffer false (le-ltb (length buffer) 128 l)
 
-    pub buffer-judged : 128 ≤ length buffer → bufferAfter file buffer ≡ written buffer (accepted (verdict sc))
-    unfolding bufferAfter
+    pub buffer-judged : 128 ≤ length buffer → bufferAfter file buffer ≡ written buffer (accepted (verdict full sc))
+    unfolding bufferIn
     buffer-judged l = ap (written buffer) (searched-judged l)

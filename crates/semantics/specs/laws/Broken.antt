@@ -2,7 +2,7 @@
 use Prim.Native.Nat.{ℕ, zero, suc, _+_, _≤_, _<_}
 use native.Mathlib.Nat.{eq-or-lt-of-le, suc-inj, lt-irrefl}
 use native.Mathlib.Omega.{arith}
-use mathlib.Core.Path.{_≡_, refl, sym, _∙_, ap}
+use mathlib.Core.Path.{_≡_, refl, sym, _∙_, ap, subst}
 use mathlib.Core.Logic.{_↔_, _⊎_, inl, inr, ⊎-elim}
 use mathlib.Core.Bool.{Bool, true, false, _&&_}
 use mathlib.Core.List.{List, [], _∷_, map}
@@ -11,15 +11,15 @@ use lib.Dec.{T}
 use lib.ListN.{length, getElem?}
 use Rattle.semantics.specs.Basic.{firstOf, numbersFrom, andThen, provided}
 use Rattle.semantics.specs.Term.{Term}
-use Rattle.semantics.specs.Inference.{Derives, derivable}
+use Rattle.semantics.specs.Inference.{derivable}
 use Rattle.semantics.specs.Value.{valueOf}
-use Rattle.semantics.specs.Roles.{EventKind, send, read, claim, Event}
-use Rattle.semantics.specs.Runs.{Run}
+use Rattle.semantics.specs.Roles.{ClaimKind, secrecy, EventKind, send, read, claim, claimKind, Event}
+use Rattle.semantics.specs.Runs.{Run, allTrusted}
 use Rattle.semantics.specs.Scenario.{Scenario}
-use Rattle.semantics.specs.State.{Progress, State, eventsOf, readingIn}
-use Rattle.semantics.specs.Verdict.{Claim, ClaimKind, secrecy, isClaim, allTrusted, brokenEvent, brokenInRun, broken}
-use Rattle.semantics.specs.Allowed.{Breaks, breaks, ClaimBefore, Names}
-use Rattle.semantics.specs.laws.Test.{all-three, provided-some, andThen-some}
+use Rattle.semantics.specs.State.{Progress, State, eventsOf, readingIn, Claim}
+use Rattle.semantics.specs.Verdict.{claimedValue, isKnown, isAgainst, brokenEvent, brokenInRun, broken}
+use Rattle.semantics.specs.Allowed.{Against, valueKnown, Breaks, breaks, ClaimBefore, Names}
+use Rattle.semantics.specs.laws.Test.{both-left, both-right, both, provided-some, andThen-some}
 use Rattle.semantics.specs.laws.List.{getElem-below}
 use Rattle.semantics.specs.laws.Inference.{derivable-exact}
 
@@ -46,87 +46,81 @@ firstIn {A} g a (suc n) = go (g a) refl (firstIn g (suc a) n)
 same-number : (a b : ℕ) → (a < b → ⊥) → (b < a → ⊥) → a ≡ b
 same-number a b f g = omega arith
 
--- the test of a claim
-is-claim : (kind : EventKind) → T (isClaim kind) → kind ≡ claim
-is-claim send t = absurd t
-is-claim read t = absurd t
-is-claim claim t = refl
-
-claim-is : (kind : EventKind) → kind ≡ claim → T (isClaim kind)
-claim-is kind e = rw e tt
-
 -- the claim of an event in a run
-abbrev claimAt : ℕ → ℕ → Claim
-claimAt k j = record { run = suc k; event = j; kind = secrecy }
+abbrev claimAt : ℕ → ℕ → ClaimKind → Claim
+claimAt k j kind = record { run = suc k; event = j; kind = kind }
 
-is-secrecy : (a b : ClaimKind) → a ≡ b
-is-secrecy secrecy secrecy = refl
-
--- a claim is its run and its event
-same-claim : (c : Claim) (k j : ℕ) → c .run ≡ suc k → c .event ≡ j → c ≡ claimAt k j
-same-claim c k j p q = λ i. record { run = p i; event = q i; kind = is-secrecy (c .kind) secrecy i }
+-- a kind of event that is a claim
+claim-kind : (o : EventKind) {kind : ClaimKind} → claimKind o ≡ some kind → o ≡ claim kind
+claim-kind send {kind} e = absurd (Option·none-ne-some kind e)
+claim-kind read {kind} e = absurd (Option·none-ne-some kind e)
+claim-kind (claim k) {kind} e = ap claim (Option·some-injective k kind e)
 
 module _ (sc : Scenario) (s : State) (k : ℕ) (run : Run) (p : Progress) where
-  abbrev valueIn : Event → Option Term
-  valueIn e = valueOf (readingIn (sc .rows) (suc k) run (p .values)) (sc .rows) (e .row)
+  -- what the test of a claim's kind says
+  against-exact : (e : Event) (kind : ClaimKind) → T (isAgainst sc s (suc k) run p e kind) ↔ Against sc s (suc k) run p e kind
+  against-exact e secrecy = (go (claimedValue sc (suc k) run p e) refl, of)
+    where
+      go : (o : Option Term) → claimedValue sc (suc k) run p e ≡ o → T (isKnown (s .known) o) → Against sc s (suc k) run p e secrecy
+      go none q h = absurd h
+      go (some t) q h = valueKnown q (derivable-exact (s .known) t .0 h)
+
+      of : Against sc s (suc k) run p e secrecy → T (isAgainst sc s (suc k) run p e secrecy)
+      of (valueKnown {t = t} q d) = rw q (derivable-exact (s .known) t .1 d)
 
   -- what makes an event a broken claim
-  record BrokenEvent (e : Event) : Type 0 where
-    term : Term
-    value : valueIn e ≡ some term
-    isOne : e .kind ≡ claim
+  record BrokenEvent (e : Event) (kind : ClaimKind) : Type 0 where
+    isOne : e .kind ≡ claim kind
     trusts : T (allTrusted (sc .rows) run)
-    derives : Derives (s .known) term
+    against : Against sc s (suc k) run p e kind
 
   -- the test of an event passes exactly then
-  abbrev holds : Event → Term → Bool
-  holds e t = isClaim (e .kind) && allTrusted (sc .rows) run && derivable (s .known) t
+  abbrev holds : Event → ClaimKind → Bool
+  holds e kind = allTrusted (sc .rows) run && isAgainst sc s (suc k) run p e kind
 
-  event-broken : (j : ℕ) (e : Event) (c : Claim) → brokenEvent sc s (suc k) run p j e ≡ some c → BrokenEvent e × (c ≡ claimAt k j)
+  event-broken : (j : ℕ) (e : Event) (c : Claim) → brokenEvent sc s (suc k) run p j e ≡ some c → BrokenEvent e (c .kind) × (c ≡ claimAt k j (c .kind))
   unfolding brokenEvent
   event-broken j e c q =
-      let w = andThen-some (valueIn e) (λ t. provided (holds e t) (claimAt k j)) .0 q in
+      let w = andThen-some (claimKind (e .kind)) (λ kind. provided (holds e kind) (claimAt k j kind)) .0 q in
       let v = provided-some (holds e (w .0)) .0 (w .2) in
-      let h = all-three (isClaim (e .kind)) (allTrusted (sc .rows) run) (derivable (s .known) (w .0)) .0 (v .0) in (
-        record { term = w .0; value = w .1; isOne = is-claim (e .kind) (h .0); trusts = h .1; derives = derivable-exact (s .known) (w .0) .0 (h .2) },
-        v .1,
+      let same : w .0 ≡ c .kind = sym (ap (λ (x : Claim). x .kind) (v .1)) in
+      let trusts = allTrusted (sc .rows) run in
+      let against = isAgainst sc s (suc k) run p e (w .0) in (
+        record { isOne = claim-kind (e .kind) (w .1) ∙ ap claim same; trusts = both-left trusts against (v .0); against = subst (Against sc s (suc k) run p e) same (against-exact e (w .0) .0 (both-right trusts against (v .0))) },
+        v .1 ∙ ap (claimAt k j) same,
       )
 
-  broken-event : (j : ℕ) (e : Event) → BrokenEvent e → brokenEvent sc s (suc k) run p j e ≡ some (claimAt k j)
+  broken-event : (j : ℕ) (e : Event) {kind : ClaimKind} → BrokenEvent e kind → brokenEvent sc s (suc k) run p j e ≡ some (claimAt k j kind)
   unfolding brokenEvent
-  broken-event j e b =
-      rw (b .value)
-      (provided-some (holds e (b .term)) .1 (
-        all-three (isClaim (e .kind)) (allTrusted (sc .rows) run) (derivable (s .known) (b .term)) .1
-            (claim-is (e .kind) (b .isOne), b .trusts, derivable-exact (s .known) (b .term) .1 (b .derives)),
-        refl,
-      ))
+  broken-event j e {kind} b =
+      ap (λ o. andThen (claimKind o) (λ x. provided (holds e x) (claimAt k j x))) (b .isOne)
+      ∙ provided-some (holds e kind) .1 (both (allTrusted (sc .rows) run) (isAgainst sc s (suc k) run p e kind) (b .trusts) (against-exact e kind .1 (b .against)), refl)
 
   -- the claim of an event, if there is such an event and its claim is broken
   abbrev test : ℕ → Option Claim
   test j = andThen (getElem? (eventsOf sc run) j) (brokenEvent sc s (suc k) run p j)
 
-  test-broken : (j : ℕ) (c : Claim) → test j ≡ some c → (e : Event) × (getElem? (eventsOf sc run) j ≡ some e) × BrokenEvent e × (c ≡ claimAt k j)
+  test-broken : (j : ℕ) (c : Claim) → test j ≡ some c → (e : Event) × (getElem? (eventsOf sc run) j ≡ some e) × BrokenEvent e (c .kind) × (c ≡ claimAt k j (c .kind))
   test-broken j c q =
       let w = andThen-some (getElem? (eventsOf sc run) j) (brokenEvent sc s (suc k) run p j) .0 q in
       let v = event-broken j (w .0) c (w .2) in
       (w .0, w .1, v .0, v .1)
 
-  broken-test : (j : ℕ) (e : Event) → getElem? (eventsOf sc run) j ≡ some e → BrokenEvent e → test j ≡ some (claimAt k j)
+  broken-test : (j : ℕ) (e : Event) {kind : ClaimKind} → getElem? (eventsOf sc run) j ≡ some e → BrokenEvent e kind → test j ≡ some (claimAt k j kind)
   broken-test j e at b = rw at (broken-event j e b)
 
   -- a broken claim of this run comes from one of its events
   breaks-in :
       getElem? (sc .runs) k ≡ some run → getElem? (s .progress) k ≡ some p → (d : Claim) → Breaks sc s d → d .run ≡ suc k
-      → (d .event < p .done) × (test (d .event) ≡ some (claimAt k (d .event)))
-  breaks-in hr hp d (breaks {k = k′} {run = run′} {p = p′} {e = e} {t = t} hr′ hp′ at l isOne trusts value derives num kind) q =
+      → (d .event < p .done) × (test (d .event) ≡ some d)
+  breaks-in hr hp d (breaks {k = k′} {run = run′} {p = p′} {e = e} hr′ hp′ at l isOne trusts against num) q =
       let kk : k′ ≡ k = suc-inj (sym num ∙ q) in
       let rr : run′ ≡ run = Option·some-injective run′ run (sym hr′ ∙ ap (λ (n : ℕ). getElem? (sc .runs) n) kk ∙ hr) in
       let pp : p′ ≡ p = Option·some-injective p′ p (sym hp′ ∙ ap (λ (n : ℕ). getElem? (s .progress) n) kk ∙ hp) in
-      let at′ : getElem? (eventsOf sc run) (d .event) ≡ some e = rw rr at at in (
+      let at′ : getElem? (eventsOf sc run) (d .event) ≡ some e = rw rr at at in
+      let own : claimAt k (d .event) (d .kind) ≡ d = λ i. record { run = sym q i; event = d .event; kind = d .kind } in (
         rw pp at l,
-        broken-test (d .event) e at′
-            (record { term = t; value = rw (kk, rr, pp) at value; isOne = isOne; trusts = rw rr at trusts; derives = derives }),
+        broken-test (d .event) e at′ (record { isOne = isOne; trusts = rw rr at trusts; against = rw (kk, rr, pp) at against }) ∙ ap some own,
       )
 
 module _ (sc : Scenario) (s : State) where
@@ -144,18 +138,18 @@ module _ (sc : Scenario) (s : State) where
         let b = w .2 in
         let ev : c .event ≡ j = ap (λ (x : Claim). x .event) (w .3) in
         inRun {c = c} (ap (λ (x : Claim). x .run) (w .3))
-        (breaks {e = w .0} hr hp (ap (λ (n : ℕ). getElem? (eventsOf sc run) n) ev ∙ w .1) (omega arith) (b .isOne) (b .trusts) (b .value) (b .derives) (ap (λ (x : Claim). x .run) (w .3)) (is-secrecy (c .kind) secrecy))
+        (breaks {e = w .0} hr hp (ap (λ (n : ℕ). getElem? (eventsOf sc run) n) ev ∙ w .1) (omega arith) (b .isOne) (b .trusts) (b .against) (ap (λ (x : Claim). x .run) (w .3)))
         (λ d bd rd lt.
         let x = breaks-in sc s k run p hr hp d bd rd in
-        Option·none-ne-some (claimAt k (d .event)) (sym (before (d .event) (omega arith) (omega arith)) ∙ x .1))
+        Option·none-ne-some d (sym (before (d .event) (omega arith) (omega arith)) ∙ x .1))
     run-view o (notFound all) =
         noneInRun (λ d bd rd.
         let x = breaks-in sc s k run p hr hp d bd rd in
-        Option·none-ne-some (claimAt k (d .event)) (sym (all (d .event) (omega arith) (omega arith)) ∙ x .1))
+        Option·none-ne-some d (sym (all (d .event) (omega arith) (omega arith)) ∙ x .1))
 
   -- a run that is not there has no broken claim
   breaks-present : (k : ℕ) (d : Claim) → Breaks sc s d → d .run ≡ suc k → (run : Run) × (p : Progress) × (getElem? (sc .runs) k ≡ some run) × (getElem? (s .progress) k ≡ some p)
-  breaks-present k d (breaks {k = k′} {run = run} {p = p} hr hp at l isOne trusts value derives num kind) q =
+  breaks-present k d (breaks {k = k′} {run = run} {p = p} hr hp at l isOne trusts against num) q =
       let kk : k′ ≡ k = suc-inj (sym num ∙ q) in
       (run, p, rw kk at hr, rw kk at hp)
 
@@ -175,7 +169,7 @@ module _ (sc : Scenario) (s : State) where
     unbroken : ((d : Claim) → Breaks sc s d → ⊥) → Named none
 
   breaks-number : (d : Claim) → Breaks sc s d → (k : ℕ) × (d .run ≡ suc k) × (k < length (sc .runs))
-  breaks-number d (breaks {k = k} {run = run} hr hp at l isOne trusts value derives num kind) = (k, num, getElem-below (sc .runs) k hr)
+  breaks-number d (breaks {k = k} {run = run} hr hp at l isOne trusts against num) = (k, num, getElem-below (sc .runs) k hr)
 
   none-before : (k : ℕ) → brokenInRun sc s k ≡ none → (d : Claim) → Breaks sc s d → d .run ≡ suc k → ⊥
   none-before k e d b q = go (rw e at (brokenInRun-view k))
@@ -207,8 +201,10 @@ module _ (sc : Scenario) (s : State) where
   pub names-one : (c d : Claim) → Names sc s c → Names sc s d → c ≡ d
   names-one c d n m =
       let w = breaks-number c (n .isBroken) in
-      same-claim c (w .0) (c .event) (w .1) refl
-      ∙ sym (same-claim d (w .0) (c .event) (runs ∙ w .1) events)
+      let v = breaks-present (w .0) c (n .isBroken) (w .1) in
+      let own = breaks-in sc s (w .0) (v .0) (v .1) (v .2) (v .3) c (n .isBroken) (w .1) .1 in
+      let other = breaks-in sc s (w .0) (v .0) (v .1) (v .2) (v .3) d (m .isBroken) (runs ∙ w .1) .1 in
+      Option·some-injective c d (sym own ∙ ap (test sc s (w .0) (v .0) (v .1)) (sym events) ∙ other)
     where
       runs : d .run ≡ c .run
       runs = same-number (d .run) (c .run) (λ l. n .lowest d (m .isBroken) (inl l)) (λ l. m .lowest c (n .isBroken) (inl l))

@@ -66,7 +66,7 @@ module _ (rows : List Row) {runs : ℕ} (sets : List (Atom × Value)) where
   unfolding newVariables
   event-sets send row h = none-sets h
   event-sets read row h = read-sets row h
-  event-sets claim row h = none-sets h
+  event-sets (claim kind) row h = none-sets h
 
 -- the variables among the atoms are those among the rows
 variable-rows : (rows : List Row) → length (keep variableAtom (presentOnes (map (λ row. atomOf (some row)) rows))) ≡ length (keep variableRow rows)
@@ -99,7 +99,7 @@ new-unset : (rows : List Row) (sets : List (Atom × Value)) (kind : EventKind) (
 unfolding newVariables unsetBeneath atomsOf
 new-unset rows sets send row = zero-le
 new-unset rows sets read row = omega (arith, keep-apart (atomAt rows) (λ x. beneath rows x row) (isUnset sets) (λ a. false) (λ a t. absurd t) (numbersFrom 0 (length rows)) (λ x a m b f t n. n))
-new-unset rows sets claim row = zero-le
+new-unset rows sets (claim kind) row = zero-le
 
 -- A run's next event sets no more variables than a table may have.
 pub set-few : (sc : Scenario) → Guarantee sc → (a : Active) → length (toSet sc a) ≤ mostVariables

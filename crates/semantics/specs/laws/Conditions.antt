@@ -8,13 +8,13 @@ use mathlib.Core.Option.{Option, none, some, Option·none-ne-some, Option·some-
 use mathlib.Core.List.{List, [], _∷_, _++_, List·Memᴰ, List·Memᴰ·head, List·Memᴰ·not-nil}
 use lib.Dec.{T, ltb, leb, eqb, lt→ltb, nltb→le}
 use lib.ListN.{length, getElem?}
-use Rattle.semantics.specs.Basic.{present, firstOf, provided, keep, every, rising, Ordered, ordered-none, ordered-more}
+use Rattle.semantics.specs.Basic.{unfitFrom, present, firstOf, provided, keep, every, rising, Ordered, ordered-none, ordered-more}
 use Rattle.semantics.specs.Answer.{refuse}
 use Rattle.semantics.specs.Term.{agentType, freshType, trusted, untrusted, global, intruder, role, variable, local, Term}
 use Rattle.semantics.specs.Table.{Row, atomic, pkOf, skOf, sharedOf, pairOf, encryptedOf, variableRow, agentLike, noPair, fits, admissible, repeated, decode, rowRefusal, rowsFrom}
 use Rattle.semantics.specs.Value.{valueOf, withoutVariables, withoutRun}
 use Rattle.semantics.specs.Frame.{Part, unversioned, tooLong, firstBad, complete}
-use Rattle.semantics.specs.Roles.{EventKind, send, read, claim, Event, Role, eventCount, knowledgeIn, eventsIn, roleLength, rolesPresent, peerFits, eventFits, knowledgeFits, goodRole, badRole, namesPresent, absentRoleFrom}
+use Rattle.semantics.specs.Roles.{secrecy, EventKind, send, read, claim, Event, Role, eventCount, knowledgeIn, eventsIn, roleLength, rolesPresent, peerFits, eventFits, knowledgeFits, goodRole, badRole, namesPresent, absentRoleFrom}
 use Rattle.semantics.specs.WellFormed.{wellFormed, learned, eventTerm, roleKnowledge, illFormedFrom, illFormed}
 use Rattle.semantics.specs.Runs.{atomOf, atomAt, isAgent, runIn, goodRun, badRun, badKnowledgeFrom}
 use Rattle.semantics.specs.Derive.{absentFrom}
@@ -262,9 +262,9 @@ peerFits-exactly roles read peer = (λ t. readsFrom (ltb-iff peer roles .0 t), o
   where
     of : PeerFits roles read peer → T (ltb peer roles)
     of (readsFrom l) = ltb-iff peer roles .1 l
-peerFits-exactly roles claim peer = (λ t. claims (eqb-iff peer 0 .0 t), of)
+peerFits-exactly roles (claim secrecy) peer = (λ t. claims (eqb-iff peer 0 .0 t), of)
   where
-    of : PeerFits roles claim peer → T (eqb peer 0)
+    of : PeerFits roles (claim secrecy) peer → T (eqb peer 0)
     of (claims e) = eqb-iff peer 0 .1 e
 
 -- an event of a record
@@ -455,7 +455,7 @@ module _ (rows : List Row) where
   knowledge-byte least r = both-iff (leb least r) (present (valueOf withoutRun rows r)) (leb-iff least r) (hasValue-iff (valueOf withoutRun rows r))
 
   first-bad-byte : (at least : ℕ) (bytes : List ℕ) (p : ℕ) → badKnowledgeFrom rows at least bytes ≡ some p → FirstBadKnowledge rows at least bytes p
-  unfolding badKnowledgeFrom
+  unfolding unfitFrom
   first-bad-byte at least [] p e = absurd (Option·none-ne-some p e)
   first-bad-byte at least (r ∷ bytes) p e =
       ⊎-elim (λ w. let h = knowledge-byte least r .0 (w .0) in laterByte (h .0) (h .1) (first-bad-byte (suc at) (suc r) bytes p (w .1)))
@@ -463,7 +463,7 @@ module _ (rows : List Row) where
       (choice-some (leb least r && present (valueOf withoutRun rows r)) (badKnowledgeFrom rows (suc at) (suc r) bytes) at p .0 e)
 
   bad-first-byte : {at least : ℕ} {bytes : List ℕ} {p : ℕ} → FirstBadKnowledge rows at least bytes p → badKnowledgeFrom rows at least bytes ≡ some p
-  unfolding badKnowledgeFrom
+  unfolding unfitFrom
   bad-first-byte (badByte {at} {least} {p} {r} {bytes} n e) =
       choice-some (leb least r && present (valueOf withoutRun rows r)) (badKnowledgeFrom rows (suc at) (suc r) bytes) at p .1 (inr (λ t. n (knowledge-byte least r .0 t), e))
   bad-first-byte (laterByte {at} {least} {p} {r} {bytes} l h later) =

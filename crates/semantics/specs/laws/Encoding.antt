@@ -10,14 +10,14 @@ use mathlib.Core.List.{List, [], _∷_, _++_, map, append-assoc, append-nil, Lis
 use lib.Dec.{T, leb, eqb, ltb, leb→le, le→leb, eqb→eq, ltb→lt, lt→ltb}
 use lib.ListN.{length, getD, getElem?, length-take, length-drop, length-map, take, drop, take-append-drop, length-append}
 use lib.Seq.{length-take-le, getD-take, split-at, take-at, drop-at, take-length, take-append-seam, drop-append-seam, drop-append-add, getD-append-seam}
-use Rattle.semantics.specs.Basic.{present, provided, keep, mapped, every, presentOnes, rising}
+use Rattle.semantics.specs.Basic.{unfitFrom, present, provided, keep, mapped, every, presentOnes, rising}
 use Rattle.semantics.specs.Limits.{mostRows, mostVariables, mostRoles, mostRuns, mostEvents}
 use Rattle.semantics.specs.Answer.{accepted}
 use Rattle.semantics.specs.Term.{agentType, freshType, trusted, untrusted, global, intruder, role, variable, local, Term}
 use Rattle.semantics.specs.Table.{Row, atomic, pkOf, skOf, sharedOf, pairOf, encryptedOf, single, variableTypes, decode, variableRow, fits, admissible, repeated, rowsFrom}
 use Rattle.semantics.specs.Value.{valueOf, withoutVariables, withoutRun}
 use Rattle.semantics.specs.Frame.{Part, unversioned, tooLong, blockLength, framed, misframed, budgetOf, blockFrom, block, recordsFrom, records, complete}
-use Rattle.semantics.specs.Roles.{EventKind, send, read, claim, eventKinds, Event, Role, eventFrom, eventsFrom, knowledgeCount, eventCount, roleLength, knowledgeIn, eventsIn, roleIn, roleRecords, rolesPresent, peerFits, eventFits, knowledgeFits, goodRole, badRole, namesPresent, absentRoleFrom, rolesFrom}
+use Rattle.semantics.specs.Roles.{secrecy, EventKind, send, read, claim, eventKinds, Event, Role, eventFrom, eventsFrom, knowledgeCount, eventCount, roleLength, knowledgeIn, eventsIn, roleIn, roleRecords, rolesPresent, peerFits, eventFits, knowledgeFits, goodRole, badRole, namesPresent, absentRoleFrom, rolesFrom}
 use Rattle.semantics.specs.WellFormed.{wellFormed, learned, eventTerm, roleKnowledge, illFormedFrom, illFormed}
 use Rattle.semantics.specs.Runs.{Run, atomAt, isAgent, runLength, runIn, runRecords, goodRun, badRun, runsFrom, badKnowledgeFrom}
 use Rattle.semantics.specs.Scenario.{Scenario, termPart, rolePart, runPart, knowledgePart, roleParts, roleCount, runParts, scenarioOf, opened}
@@ -238,7 +238,7 @@ kind-exactly byte kind = (of-byte byte kind, to-byte)
     of-byte : (byte : ℕ) (kind : EventKind) → getElem? eventKinds byte ≡ some kind → KindByte kind byte
     of-byte zero kind e = rw (← Option·some-injective send kind e) sendByte
     of-byte (suc zero) kind e = rw (← Option·some-injective read kind e) readByte
-    of-byte (suc (suc zero)) kind e = rw (← Option·some-injective claim kind e) claimByte
+    of-byte (suc (suc zero)) kind e = rw (← Option·some-injective (claim secrecy) kind e) claimByte
     of-byte (suc (suc (suc byte))) kind e = absurd (Option·none-ne-some kind e)
 
     to-byte : {byte : ℕ} {kind : EventKind} → KindByte kind byte → getElem? eventKinds byte ≡ some kind
@@ -703,7 +703,7 @@ roles-formed rows own (r ∷ roles) h =
 -- a knowledge row that is high enough and has a value is not refused
 knowledge-next : (rows : List Row) (at least r : ℕ) (bytes : List ℕ) → least ≤ r → HasValue withoutRun rows r → badKnowledgeFrom rows (suc at) (suc r) bytes ≡ none
     → badKnowledgeFrom rows at least (r ∷ bytes) ≡ none
-unfolding badKnowledgeFrom
+unfolding unfitFrom
 knowledge-next rows at least r bytes l v e =
     passed-gives (leb least r && present (valueOf withoutRun rows r)) (badKnowledgeFrom rows (suc at) (suc r) bytes) at
     (both (leb least r) (present (valueOf withoutRun rows r)) (le→leb least r l) (hasValue-iff (valueOf withoutRun rows r) .1 v)) e
@@ -711,7 +711,7 @@ knowledge-next rows at least r bytes l v e =
 -- no knowledge row is refused where they rise from a number on and have values
 knowledge-from : (rows : List Row) (at least r : ℕ) (bytes : List ℕ) → least ≤ r → T (rising (r ∷ bytes)) → ((x : ℕ) → List·Memᴰ x (r ∷ bytes) → HasValue withoutRun rows x)
     → badKnowledgeFrom rows at least (r ∷ bytes) ≡ none
-unfolding badKnowledgeFrom
+unfolding unfitFrom
 knowledge-from rows at least r [] l t h = knowledge-next rows at least r [] l (h r (List·Memᴰ·head refl)) refl
 knowledge-from rows at least r (q ∷ bytes) l t h =
     knowledge-next rows at least r (q ∷ bytes) l (h r (List·Memᴰ·head refl))
@@ -719,7 +719,7 @@ knowledge-from rows at least r (q ∷ bytes) l t h =
 
 -- no knowledge row is refused where they rise and have values
 knowledge-passes : (rows : List Row) (at : ℕ) (bytes : List ℕ) → T (rising bytes) → ((x : ℕ) → List·Memᴰ x bytes → HasValue withoutRun rows x) → badKnowledgeFrom rows at 0 bytes ≡ none
-unfolding badKnowledgeFrom
+unfolding unfitFrom
 knowledge-passes rows at [] t h = refl
 knowledge-passes rows at (r ∷ bytes) t h = knowledge-from rows at 0 r bytes (omega arith) t h
 

@@ -15,14 +15,13 @@ use Rattle.semantics.specs.Basic.{Ordered, decided, andThen, mapped, map
 use Rattle.semantics.specs.Term.{VariableType, atom?, Atom, trusted, untrusted, global, intruder, role, variable, local, Term, atom, pk, sk, shared, pair, encrypted, inverse}
 use Rattle.semantics.specs.Table.{Row, atomic, pkOf, skOf, sharedOf, pairOf, encryptedOf, variableAtom}
 use Rattle.semantics.specs.Value.{Reading, valueOf, beneath, asAtoms, withoutVariables, withoutRun}
-use Rattle.semantics.specs.Runs.{Run, atomOf, atomAt, isTrusted}
-use Rattle.semantics.specs.Roles.{EventKind, send, read, claim, Event, Role}
+use Rattle.semantics.specs.Runs.{Run, atomOf, atomAt, isTrusted, allTrusted}
+use Rattle.semantics.specs.Roles.{ClaimKind, EventKind, send, read, claim, Event, Role}
 use Rattle.semantics.specs.WellFormed.{learned, roleKnowledge}
 use Rattle.semantics.specs.Scenario.{Scenario}
-use Rattle.semantics.specs.State.{Value, Progress, State, Active, active, inRun, termOf, assigned, readingIn, intruderAtom, atomsOf, initialKnowledge, initial, eventsOf, unsetBeneath, newVariables, paired}
-use Rattle.semantics.specs.Moves.{Move, Message, message, toSet, advanced, setAfter}
+use Rattle.semantics.specs.State.{Value, Progress, State, Active, active, inRun, termOf, assigned, readingIn, intruderAtom, atomsOf, initialKnowledge, initial, eventsOf, unsetBeneath, newVariables, paired, Message}
+use Rattle.semantics.specs.Moves.{Move, message, toSet, advanced, setAfter}
 use Rattle.semantics.specs.Tree.{Follows, stays, moves}
-use Rattle.semantics.specs.Verdict.{allTrusted}
 use Rattle.semantics.specs.Allowed.{Step, step, AllowedTrace}
 use Rattle.semantics.specs.Guarantee.{refersTo, GoodTable}
 use Rattle.semantics.specs.Meaning.{InverseIs, ofPublic, ofSecret, ofItself, ValueIs, atomValue, pkValue, skValue, sharedValue, pairValue, encryptedValue, LiesBeneath, itself, inside, Constant, trustedAgent, untrustedAgent, globalConstant, intruderConstant, ValueAtom, ownAtom, localAtom, StandsFor, standsItself, standsAgent, standsValue, standsLocal, NoVariable, constantFixed, roleFixed, localFixed, Passes, passesFirst, passesNext, passesOther, ActiveIn, KnownAtStart, fromList, anIntruderConstant, UnsetAt, TermsOf}
@@ -465,8 +464,8 @@ module _ {rows : List Row} (good : GoodTable rows) (sets : List (Atom × Value))
 send-not-read : ¬ (send ≡ read)
 send-not-read e = let z : _≡_ {A = ℕ} 0 1 = cc in omega arith
 
-claim-not-read : ¬ (claim ≡ read)
-claim-not-read e = let z : _≡_ {A = ℕ} 0 1 = cc in omega arith
+claim-not-read : (kind : ClaimKind) → ¬ (claim kind ≡ read)
+claim-not-read kind e = let z : _≡_ {A = ℕ} 0 1 = cc in omega arith
 
 -- a send or claim sets none, a read those
 pub new-exactly : (rows : List Row) (sets : List (Atom × Value)) (kind : EventKind) (pattern : ℕ) (x : Atom)
@@ -474,7 +473,7 @@ pub new-exactly : (rows : List Row) (sets : List (Atom × Value)) (kind : EventK
 unfolding newVariables
 new-exactly rows sets send pattern x = (λ m. absurd (List·Memᴰ·not-nil m), λ w. absurd (send-not-read (w .0)))
 new-exactly rows sets read pattern x = (λ m. (refl, m), λ w. w .1)
-new-exactly rows sets claim pattern x = (λ m. absurd (List·Memᴰ·not-nil m), λ w. absurd (claim-not-read (w .0)))
+new-exactly rows sets (claim kind) pattern x = (λ m. absurd (List·Memᴰ·not-nil m), λ w. absurd (claim-not-read kind (w .0)))
 
 -- The events of a run are those of its role.
 pub events-exactly : (sc : Scenario) (run : Run) (r : Role) → getElem? (sc .roles) (run .role) ≡ some r → eventsOf sc run ≡ r .events
@@ -540,4 +539,4 @@ role-knows rows good r = listed-terms good (r .knowledge)
 pub learned-exactly : (known : List Term) (kind : EventKind) (t x : Term) → List·Memᴰ x (learned known kind t) ↔ (List·Memᴰ x known ⊎ ((kind ≡ read) × (x ≡ t)))
 learned-exactly known send t x = (inl, λ w. ⊎-elim (λ m. m) (λ v. absurd (send-not-read (v .0))) w)
 learned-exactly known read t x = (λ m. mem-cases m (λ e. inr (refl, e)) inl, λ w. ⊎-elim List·Memᴰ·tail (λ v. List·Memᴰ·head (v .1)) w)
-learned-exactly known claim t x = (inl, λ w. ⊎-elim (λ m. m) (λ v. absurd (claim-not-read (v .0))) w)
+learned-exactly known (claim kind) t x = (inl, λ w. ⊎-elim (λ m. m) (λ v. absurd (claim-not-read kind (v .0))) w)

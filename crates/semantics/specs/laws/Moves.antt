@@ -8,18 +8,18 @@ use mathlib.Core.Option.{Option, none, some, Option·some-injective, Option·non
 use mathlib.Core.List.{List, [], _∷_, map, List·Memᴰ, List·Memᴰ·head, List·Memᴰ·tail, List·Memᴰ·not-nil, List·Memᴰ·eq-of-singleton}
 use lib.Dec.{T, eqb, eqb→eq, eqb-refl}
 use lib.ListN.{length, getElem?}
-use Rattle.semantics.specs.Basic.{mapped, numbersFrom, Ordered, ordered-none}
+use Rattle.semantics.specs.Basic.{joined, mapped, numbersFrom, Ordered, ordered-none}
 use Rattle.semantics.specs.Term.{VariableType, agentType, freshType, Atom, trusted, untrusted, global, intruder, role, variable, local, Term}
 use Rattle.semantics.specs.Inference.{Derives, derivable}
 use Rattle.semantics.specs.Table.{Row}
 use Rattle.semantics.specs.Roles.{EventKind, send, read, claim}
 use Rattle.semantics.specs.Runs.{atomAt, isAgent}
 use Rattle.semantics.specs.Scenario.{Scenario}
-use Rattle.semantics.specs.State.{Value, State, Active, active, eventsOf}
-use Rattle.semantics.specs.Moves.{Move, Message, runsFor, valuesAt, valuesOfType, candidates, choices, knownAfter, toSet, messageAfter, advanced, performed, branch, movesOfRun, movesOf}
+use Rattle.semantics.specs.State.{Value, State, Active, active, eventsOf, Message}
+use Rattle.semantics.specs.Moves.{Move, runsFor, valuesAt, valuesOfType, candidates, choices, knownAfter, toSet, messageAfter, advanced, performed, branch, movesOfRun, Listing, full, runsIn, movesIn}
 use Rattle.semantics.specs.Tree.{Earlier, differs, agrees}
 use Rattle.semantics.specs.Replay.{sameValue, isValueOf, suits, after}
-use Rattle.semantics.specs.Allowed.{MayTake, anAgent, anIntruder, aLocal, Takes, takesNone, takesMore, Performs, sends, reads, claims, Step, step, ValueBefore, byRow, byRun, MoveBefore, earlierRun, earlierValues}
+use Rattle.semantics.specs.Allowed.{StepIn, MayTake, anAgent, anIntruder, aLocal, Takes, takesNone, takesMore, Performs, sends, reads, claims, Step, step, ValueBefore, byRow, byRun, MoveBefore, earlierRun, earlierValues}
 pub use Rattle.semantics.specs.Meaning.{ActiveIn}
 use Rattle.semantics.specs.laws.Test.{both-left, both-right, both, all-three, guarded-some, either-left, either-right, either-cases, provided-some, andThen-some, mapped-some}
 use Rattle.semantics.specs.laws.List.{mem-cases, mem-joined, mem-map, mem-present, mem-numbersFrom, getElem-below, ordered-one, ordered-imply, ordered-map, ordered-joined, ordered-present, ordered-numbersFrom}
@@ -194,7 +194,7 @@ known-performs send known none {after} e = absurd (Option·none-ne-some after e)
 known-performs send known (some m) {after} e = sends (sym (Option·some-injective _ after e))
 known-performs read known none {after} e = absurd (Option·none-ne-some after e)
 known-performs read known (some m) {after} e = let w = provided-some (readable known m) .0 e in let d = readable-exact known m .0 (w .0) in reads (d .0) (d .1) (d .2) (w .1)
-known-performs claim known m {after} e = claims (sym (Option·some-injective known after e))
+known-performs (claim kind) known m {after} e = claims (sym (Option·some-injective known after e))
 
 -- an event is performed as the rules say
 pub knownAfter-exact : (kind : EventKind) (known : List Term) (m : Option Message) (after : List Term) → (knownAfter kind known m ≡ some after) ↔ Performs known kind m after
@@ -262,18 +262,25 @@ module _ (sc : Scenario) (s : State) where
   active-mem : (u : ℕ) {a : Active} → active sc s u ≡ some a → List·Memᴰ u (numbersFrom 1 (length (sc .runs)))
   active-mem u {a} e = let w = active-in u e in mem-numbersFrom 1 (length (sc .runs)) .1 (omega (arith, getElem-below (sc .runs) (a .index) (w .ofRun), w .numbered))
 
-  -- the moves are the allowed moves
-  pub moves-exact : (m : Move) (s′ : State) → List·Memᴰ (m, s′) (movesOf sc s) ↔ Step sc s m s′
-  unfolding movesOf movesOfRun
-  moves-exact m s′ =
-      let all = mem-joined (λ u. movesOfRun sc s u (active sc s u)) (numbersFrom 1 (length (sc .runs))) in (
-        λ h. let w = all .0 h in found (w .0) (active sc s (w .0)) refl (w .2),
-        λ p. let w = step-made p in all .1 (m .run, active-mem (m .run) (w .1), rw (w .1) (mem-movesOfRun (m .run) (w .0) .1 (m .values, takes-choice _ _ (w .2), w .3, refl))),
+  -- the moves of some runs are the allowed moves of these runs
+  moves-of-runs : (us : List ℕ) (m : Move) (s′ : State) → List·Memᴰ (m, s′) (joined (λ u. movesOfRun sc s u (active sc s u)) us) ↔ (List·Memᴰ (m .run) us × Step sc s m s′)
+  unfolding movesOfRun
+  moves-of-runs us m s′ =
+      let all = mem-joined (λ u. movesOfRun sc s u (active sc s u)) us in (
+        λ h. let w = all .0 h in let v = found (w .0) (active sc s (w .0)) refl (w .2) in (rw (v .0) (w .1), v .1),
+        λ p. let w = step-made (p .1) in all .1 (m .run, p .0, rw (w .1) (mem-movesOfRun (m .run) (w .0) .1 (m .values, takes-choice _ _ (w .2), w .3, refl))),
       )
     where
-      found : (u : ℕ) (o : Option Active) → active sc s u ≡ o → List·Memᴰ (m, s′) (movesOfRun sc s u o) → Step sc s m s′
+      found : (u : ℕ) (o : Option Active) → active sc s u ≡ o → List·Memᴰ (m, s′) (movesOfRun sc s u o) → (m .run ≡ u) × Step sc s m s′
       found u none e h = absurd (List·Memᴰ·not-nil h)
-      found u (some a) e h = let w = mem-movesOfRun u a .0 h in rw (w .3) (made-step (a, e, choice-takes _ _ _ (w .1), w .2))
+      found u (some a) e h = let w = mem-movesOfRun u a .0 h in (ap (λ (x : Move). x .run) (w .3), rw (w .3) (made-step (a, e, choice-takes _ _ _ (w .1), w .2)))
+
+  -- the moves of a list are the allowed moves that it goes on with
+  pub moves-exact : (which : Listing) (m : Move) (s′ : State) → List·Memᴰ (m, s′) (movesIn which sc s) ↔ StepIn which sc s m s′
+  unfolding movesIn runsIn
+  moves-exact full m s′ =
+      let all = moves-of-runs (numbersFrom 1 (length (sc .runs))) m s′ in
+      (λ h. all .0 h .1, λ p. all .1 (active-mem (m .run) (step-made p .1), p))
 
   -- whether the values of a move suit the next event of a run
   abbrev fits : Move → Active → Bool
@@ -368,10 +375,15 @@ module _ (sc : Scenario) (s : State) where
       across : (vs ws : List Value) (b c : Move × State) → Earlier ValueBefore vs ws → branchBy sc s u a vs ≡ some b → branchBy sc s u a ws ≡ some c → MoveBefore (b .0) (c .0)
       across vs ws b c h e f = rw (mapped-branch u vs (performed sc s a vs) .0 e .1, mapped-branch u ws (performed sc s a ws) .0 f .1) (earlierValues refl h)
 
+  -- so are the runs of a list
+  runs-ordered : (which : Listing) → Ordered _<_ (runsIn which sc s)
+  unfolding runsIn
+  runs-ordered full = ordered-numbersFrom 1 (length (sc .runs))
+
   -- the moves are in order
-  pub moves-ordered : Ordered (λ b c. MoveBefore (b .0) (c .0)) (movesOf sc s)
-  unfolding movesOf
-  moves-ordered = ordered-joined (λ u. movesOfRun sc s u (active sc s u)) (ordered-numbersFrom 1 (length (sc .runs))) (λ u h. movesOfRun-ordered u (active sc s u)) across
+  pub moves-ordered : (which : Listing) → Ordered (λ b c. MoveBefore (b .0) (c .0)) (movesIn which sc s)
+  unfolding movesIn
+  moves-ordered which = ordered-joined (λ u. movesOfRun sc s u (active sc s u)) (runs-ordered which) (λ u h. movesOfRun-ordered u (active sc s u)) across
     where
       across : (u u′ : ℕ) (b c : Move × State) → u < u′ → List·Memᴰ b (movesOfRun sc s u (active sc s u)) → List·Memᴰ c (movesOfRun sc s u′ (active sc s u′)) → MoveBefore (b .0) (c .0)
       across u u′ b c l h k = earlierRun (omega (arith, movesOfRun-run u (active sc s u) h, movesOfRun-run u′ (active sc s u′) k))

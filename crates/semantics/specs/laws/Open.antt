@@ -10,7 +10,7 @@ use mathlib.Core.Option.{none, some, Option·none-ne-some, Option·some-injectiv
 use mathlib.Core.List.{List, [], _∷_, map, List·Memᴰ, List·Memᴰ·not-nil}
 use lib.Dec.{T, ltb, leb, ltb→lt, lt→ltb, leb→le}
 use lib.ListN.{length, getElem?, getD, take, drop, length-map, length-take, length-drop}
-use Rattle.semantics.specs.Basic.{present, presentOnes, rising}
+use Rattle.semantics.specs.Basic.{unfitFrom, present, presentOnes, rising}
 use Rattle.semantics.specs.Limits.{mostRoles, mostRuns, mostEvents}
 use Rattle.semantics.specs.Answer.{accepted}
 use Rattle.semantics.specs.Term.{trusted, untrusted, global, intruder, role, variable, local, Term}
@@ -179,7 +179,7 @@ absentRole-none roles at (q ∷ rows) h (suc x) row e = absentRole-none roles (a
 -- a knowledge byte that is not refused, and those after it
 knowledge-step : (rows : List Row) (at least r : ℕ) (bytes : List ℕ) → badKnowledgeFrom rows at least (r ∷ bytes) ≡ none
     → T (leb least r) × HasValue withoutRun rows r × (badKnowledgeFrom rows (suc at) (suc r) bytes ≡ none)
-unfolding badKnowledgeFrom
+unfolding unfitFrom
 knowledge-step rows at least r bytes h =
     let w = passed-none (leb least r && present (valueOf withoutRun rows r)) (badKnowledgeFrom rows (suc at) (suc r) bytes) at h in
     let p = both-right (leb least r) (present (valueOf withoutRun rows r)) (w .0) in

@@ -12,9 +12,9 @@ use lib.Seq.{take-append-seam, drop-append-seam}
 use Rattle.semantics.specs.Answer.{Answer, refused, accepted, refuse, checked, _>>=_, _>>_}
 use Rattle.semantics.specs.Frame.{budgetOf}
 use Rattle.semantics.specs.Scenario.{Scenario, scenarioOf, opened}
-use Rattle.semantics.specs.State.{State, initial}
-use Rattle.semantics.specs.Moves.{Move}
-use Rattle.semantics.specs.Verdict.{Claim, traceList, broken, Verdict, brokenAt, held, stopped, verdict, traceBytes, shortBuffer, searched, written, bufferAfter}
+use Rattle.semantics.specs.State.{State, initial, Claim}
+use Rattle.semantics.specs.Moves.{Move, Listing}
+use Rattle.semantics.specs.Verdict.{traceList, broken, Verdict, brokenAt, held, stopped, verdict, traceBytes, shortBuffer, searchedIn, written, bufferIn}
 use Rattle.semantics.specs.Replay.{replayedFrom, replayed}
 use Rattle.semantics.specs.Allowed.{AllowedTrace}
 use Rattle.semantics.specs.Demand.{SomeBreak, FirstBreak, NoBreak}
@@ -23,7 +23,7 @@ use Rattle.semantics.specs.laws.Test.{provided-some, ltb-iff}
 use Rattle.semantics.specs.laws.List.{mem-getElem}
 use Rattle.semantics.specs.laws.Answer.{refused-not-accepted, refused-same, accepted-same, checked-passed, bound-refused, bound-accepted}
 use Rattle.semantics.specs.laws.Refusals.{open-refuses, open-accepts}
-use Rattle.semantics.specs.laws.Traces.{traces-exact}
+use Rattle.semantics.specs.laws.Traces.{trace-in, traces-exact}
 use Rattle.semantics.specs.laws.Bytes.{trace-bytes}
 use Rattle.semantics.specs.laws.Open.{opened-guarantee}
 use Rattle.semantics.specs.laws.Broken.{broken-named}
@@ -36,17 +36,17 @@ unfolding scenarioOf
 budget-of file sc e = ap (λ x. x .budget) (open-accepts file sc .0 e .1 .3)
 
 -- the trace of the first break is allowed
-first-allowed : (sc : Scenario) (place : ℕ) (ms : List Move) {c : Claim} (f : FirstBreak sc place ms c) → AllowedTrace sc ms (f .end)
-first-allowed sc zero ms f = absurd (Option·none-ne-some (ms, f .end) (f .listed))
-first-allowed sc (suc i) ms f = traces-exact sc ms (f .end) .0 (mem-getElem (traceList sc) .1 (i, f .listed))
+first-allowed : (which : Listing) (sc : Scenario) (place : ℕ) (ms : List Move) {c : Claim} (f : FirstBreak which sc place ms c) → AllowedTrace sc ms (f .end)
+first-allowed which sc zero ms f = absurd (Option·none-ne-some (ms, f .end) (f .listed))
+first-allowed which sc (suc i) ms f = trace-in which sc (traces-exact which sc ms (f .end) .0 (mem-getElem (traceList which sc) .1 (i, f .listed)))
 
-module _ (file buffer : List ℕ) where
+module _ (which : Listing) (file buffer : List ℕ) where
   -- what Search goes on with
   abbrev afterOpen : Scenario → Answer Verdict
-  afterOpen sc = _>>_ (checked 10 (shortBuffer buffer)) (accepted (verdict sc))
+  afterOpen sc = _>>_ (checked 10 (shortBuffer buffer)) (accepted (verdict which sc))
 
-  searched-bound : searched file buffer ≡ _>>=_ (opened file) afterOpen
-  unfolding searched
+  searched-bound : searchedIn which file buffer ≡ _>>=_ (opened file) afterOpen
+  unfolding searchedIn
   searched-bound = refl
 
   -- a buffer is too short exactly if it has fewer than 128 bytes
@@ -76,86 +76,86 @@ module _ (file buffer : List ℕ) where
   enough-long e = ⊎-elim (λ l. l) (λ l. absurd (Option·none-ne-some (length buffer) (sym e ∙ short-exactly (length buffer) .1 (l, refl)))) short-or-long
 
   -- Search gives a verdict exactly if the file is accepted and the buffer is long enough: the scenario's verdict.
-  pub search-answers : (v : Verdict) → (searched file buffer ≡ accepted v) ↔ ((sc : Scenario) × (opened file ≡ accepted sc) × (128 ≤ length buffer) × (verdict sc ≡ v))
+  pub search-answers : (v : Verdict) → (searchedIn which file buffer ≡ accepted v) ↔ ((sc : Scenario) × (opened file ≡ accepted sc) × (128 ≤ length buffer) × (verdict which sc ≡ v))
   search-answers v = (
     λ e.
         let w = bound-accepted (opened file) afterOpen .0 (sym searched-bound ∙ e) in
-        let c = checked-passed 10 (shortBuffer buffer) (accepted (verdict (w .0))) (w .2) in
+        let c = checked-passed 10 (shortBuffer buffer) (accepted (verdict which (w .0))) (w .2) in
         (w .0, w .1, enough-long (c .0), accepted-same (c .1)),
-    λ w. searched-bound ∙ bound-accepted (opened file) afterOpen .1 (w .0, w .1, ap (λ o. _>>_ (checked 10 o) (accepted (verdict (w .0)))) (long-enough (w .2)) ∙ ap accepted (w .3)),
+    λ w. searched-bound ∙ bound-accepted (opened file) afterOpen .1 (w .0, w .1, ap (λ o. _>>_ (checked 10 o) (accepted (verdict which (w .0)))) (long-enough (w .2)) ∙ ap accepted (w .3)),
   )
 
   -- Search refuses as Open, then 10.
-  pub search-refuses : (n at : ℕ) → (searched file buffer ≡ refuse n at) ↔ SearchRefuses file buffer n at
+  pub search-refuses : (n at : ℕ) → (searchedIn which file buffer ≡ refuse n at) ↔ SearchRefuses file buffer n at
   search-refuses n at = (λ e. ⊎-elim (λ r. openRefuses (open-refuses file n at .0 r)) by-buffer (bound-refused (opened file) afterOpen .0 (sym searched-bound ∙ e)), refuses)
     where
       by-buffer : (sc : Scenario) × (opened file ≡ accepted sc) × (afterOpen sc ≡ refuse n at) → SearchRefuses file buffer n at
       by-buffer w = go (shortBuffer buffer) refl (w .2)
         where
-          go : (o : Option ℕ) → shortBuffer buffer ≡ o → _>>_ (checked 10 o) (accepted (verdict (w .0))) ≡ refuse n at → SearchRefuses file buffer n at
+          go : (o : Option ℕ) → shortBuffer buffer ≡ o → _>>_ (checked 10 o) (accepted (verdict which (w .0))) ≡ refuse n at → SearchRefuses file buffer n at
           go none q e = absurd (refused-not-accepted (sym e))
           go (some p) q e = let v = refused-same e in let x = short-exactly p .0 q in tooShort (w .1) (x .0) (sym (v .0)) (sym (v .1) ∙ x .1)
 
-      refuses : SearchRefuses file buffer n at → searched file buffer ≡ refuse n at
+      refuses : SearchRefuses file buffer n at → searchedIn which file buffer ≡ refuse n at
       refuses (openRefuses h) = searched-bound ∙ bound-refused (opened file) afterOpen .1 (inl (open-refuses file n at .1 h))
       refuses (tooShort {sc} e l q p) =
           searched-bound
-          ∙ bound-refused (opened file) afterOpen .1 (inr (sc, e, ap (λ o. _>>_ (checked 10 o) (accepted (verdict sc))) (short-exactly at .1 (l, p)) ∙ (λ i. refuse (sym q i) at)))
+          ∙ bound-refused (opened file) afterOpen .1 (inr (sc, e, ap (λ o. _>>_ (checked 10 o) (accepted (verdict which sc))) (short-exactly at .1 (l, p)) ∙ (λ i. refuse (sym q i) at)))
 
   -- HELD on bytes
-  pub search-held : (n : ℕ) → (searched file buffer ≡ accepted (held n))
-      ↔ ((sc : Scenario) × (opened file ≡ accepted sc) × (128 ≤ length buffer) × NoBreak sc × (length (traceList sc) ≤ budgetOf file) × (n ≡ length (traceList sc)))
+  pub search-held : (n : ℕ) → (searchedIn which file buffer ≡ accepted (held n))
+      ↔ ((sc : Scenario) × (opened file ≡ accepted sc) × (128 ≤ length buffer) × NoBreak which sc × (length (traceList which sc) ≤ budgetOf file) × (n ≡ length (traceList which sc)))
   search-held n = (
     λ e.
         let w = search-answers (held n) .0 e in
-        let h = verdict-held (w .0) n .0 (w .3) in
+        let h = verdict-held which (w .0) n .0 (w .3) in
         let l = h .1 in
         (w .0, w .1, w .2, h .0, omega (arith, budget-of file (w .0) (w .1)), h .2),
-    λ w. search-answers (held n) .1 (w .0, w .1, w .2, verdict-held (w .0) n .1 (w .3, (let l = w .4 in omega (arith, budget-of file (w .0) (w .1))), w .5)),
+    λ w. search-answers (held n) .1 (w .0, w .1, w .2, verdict-held which (w .0) n .1 (w .3, (let l = w .4 in omega (arith, budget-of file (w .0) (w .1))), w .5)),
   )
 
   -- BROKEN on bytes
-  pub search-broken : (place : ℕ) (ms : List Move) (c : Claim) → (searched file buffer ≡ accepted (brokenAt place ms c))
-      ↔ ((sc : Scenario) × (opened file ≡ accepted sc) × (128 ≤ length buffer) × FirstBreak sc place ms c)
+  pub search-broken : (place : ℕ) (ms : List Move) (c : Claim) → (searchedIn which file buffer ≡ accepted (brokenAt place ms c))
+      ↔ ((sc : Scenario) × (opened file ≡ accepted sc) × (128 ≤ length buffer) × FirstBreak which sc place ms c)
   search-broken place ms c = (
-    λ e. let w = search-answers (brokenAt place ms c) .0 e in (w .0, w .1, w .2, verdict-broken (w .0) place ms c .0 (w .3)),
-    λ w. search-answers (brokenAt place ms c) .1 (w .0, w .1, w .2, verdict-broken (w .0) place ms c .1 (w .3)),
+    λ e. let w = search-answers (brokenAt place ms c) .0 e in (w .0, w .1, w .2, verdict-broken which (w .0) place ms c .0 (w .3)),
+    λ w. search-answers (brokenAt place ms c) .1 (w .0, w .1, w .2, verdict-broken which (w .0) place ms c .1 (w .3)),
   )
 
-  pub search-breaks : ((place : ℕ) × (ms : List Move) × (c : Claim) × (searched file buffer ≡ accepted (brokenAt place ms c)))
-      ↔ ((sc : Scenario) × (opened file ≡ accepted sc) × (128 ≤ length buffer) × SomeBreak sc)
+  pub search-breaks : ((place : ℕ) × (ms : List Move) × (c : Claim) × (searchedIn which file buffer ≡ accepted (brokenAt place ms c)))
+      ↔ ((sc : Scenario) × (opened file ≡ accepted sc) × (128 ≤ length buffer) × SomeBreak which sc)
   search-breaks = (
-    λ w. let v = search-answers (brokenAt (w .0) (w .1) (w .2)) .0 (w .3) in (v .0, v .1, v .2, verdict-breaks (v .0) .0 (w .0, w .1, w .2, v .3)),
-    λ w. let v = verdict-breaks (w .0) .1 (w .3) in (v .0, v .1, v .2, search-answers (brokenAt (v .0) (v .1) (v .2)) .1 (w .0, w .1, w .2, v .3)),
+    λ w. let v = search-answers (brokenAt (w .0) (w .1) (w .2)) .0 (w .3) in (v .0, v .1, v .2, verdict-breaks which (v .0) .0 (w .0, w .1, w .2, v .3)),
+    λ w. let v = verdict-breaks which (w .0) .1 (w .3) in (v .0, v .1, v .2, search-answers (brokenAt (v .0) (v .1) (v .2)) .1 (w .0, w .1, w .2, v .3)),
   )
 
   -- STOPPED on bytes
-  pub search-stopped : (n : ℕ) → (searched file buffer ≡ accepted (stopped n))
-      ↔ ((sc : Scenario) × (opened file ≡ accepted sc) × (128 ≤ length buffer) × (n ≡ budgetOf file) × (¬ SomeBreak sc) × (¬ (NoBreak sc × (length (traceList sc) ≤ budgetOf file))))
+  pub search-stopped : (n : ℕ) → (searchedIn which file buffer ≡ accepted (stopped n))
+      ↔ ((sc : Scenario) × (opened file ≡ accepted sc) × (128 ≤ length buffer) × (n ≡ budgetOf file) × (¬ SomeBreak which sc) × (¬ (NoBreak which sc × (length (traceList which sc) ≤ budgetOf file))))
   search-stopped n = (
     λ e.
         let w = search-answers (stopped n) .0 e in
-        let h = verdict-stopped (w .0) n .0 (w .3) in
+        let h = verdict-stopped which (w .0) n .0 (w .3) in
         let b = budget-of file (w .0) (w .1) in
         (w .0, w .1, w .2, h .0 ∙ b, h .1, λ x. h .2 (x .0, (let l = x .1 in omega arith))),
     λ w.
         let b = budget-of file (w .0) (w .1) in
-        search-answers (stopped n) .1 (w .0, w .1, w .2, verdict-stopped (w .0) n .1 (w .3 ∙ sym b, w .4, λ x. w .5 (x .0, (let l = x .1 in omega arith)))),
+        search-answers (stopped n) .1 (w .0, w .1, w .2, verdict-stopped which (w .0) n .1 (w .3 ∙ sym b, w .4, λ x. w .5 (x .0, (let l = x .1 in omega arith)))),
   )
 
   -- A refusal, HELD and STOPPED leave the buffer as it was.
-  pub search-keeps : (a : Answer Verdict) → searched file buffer ≡ a → ((place : ℕ) (ms : List Move) (c : Claim) → ¬ (a ≡ accepted (brokenAt place ms c))) → bufferAfter file buffer ≡ buffer
-  unfolding bufferAfter
+  pub search-keeps : (a : Answer Verdict) → searchedIn which file buffer ≡ a → ((place : ℕ) (ms : List Move) (c : Claim) → ¬ (a ≡ accepted (brokenAt place ms c))) → bufferIn which file buffer ≡ buffer
+  unfolding bufferIn
   search-keeps (refused r) e n = rw e
   search-keeps (accepted (brokenAt place ms c)) e n = absurd (n place ms c refl)
   search-keeps (accepted (held k)) e n = rw e
   search-keeps (accepted (stopped k)) e n = rw e
 
   -- BROKEN leaves the trace at the buffer's front, the rest and the length as they were.
-  pub search-writes : (place : ℕ) (ms : List Move) (c : Claim) → searched file buffer ≡ accepted (brokenAt place ms c)
-      → (take (length (traceBytes ms)) (bufferAfter file buffer) ≡ traceBytes ms)
-      × (drop (length (traceBytes ms)) (bufferAfter file buffer) ≡ drop (length (traceBytes ms)) buffer)
-      × (length (bufferAfter file buffer) ≡ length buffer)
+  pub search-writes : (place : ℕ) (ms : List Move) (c : Claim) → searchedIn which file buffer ≡ accepted (brokenAt place ms c)
+      → (take (length (traceBytes ms)) (bufferIn which file buffer) ≡ traceBytes ms)
+      × (drop (length (traceBytes ms)) (bufferIn which file buffer) ≡ drop (length (traceBytes ms)) buffer)
+      × (length (bufferIn which file buffer) ≡ length buffer)
   search-writes place ms c e = (
     ap (take (length (traceBytes ms))) after ∙ take-append-seam (traceBytes ms) rest,
     ap (drop (length (traceBytes ms))) after ∙ drop-append-seam (traceBytes ms) rest,
@@ -165,14 +165,14 @@ module _ (file buffer : List ℕ) where
       rest : List ℕ
       rest = drop (length (traceBytes ms)) buffer
 
-      after : bufferAfter file buffer ≡ traceBytes ms ++ rest
-      after = unfold bufferAfter in ap (written buffer) e
+      after : bufferIn which file buffer ≡ traceBytes ms ++ rest
+      after = unfold bufferIn in ap (written buffer) e
 
-      found : (sc : Scenario) × (opened file ≡ accepted sc) × (128 ≤ length buffer) × FirstBreak sc place ms c
+      found : (sc : Scenario) × (opened file ≡ accepted sc) × (128 ≤ length buffer) × FirstBreak which sc place ms c
       found = search-broken place ms c .0 e
 
       fits : length (traceBytes ms) ≤ 128
-      fits = trace-bytes (found .0) (opened-guarantee file (found .0) (found .1)) ms (found .3 .end) (first-allowed (found .0) place ms (found .3))
+      fits = trace-bytes (found .0) (opened-guarantee file (found .0) (found .1)) ms (found .3 .end) (first-allowed which (found .0) place ms (found .3))
 
       whole : length (traceBytes ms) + length rest ≡ length buffer
       whole = let l = found .2 in let k = length-drop (length (traceBytes ms)) buffer in omega (arith, fits)
@@ -220,8 +220,8 @@ module _ (file trace : List ℕ) where
   )
 
 -- The trace of a BROKEN verdict is replayed to its claim.
-pub search-replays : (file buffer : List ℕ) (place : ℕ) (ms : List Move) (c : Claim) → searched file buffer ≡ accepted (brokenAt place ms c) → replayed file (traceBytes ms) ≡ accepted (some c)
-search-replays file buffer place ms c e =
-    let w = search-broken file buffer place ms c .0 e in
+pub search-replays : (which : Listing) (file buffer : List ℕ) (place : ℕ) (ms : List Move) (c : Claim) → searchedIn which file buffer ≡ accepted (brokenAt place ms c) → replayed file (traceBytes ms) ≡ accepted (some c)
+search-replays which file buffer place ms c e =
+    let w = search-broken which file buffer place ms c .0 e in
     let f = w .3 in
-    replay-answers file (traceBytes ms) (some c) .1 (w .0, ms, f .end, w .1, first-allowed (w .0) place ms f, refl, broken-named (w .0) (f .end) c .1 (f .names))
+    replay-answers file (traceBytes ms) (some c) .1 (w .0, ms, f .end, w .1, first-allowed which (w .0) place ms f, refl, broken-named (w .0) (f .end) c .1 (f .names))

@@ -8,6 +8,7 @@ use mathlib.Core.Bool.{Bool}
 use mathlib.Core.Option.{Option, none, some, Option·none-ne-some, Option·some-injective}
 use mathlib.Core.List.{List, [], _∷_, List·Memᴰ, List·Memᴰ·head, List·Memᴰ·tail, List·Memᴰ·not-nil}
 use lib.ListN.{length, getElem?, take, drop, length-append, length-take, length-drop}
+use Rattle.semantics.specs.Moves.{Listing}
 use Rattle.semantics.specs.Answer.{Answer, refused, accepted, refuse}
 use Rattle.semantics.specs.Term.{Term}
 use Rattle.semantics.specs.Table.{Row}
@@ -15,8 +16,8 @@ use Rattle.semantics.specs.Frame.{Part, tooLong}
 use Rattle.semantics.specs.Roles.{EventKind, Event, Role, eventKinds, eventFrom, eventsFrom, knowledgeCount, eventCount, roleLength, eventsIn, roleIn, roleRecords, rolesFrom}
 use Rattle.semantics.specs.Runs.{runLength, runRecords}
 use Rattle.semantics.specs.Scenario.{Scenario, termPart, rolePart, runPart, knowledgePart, roleParts, roleCount, runParts, opened}
-use Rattle.semantics.specs.State.{State, eventsOf}
-use Rattle.semantics.specs.Verdict.{Claim, Verdict, brokenAt, held, stopped, traceBytes, searched}
+use Rattle.semantics.specs.State.{State, eventsOf, Claim}
+use Rattle.semantics.specs.Verdict.{Verdict, brokenAt, held, stopped, traceBytes, searchedIn}
 use Rattle.semantics.specs.Replay.{replayed}
 use Rattle.semantics.specs.Derive.{derived}
 use Rattle.semantics.specs.Allowed.{Breaks, breaks}
@@ -207,9 +208,9 @@ search-place {file} (openRefuses h) = let w = open-place file h in inl (w .0, w 
 search-place (tooShort e l q p) = inr (q, p)
 
 -- Search gives a verdict, or refuses as Open, or with 10 at the buffer's length.
-pub search-total : (file buffer : List ℕ) → ((v : Verdict) × (searched file buffer ≡ accepted v))
-    ⊎ ((n : ℕ) × (at : ℕ) × (searched file buffer ≡ refuse n at) × (((1 ≤ n) × (n ≤ 9) × (at ≤ length file)) ⊎ ((n ≡ 10) × (at ≡ length buffer))))
-search-total file buffer = answer-total (searched file buffer) (λ n at e. search-place (search-refuses file buffer n at .0 e))
+pub search-total : (which : Listing) (file buffer : List ℕ) → ((v : Verdict) × (searchedIn which file buffer ≡ accepted v))
+    ⊎ ((n : ℕ) × (at : ℕ) × (searchedIn which file buffer ≡ refuse n at) × (((1 ≤ n) × (n ≤ 9) × (at ≤ length file)) ⊎ ((n ≡ 10) × (at ≡ length buffer))))
+search-total which file buffer = answer-total (searchedIn which file buffer) (λ n at e. search-place (search-refuses which file buffer n at .0 e))
 
 -- a row that is absent is one of the list, or the target behind it
 absent-place : {rows target at p : ℕ} {list : List ℕ} → FirstAbsent rows target at list p → p ≤ at + length list
@@ -261,7 +262,7 @@ derive-fits table list target l k (accepted b) e = tt
 
 -- the numbers of a broken claim fit
 claim-fits : {sc : Scenario} {s : State} {c : Claim} → Guarantee sc → Breaks sc s c → FitsClaim c
-claim-fits {sc} {c = c} g (breaks {k} {run} hr hp he l i t v d q m) =
+claim-fits {sc} {c = c} g (breaks {k} {run} hr hp he l i t v q) =
     let a = getElem-below (sc .runs) k hr in
     let b = getElem-below (eventsOf sc run) (c .event) he in
     omega (arith, g .fewRuns, events-few sc g run)
@@ -290,28 +291,28 @@ budget-fits : (file : List ℕ) → ((b : ℕ) → List·Memᴰ b file → b < 2
 budget-fits file bytes sc e = framed-budget bytes (accepted-exactly file sc .0 e .2 .framed)
 
 -- Search's answer on a file of bytes fits.
-pub search-fits : (file buffer : List ℕ) → ((b : ℕ) → List·Memᴰ b file → b < 256) → (a : Answer Verdict) → searched file buffer ≡ a → FitsSearch a
-search-fits file buffer bytes (refused r) e = small (search-refuses file buffer (r .number) (r .place) .0 e)
+pub search-fits : (which : Listing) (file buffer : List ℕ) → ((b : ℕ) → List·Memᴰ b file → b < 256) → (a : Answer Verdict) → searchedIn which file buffer ≡ a → FitsSearch a
+search-fits which file buffer bytes (refused r) e = small (search-refuses which file buffer (r .number) (r .place) .0 e)
   where
     small : {n at : ℕ} → SearchRefuses file buffer n at → FitsRefusal (record { number = n; place = at })
     small (openRefuses h) = refusal-fits h
     small (tooShort o l q p) = omega arith
-search-fits file buffer bytes (accepted (brokenAt place ms c)) e =
-    let w = search-broken file buffer place ms c .0 e in
+search-fits which file buffer bytes (accepted (brokenAt place ms c)) e =
+    let w = search-broken which file buffer place ms c .0 e in
     let budget = budget-fits file bytes (w .0) (w .1) in
     let within = w .3 .inBudget in
-    let again = search-replays file buffer place ms c e in
+    let again = search-replays which file buffer place ms c e in
     let small = replay-fits file (traceBytes ms) (accepted (some c)) again in
     (omega arith, small, omega (arith, replay-short file (traceBytes ms) (some c) again))
-search-fits file buffer bytes (accepted (held n)) e =
-    let w = search-held file buffer n .0 e in
+search-fits which file buffer bytes (accepted (held n)) e =
+    let w = search-held which file buffer n .0 e in
     let budget = budget-fits file bytes (w .0) (w .1) in
     let same = budget-of file (w .0) (w .1) in
     let l = w .4 in
     let k = w .5 in
     omega arith
-search-fits file buffer bytes (accepted (stopped n)) e =
-    let w = search-stopped file buffer n .0 e in
+search-fits which file buffer bytes (accepted (stopped n)) e =
+    let w = search-stopped which file buffer n .0 e in
     let budget = budget-fits file bytes (w .0) (w .1) in
     let same = budget-of file (w .0) (w .1) in
     let k = w .3 in

@@ -13,13 +13,13 @@ use Rattle.semantics.specs.Basic.{present, keep, presentOnes, numbersFro
 use Rattle.semantics.specs.Term.{Atom, trusted, untrusted, global, intruder, role, variable, local, atom?, Term, atom}
 use Rattle.semantics.specs.Table.{Row, atomic, pkOf, skOf, sharedOf, pairOf, encryptedOf, variableAtom}
 use Rattle.semantics.specs.Value.{Reading, asAtoms, withoutVariables, valueOf, beneath}
-use Rattle.semantics.specs.Roles.{EventKind, send, read, claim, Event, Role, peerFits}
+use Rattle.semantics.specs.Roles.{secrecy, EventKind, send, read, claim, Event, Role, peerFits}
 use Rattle.semantics.specs.WellFormed.{wellFormed, learned, eventTerm, roleKnowledge}
 use Rattle.semantics.specs.Inference.{derivable}
 use Rattle.semantics.specs.Runs.{Run, atomOf, atomAt, isAgent}
 use Rattle.semantics.specs.Scenario.{Scenario}
-use Rattle.semantics.specs.State.{Value, Progress, State, inRun, termOf, assigned, readingIn, initial, Active, eventsOf, active, unsetBeneath, newVariables, paired}
-use Rattle.semantics.specs.Moves.{Move, Message, message, toSet, setAfter, messageAfter, advanced}
+use Rattle.semantics.specs.State.{Value, Progress, State, inRun, termOf, assigned, readingIn, initial, Active, eventsOf, active, unsetBeneath, newVariables, paired, Message}
+use Rattle.semantics.specs.Moves.{Move, message, toSet, setAfter, messageAfter, advanced}
 use Rattle.semantics.specs.Allowed.{MayTake, anAgent, anIntruder, aLocal, Takes, takesNone, takesMore, Step, step, AllowedTrace}
 use Rattle.semantics.specs.Guarantee.{HasValue, GoodRole, GoodRun, WellFormedEvents, noEvents, moreEvents, Guarantee}
 pub use Rattle.semantics.specs.State.{Standing}
@@ -150,7 +150,7 @@ learned-holds : {P : Term → Type 0} (known : List Term) (kind : EventKind) (t 
     → (x : Term) → List·Memᴰ x (learned known kind t) → P x
 learned-holds known send t h p x m = h x m
 learned-holds known read t h p x m = mem-cases m (λ e. rw e p) (h x)
-learned-holds known claim t h p x m = h x m
+learned-holds known (claim kind) t h p x m = h x m
 
 -- An event that is well formed for some knowledge, each term of which has a property.
 record WellFormedAt (rows : List Row) (own : ℕ) (P : Term → Type 0) (e : Event) : Type 0 where
@@ -235,7 +235,7 @@ module _ (own peer : ℕ) (known : List Term) (t : Term) where
   unfolding wellFormed
   sent-derives w = both-right (derivable known (atom (role own)) && derivable known (atom (role peer))) (derivable known t) w
 
-  claimed-derives : T (wellFormed own known claim peer t) → T (derivable known t)
+  claimed-derives : T (wellFormed own known (claim secrecy) peer t) → T (derivable known t)
   unfolding wellFormed
   claimed-derives w = both-right (derivable known (atom (role own))) (derivable known t) w
 
@@ -243,7 +243,7 @@ module _ (own peer : ℕ) (known : List Term) (t : Term) where
 peer-within : (roles : ℕ) (kind : EventKind) (peer : ℕ) → 0 < roles → T (peerFits roles kind peer) → peer < roles
 peer-within roles send peer l t = ltb→lt peer roles t
 peer-within roles read peer l t = ltb→lt peer roles t
-peer-within roles claim peer l t = rw (eqb→eq peer 0 t) l
+peer-within roles (claim secrecy) peer l t = rw (eqb→eq peer 0 t) l
 
 module _ {sc : Scenario} (g : Guarantee sc) (k : ℕ) {run : Run} (found : getElem? (sc .runs) k ≡ some run) where
   -- the run's record is good
@@ -341,7 +341,7 @@ module _ {sc : Scenario} (g : Guarantee sc) (k : ℕ) {run : Run} (found : getEl
             → HasValue (readingOf sc k run (p .values ++ paired (newVariables (sc .rows) (p .values) kind (e .row)) vs)) (sc .rows) (e .row)
         go send w t = value-grows (p .values) (paired [] vs) (e .row) (derived-reads (sent-derives (run .role) (e .peer) (known-reads .known) (known-reads .term) w))
         go read w t = pattern-reads (p .values) (r .standing) (e .row) (good-role .present e event-of) t
-        go claim w t = value-grows (p .values) (paired [] vs) (e .row) (derived-reads (claimed-derives (run .role) (e .peer) (known-reads .known) (known-reads .term) w))
+        go (claim secrecy) w t = value-grows (p .values) (paired [] vs) (e .row) (derived-reads (claimed-derives (run .role) (e .peer) (known-reads .known) (known-reads .term) w))
 
     -- the event leaves the run reached
     run-advances : {vs : List Value} → Takes (sc .rows) (length (sc .runs)) (newAt sc p e) vs

@@ -12,10 +12,10 @@ use Rattle.semantics.specs.Roles.{Event}
 use Rattle.semantics.specs.Runs.{Run}
 use Rattle.semantics.specs.Scenario.{Scenario}
 use Rattle.semantics.specs.State.{Progress, State, initial, eventsOf, eventsLeftFrom, eventsLeft}
-use Rattle.semantics.specs.Moves.{Move, advanced, movesOf}
+use Rattle.semantics.specs.Moves.{Move, advanced, Listing, full, movesIn}
 use Rattle.semantics.specs.Tree.{Earlier}
 use Rattle.semantics.specs.Verdict.{Entry, traceList}
-use Rattle.semantics.specs.Allowed.{Step, step, AllowedTrace, MoveBefore}
+use Rattle.semantics.specs.Allowed.{Step, step, AllowedTrace, StepIn, TraceIn, MoveBefore}
 use Rattle.semantics.specs.laws.List.{getElem-below}
 use Rattle.semantics.specs.laws.Tree.{follows-determined, follows-map, earlier-prefix, places-order, places-once, listed-first, listed-sound, listed-complete, listed-ordered}
 use Rattle.semantics.specs.laws.Moves.{ActiveIn, active-in, moves-exact, after-exact, moveBefore-asymmetric, moves-ordered}
@@ -49,29 +49,45 @@ step-determined sc s m t t′ p q = Option·some-injective t t′ (sym (after-ex
 abbrev Any : State → Type 0
 Any s = Unit
 
-module _ (sc : Scenario) where
-  -- a listed trace is allowed
-  trace-allowed : {ms : List Move} {s : State} → List·Memᴰ (ms, s) (traceList sc) → AllowedTrace sc ms s
-  unfolding traceList
-  trace-allowed h = follows-map Any (λ s g m s′ p. tt) (λ s g m s′. moves-exact sc s m s′ .0) tt (listed-sound (movesOf sc) _ _ h)
+-- a move of a list is allowed
+pub step-in : (which : Listing) (sc : Scenario) (s : State) (m : Move) (s′ : State) → StepIn which sc s m s′ → Step sc s m s′
+step-in full sc s m s′ p = p
 
-  -- an allowed trace is listed
-  allowed-trace : {ms : List Move} {s : State} → AllowedTrace sc ms s → List·Memᴰ (ms, s) (traceList sc)
+-- so is a trace of a list
+pub trace-in : (which : Listing) (sc : Scenario) {ms : List Move} {s : State} → TraceIn which sc ms s → AllowedTrace sc ms s
+trace-in which sc = follows-map Any (λ s g m s′ p. tt) (λ s g m s′. step-in which sc s m s′) tt
+
+-- the traces of the full list are the allowed ones
+pub full-exact : (sc : Scenario) (ms : List Move) (s : State) → TraceIn full sc ms s ↔ AllowedTrace sc ms s
+full-exact sc ms s = (λ f. f, λ f. f)
+
+-- a trace fixes the state that it ends in
+pub traces-end : (sc : Scenario) (ms : List Move) (s s′ : State) → AllowedTrace sc ms s → AllowedTrace sc ms s′ → s ≡ s′
+traces-end sc ms s s′ = follows-determined (step-determined sc)
+
+module _ (which : Listing) (sc : Scenario) where
+  -- a listed trace is one of the list
+  trace-allowed : {ms : List Move} {s : State} → List·Memᴰ (ms, s) (traceList which sc) → TraceIn which sc ms s
+  unfolding traceList
+  trace-allowed h = follows-map Any (λ s g m s′ p. tt) (λ s g m s′. moves-exact sc s which m s′ .0) tt (listed-sound (movesIn which sc) _ _ h)
+
+  -- and every such trace is listed
+  allowed-trace : {ms : List Move} {s : State} → TraceIn which sc ms s → List·Memᴰ (ms, s) (traceList which sc)
   unfolding traceList
   allowed-trace f =
-      listed-complete (movesOf sc) Any (λ s g m s′ p. tt) (eventsLeft sc) (λ s g m s′ h. step-uses sc s m s′ (moves-exact sc s m s′ .0 h)) _ _ tt (le-refl _)
-      (follows-map Any (λ s g m s′ p. tt) (λ s g m s′. moves-exact sc s m s′ .1) tt f)
+      listed-complete (movesIn which sc) Any (λ s g m s′ p. tt) (eventsLeft sc) (λ s g m s′ h. step-uses sc s m s′ (step-in which sc s m s′ (moves-exact sc s which m s′ .0 h))) _ _ tt (le-refl _)
+      (follows-map Any (λ s g m s′ p. tt) (λ s g m s′. moves-exact sc s which m s′ .1) tt f)
 
-  -- the traces listed are the allowed ones
-  pub traces-exact : (ms : List Move) (s : State) → List·Memᴰ (ms, s) (traceList sc) ↔ AllowedTrace sc ms s
+  -- the traces listed are those of the list
+  pub traces-exact : (ms : List Move) (s : State) → List·Memᴰ (ms, s) (traceList which sc) ↔ TraceIn which sc ms s
   traces-exact ms s = (trace-allowed, allowed-trace)
 
   -- the list is in order
-  traceList-ordered : Ordered (λ e f. Earlier MoveBefore (e .0) (f .0)) (traceList sc)
+  traceList-ordered : Ordered (λ e f. Earlier MoveBefore (e .0) (f .0)) (traceList which sc)
   unfolding traceList
-  traceList-ordered = listed-ordered (movesOf sc) Any (λ s g m s′ p. tt) MoveBefore (λ s g. moves-ordered sc s) _ _ tt
+  traceList-ordered = listed-ordered (movesIn which sc) Any (λ s g m s′ p. tt) MoveBefore (λ s g. moves-ordered sc s which) _ _ tt
 
-  module _ (i j : ℕ) (e f : Entry) (p : getElem? (traceList sc) i ≡ some e) (q : getElem? (traceList sc) j ≡ some f) where
+  module _ (i j : ℕ) (e f : Entry) (p : getElem? (traceList which sc) i ≡ some e) (q : getElem? (traceList which sc) j ≡ some f) where
     -- the earlier trace stands at the earlier place
     pub traces-ordered : (i < j) ↔ Earlier MoveBefore (e .0) (f .0)
     traces-ordered = places-order moveBefore-asymmetric traceList-ordered i j p q
@@ -84,15 +100,11 @@ module _ (sc : Scenario) where
     pub traces-prefix : (m : Move) (ms : List Move) → f .0 ≡ e .0 ++ (m ∷ ms) → i < j
     traces-prefix m ms r = traces-ordered .1 (rw r (earlier-prefix (e .0) m ms))
 
-  -- a trace fixes the state that it ends in
-  pub traces-end : (ms : List Move) (s s′ : State) → AllowedTrace sc ms s → AllowedTrace sc ms s′ → s ≡ s′
-  traces-end ms s s′ = follows-determined (step-determined sc)
-
   -- the empty trace is the first
-  pub traces-first : getElem? (traceList sc) 0 ≡ some ([], initial sc)
+  pub traces-first : getElem? (traceList which sc) 0 ≡ some ([], initial sc)
   unfolding traceList
-  traces-first = listed-first (movesOf sc) _ _
+  traces-first = listed-first (movesIn which sc) _ _
 
   -- so there is one
-  pub traces-nonempty : 0 < length (traceList sc)
-  traces-nonempty = getElem-below (traceList sc) 0 traces-first
+  pub traces-nonempty : 0 < length (traceList which sc)
+  traces-nonempty = getElem-below (traceList which sc) 0 traces-first

@@ -5,7 +5,8 @@ use mathlib.Core.Path.{_≡_, refl}
 use mathlib.Core.List.{List, [], _∷_}
 use mathlib.Core.Option.{Option, none, some, Option·some-injective, Option·none-ne-some}
 use lib.ListN.{length, getElem?}
-use Rattle.semantics.specs.Verdict.{Entry, Claim, Finding, found, nothing, cut, later, walked}
+use Rattle.semantics.specs.State.{Claim}
+use Rattle.semantics.specs.Verdict.{Entry, Finding, found, nothing, cut, later, walked}
 
 -- what a walk finds
 pub data Walked (judge : Entry → Option Claim) (budget : ℕ) (es : List Entry) : Finding → Type 0 where

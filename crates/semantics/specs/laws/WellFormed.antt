@@ -6,7 +6,7 @@ use mathlib.Core.List.{List, [], _∷_}
 use lib.Dec.{T}
 use Rattle.semantics.specs.Term.{Atom, trusted, untrusted, global, intruder, role, variable, local, Term, atom, pk, sk, shared, pair, encrypted, inverse}
 use Rattle.semantics.specs.Inference.{Derives, derivable}
-use Rattle.semantics.specs.Roles.{EventKind, send, read, claim}
+use Rattle.semantics.specs.Roles.{secrecy, EventKind, send, read, claim}
 use Rattle.semantics.specs.WellFormed.{readableAtom, readable, wellFormed}
 use Rattle.semantics.specs.Allowed.{Readable, readsVariable, readsAtom, readsPk, readsSk, readsShared, readsPair, readsWhole, readsContent, WellFormed, wellSent, wellRead, wellClaimed}
 use Rattle.semantics.specs.laws.Test.{both, both-left, both-right, either-left, either-right, either-cases}
@@ -81,7 +81,7 @@ module _ (own : ℕ) (known : List Term) (peer : ℕ) (t : Term) where
       let n = both-left (ownName && peerName) (readable known t) h in
       wellRead (derivable-exact known (atom (role own)) .0 (both-left ownName peerName n)) (derivable-exact known (atom (role peer)) .0 (both-right ownName peerName n))
       (readable-sound known t (both-right (ownName && peerName) (readable known t) h))
-  well-sound claim h =
+  well-sound (claim secrecy) h =
       wellClaimed (derivable-exact known (atom (role own)) .0 (both-left ownName (derivable known t) h)) (derivable-exact known t .0 (both-right ownName (derivable known t) h))
 
   well-complete : {kind : EventKind} → WellFormed own known kind peer t → T (wellFormed own known kind peer t)

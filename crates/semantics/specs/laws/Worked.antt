@@ -7,16 +7,17 @@ use lib.Dec.{T}
 use Rattle.semantics.specs.Derive.{absentFrom, derivableRow, derived}
 use Rattle.semantics.specs.Frame.{unversioned, tooLong, budgetOf, framed, misframed, blockFrom, block, recordsFrom, records, firstBad}
 use Rattle.semantics.specs.Inference.{isMember, builds, partsOf, takesApart, apart, weight, analysed, derivable, Derives}
-use Rattle.semantics.specs.Moves.{valuesOfType, candidates, choices, message, knownAfter, setAfter, messageAfter, advanced, performed, movesOfRun, movesOf}
+use Rattle.semantics.specs.Moves.{valuesOfType, candidates, choices, message, knownAfter, setAfter, messageAfter, advanced, performed, movesOfRun, runsIn, movesIn}
 use Rattle.semantics.specs.Roles.{eventsFrom, knowledgeIn, eventsIn, roleIn, roleRecords, rolesPresent, knowledgeFits, goodRole, badRole, absentRoleFrom, rolesFrom}
-use Rattle.semantics.specs.Runs.{runIn, runRecords, goodRun, badRun, runsFrom, badKnowledgeFrom}
+use Rattle.semantics.specs.Basic.{unfitFrom}
+use Rattle.semantics.specs.Runs.{runIn, runRecords, goodRun, badRun, runsFrom, allTrusted}
 use Rattle.semantics.specs.Scenario.{scenarioOf, opened}
 use Rattle.semantics.specs.State.{termOf, assigned, readingIn, atomsOf, initialKnowledge, initial, eventsOf, active, unsetBeneath, newVariables, eventsLeftFrom, eventsLeft}
 use Rattle.semantics.specs.Table.{decode, fits, admissible, repeated, rowRefusal, rowsFrom}
 use Rattle.semantics.specs.Term.{size, pk, sk, encrypted}
 use Rattle.semantics.specs.Tree.{listed}
 use Rattle.semantics.specs.Value.{folded, valueFrom, values, valueOf, beneathFrom, beneath}
-use Rattle.semantics.specs.Verdict.{traceList, allTrusted, brokenEvent, brokenInRun, broken, walked, verdict, traceBytes, shortBuffer, searched, bufferAfter}
+use Rattle.semantics.specs.Verdict.{traceList, brokenEvent, brokenInRun, broken, walked, verdict, traceBytes, shortBuffer, searchedIn, bufferIn}
 use Rattle.semantics.specs.WellFormed.{readableAtom, readable, wellFormed, eventTerm, roleKnowledge, illFormedFrom, illFormed}
 use Rattle.semantics.specs.Replay.{isValueOf, suits, after, firstStep, replayedFrom, replayed}
 use Rattle.semantics.specs.Worked.{AllHold, cases, edges, p1File, p1Bytes, a, c, d}
@@ -28,12 +29,12 @@ p1-bytes = refl
 
 -- P1 to P12, by computation
 pub worked : AllHold cases
-unfolding absentFrom derivableRow derived unversioned tooLong budgetOf framed misframed blockFrom block recordsFrom records firstBad isMember builds partsOf takesApart apart weight analysed derivable valuesOfType candidates choices message knownAfter setAfter messageAfter advanced performed movesOfRun movesOf eventsFrom knowledgeIn eventsIn roleIn roleRecords rolesPresent knowledgeFits goodRole badRole absentRoleFrom rolesFrom runIn runRecords goodRun badRun runsFrom badKnowledgeFrom scenarioOf opened termOf assigned readingIn atomsOf initialKnowledge initial eventsOf active unsetBeneath newVariables eventsLeftFrom eventsLeft decode fits admissible repeated rowRefusal rowsFrom size listed folded valueFrom values valueOf beneathFrom beneath traceList allTrusted brokenEvent brokenInRun broken walked verdict traceBytes shortBuffer searched bufferAfter readableAtom readable wellFormed eventTerm roleKnowledge illFormedFrom illFormed ℕ-discrete
+unfolding absentFrom derivableRow derived unversioned tooLong budgetOf framed misframed blockFrom block recordsFrom records firstBad isMember builds partsOf takesApart apart weight analysed derivable valuesOfType candidates choices message knownAfter setAfter messageAfter advanced performed movesOfRun runsIn movesIn eventsFrom knowledgeIn eventsIn roleIn roleRecords rolesPresent knowledgeFits goodRole badRole absentRoleFrom rolesFrom runIn runRecords goodRun badRun runsFrom unfitFrom scenarioOf opened termOf assigned readingIn atomsOf initialKnowledge initial eventsOf active unsetBeneath newVariables eventsLeftFrom eventsLeft decode fits admissible repeated rowRefusal rowsFrom size listed folded valueFrom values valueOf beneathFrom beneath traceList allTrusted brokenEvent brokenInRun broken walked verdict traceBytes shortBuffer searchedIn bufferIn readableAtom readable wellFormed eventTerm roleKnowledge illFormedFrom illFormed ℕ-discrete
 worked = (refl, (refl, (refl, (refl, (refl, (refl, (refl, (refl, (refl, (refl, (refl, (refl, (refl, (refl, tt))))))))))))))
 
 -- the cases on each side of limits and rules, by computation
 pub edges-worked : AllHold edges
-unfolding absentFrom derivableRow derived unversioned tooLong budgetOf framed misframed blockFrom block recordsFrom records firstBad isMember builds partsOf takesApart apart weight analysed derivable valuesOfType candidates choices message knownAfter setAfter messageAfter advanced performed movesOfRun movesOf eventsFrom knowledgeIn eventsIn roleIn roleRecords rolesPresent knowledgeFits goodRole badRole absentRoleFrom rolesFrom runIn runRecords goodRun badRun runsFrom badKnowledgeFrom scenarioOf opened termOf assigned readingIn atomsOf initialKnowledge initial eventsOf active unsetBeneath newVariables eventsLeftFrom eventsLeft decode fits admissible repeated rowRefusal rowsFrom size listed folded valueFrom values valueOf beneathFrom beneath traceList allTrusted brokenEvent brokenInRun broken walked verdict traceBytes shortBuffer searched bufferAfter readableAtom readable wellFormed eventTerm roleKnowledge illFormedFrom illFormed ℕ-discrete isValueOf suits after firstStep replayedFrom replayed
+unfolding absentFrom derivableRow derived unversioned tooLong budgetOf framed misframed blockFrom block recordsFrom records firstBad isMember builds partsOf takesApart apart weight analysed derivable valuesOfType candidates choices message knownAfter setAfter messageAfter advanced performed movesOfRun runsIn movesIn eventsFrom knowledgeIn eventsIn roleIn roleRecords rolesPresent knowledgeFits goodRole badRole absentRoleFrom rolesFrom runIn runRecords goodRun badRun runsFrom unfitFrom scenarioOf opened termOf assigned readingIn atomsOf initialKnowledge initial eventsOf active unsetBeneath newVariables eventsLeftFrom eventsLeft decode fits admissible repeated rowRefusal rowsFrom size listed folded valueFrom values valueOf beneathFrom beneath traceList allTrusted brokenEvent brokenInRun broken walked verdict traceBytes shortBuffer searchedIn bufferIn readableAtom readable wellFormed eventTerm roleKnowledge illFormedFrom illFormed ℕ-discrete isValueOf suits after firstStep replayedFrom replayed
 edges-worked = (refl, (refl, (refl, (refl, (refl, (refl, (refl, (refl, (refl, (refl, (refl, (refl, (refl, (refl, (refl, (refl, (refl, (refl, (refl, (refl, (refl, (refl, (refl, (refl, (refl, (refl, (refl, (refl, (refl, (refl, (refl, (refl, (refl, (refl, (refl, (refl, (refl, (refl, (refl, (refl, (refl, (refl, (refl, (refl, (refl, (refl, (refl, (refl, (refl, (refl, (refl, (refl, (refl, (refl, (refl, (refl, (refl, (refl, (refl, (refl, (refl, (refl, (refl, (refl, (refl, (refl, (refl, (refl, (refl, (refl, (refl, (refl, tt))))))))))))))))))))))))))))))))))))))))))))))))))))))))))))))))))))))))
 
 -- P7 from {c}pk(a) and sk(a): c

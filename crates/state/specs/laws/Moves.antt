@@ -16,12 +16,12 @@ use Rattle.semantics.specs.Term.{Atom, role, Term, atom}
 use Rattle.semantics.specs.Inference.{Derives, derivable}
 use Rattle.semantics.specs.Table.{Row}
 use Rattle.semantics.specs.Value.{Reading, valueOf, withoutRun}
-use Rattle.semantics.specs.Roles.{EventKind, send, read, claim, Event}
+use Rattle.semantics.specs.Roles.{ClaimKind, EventKind, send, read, claim, Event}
 use Rattle.semantics.specs.Runs.{Run, atomAt, isAgent}
 use Rattle.semantics.specs.Scenario.{Scenario}
 use Rattle.semantics.specs.Guarantee.{Guarantee, GoodTable}
-use Rattle.semantics.specs.State.{Value, Progress, State, Active, active, termOf, readingIn, paired}
-use Rattle.semantics.specs.Moves.{Message, message, knownAfter, setAfter, messageAfter, advanced, performed}
+use Rattle.semantics.specs.State.{Value, Progress, State, Active, active, termOf, readingIn, paired, Message}
+use Rattle.semantics.specs.Moves.{message, knownAfter, setAfter, messageAfter, advanced, performed}
 use Rattle.semantics.specs.laws.Test.{all-three}
 use Rattle.semantics.specs.laws.List.{getElem-below}
 use Rattle.semantics.specs.laws.Reached.{Standing}
@@ -181,7 +181,7 @@ module _ (sc : Scenario) (good : Guarantee sc) (d : State) (u : ℕ) (a : Active
       read-refused n = read-underived k (λ o p r. n (exact own 0 ownWithin .1 o) (exact peer 0 peerWithin .1 p) (exact row u rowWithin .1 r))
 
   -- a claim is always allowed
-  pub claimed : a .event .kind ≡ claim → performed sc d a vs ≡ some (advanced sc d a vs (d .known))
+  pub claimed : {kind : ClaimKind} → a .event .kind ≡ claim kind → performed sc d a vs ≡ some (advanced sc d a vs (d .known))
   unfolding knownAfter
   claimed k = performed-some sc d a vs (known-after (d .known) k refl)
 

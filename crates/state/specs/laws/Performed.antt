@@ -9,7 +9,7 @@ use mathlib.Core.List.{List, [], _∷_, _++_, append-nil}
 use mathlib.Core.Option.{Option, none, some, Option·some-injective, Option·none-ne-some}
 use lib.ListN.{length, getD, getElem?, set}
 use Rattle.semantics.specs.Term.{Atom, Term}
-use Rattle.semantics.specs.Roles.{EventKind, send, read, claim, eventKinds}
+use Rattle.semantics.specs.Roles.{secrecy, EventKind, send, read, claim, eventKinds}
 use Rattle.semantics.specs.Scenario.{Scenario}
 use Rattle.semantics.specs.State.{Value, State, Active, active, paired}
 use Rattle.semantics.specs.Moves.{toSet, setAfter, performed}
@@ -38,8 +38,8 @@ kind-send kind e = sym (Option·some-injective send kind e)
 pub kind-read : (kind : EventKind) → getElem? eventKinds 1 ≡ some kind → kind ≡ read
 kind-read kind e = sym (Option·some-injective read kind e)
 
-kind-claim : (kind : EventKind) → getElem? eventKinds 2 ≡ some kind → kind ≡ claim
-kind-claim kind e = sym (Option·some-injective claim kind e)
+kind-claim : (kind : EventKind) → getElem? eventKinds 2 ≡ some kind → kind ≡ claim secrecy
+kind-claim kind e = sym (Option·some-injective (claim secrecy) kind e)
 
 module _ {t : List ℕ} {runs k : ℕ} {e : RunEvent} {sc : Scenario} {d : State} {s : CodeState} {a : Active} (next : NextMove t runs k e sc d s a) where
   is : ActiveIn sc d (suc k) a

@@ -10,8 +10,8 @@ use borrow.Author.Tests.{le-ltb}
 use Rattle.semantics.specs.Basic.{provided}
 use Rattle.semantics.specs.Answer.{Answer, refused, accepted, checked, _>>=_, _>>_}
 use Rattle.semantics.specs.Scenario.{opened}
-use Rattle.semantics.specs.Moves.{Move}
-use Rattle.semantics.specs.Verdict.{Verdict, brokenAt, held, stopped, verdict, traceBytes, shortBuffer, searched, written, bufferAfter}
+use Rattle.semantics.specs.Moves.{full, Move}
+use Rattle.semantics.specs.Verdict.{Verdict, brokenAt, held, stopped, verdict, traceBytes, shortBuffer, searched, written, bufferAfter, searchedIn, bufferIn}
 use Rattle.breaks.specs.declared.Break.{Break}
 use Rattle.search.specs.Search.{searchedAs}
 use Rattle.search.specs.declared.Searched.the-variants.{Refused, Broken, Held, Stopped}
@@ -20,9 +20,9 @@ use Rattle.text.specs.Text.{word, lineText, refusedText, brokenText, ver
 use Rattle.text.specs.laws.Adds.{holds-as}
 
 -- of a buffer that is long enough nothing more is asked
-long-enough : (file : List ℕ) (buffer : List ℕ) → 128 ≤ length buffer → searched file buffer ≡ _>>=_ (opened file) (λ sc. accepted (verdict sc))
-unfolding searched shortBuffer
-long-enough file buffer l = ap (λ (b : Bool). _>>=_ (opened file) (λ sc. _>>_ (checked 10 (provided b (length buffer))) (accepted (verdict sc)))) (le-ltb (length buffer) 128 l)
+long-enough : (file : List ℕ) (buffer : List ℕ) → 128 ≤ length buffer → searched file buffer ≡ _>>=_ (opened file) (λ sc. accepted (verdict full sc))
+unfolding searchedIn shortBuffer
+long-enough file buffer l = ap (λ (b : Bool). _>>=_ (opened file) (λ sc. _>>_ (checked 10 (provided b (length buffer))) (accepted (verdict full sc)))) (le-ltb (length buffer) 128 l)
 
 module _ (file buffer : List ℕ) (long : 128 ≤ length buffer) where
   -- so the text is the same for every such buffer
@@ -88,5 +88,5 @@ text-written (accepted (brokenAt p ms c)) buffer {b} {after} e w =
     }
 
 pub text-broken : (file buffer : List ℕ) {b : Break} {after : List ℕ} → Broken b ≡ searchedAs (searched file buffer) → after ≡ bufferAfter file buffer → BreakText (searched file buffer) b after
-unfolding bufferAfter
+unfolding bufferIn
 text-broken file buffer e w = text-written (searched file buffer) buffer e w

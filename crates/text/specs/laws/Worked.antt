@@ -1,9 +1,10 @@
 -- Texts worked out: 01's own example, a step with new values, and the limits. Assumes nothing.
 use mathlib.Core.Path.{_≡_, refl}
 use mathlib.Core.List.{[], _∷_}
+use Rattle.semantics.specs.Roles.{secrecy}
 use Rattle.semantics.specs.Answer.{accepted}
 use Rattle.semantics.specs.Moves.{Move}
-use Rattle.semantics.specs.Verdict.{brokenAt, secrecy}
+use Rattle.semantics.specs.Verdict.{brokenAt}
 use Rattle.text.specs.Text.{word, decimalFrom, decimal, stepText, brokenText, verdictText, limitsText}
 
 -- a step of run 1 without new values

@@ -10,7 +10,7 @@ use lib.Dec.{T}
 use lib.ListN.{length, getD, getElem?}
 use Rattle.semantics.specs.Term.{Atom}
 use Rattle.semantics.specs.Table.{Row, variableAtom}
-use Rattle.semantics.specs.Roles.{EventKind, send, read, claim, eventKinds}
+use Rattle.semantics.specs.Roles.{secrecy, EventKind, send, read, claim, eventKinds}
 use Rattle.semantics.specs.Runs.{atomOf, atomAt}
 use Rattle.semantics.specs.Scenario.{Scenario}
 use Rattle.semantics.specs.State.{State, Active, newVariables}
@@ -69,22 +69,22 @@ module _ {t : List ℕ} {runs k : ℕ} {e : RunEvent} {sc : Scenario} {d : State
           is-send : EventKind → Bool
           is-send send = true
           is-send read = false
-          is-send claim = false
+          is-send (claim kind) = false
 
           differ : send ≡ read → ⊥
           differ q = true≢false (ap is-send q)
       go read (suc zero) h n = absurd (n refl)
-      go read (suc (suc zero)) h n = absurd (differ (Option·some-injective claim read h))
+      go read (suc (suc zero)) h n = absurd (differ (Option·some-injective (claim secrecy) read h))
         where
           is-claim : EventKind → Bool
           is-claim send = false
           is-claim read = false
-          is-claim claim = true
+          is-claim (claim kind) = true
 
-          differ : claim ≡ read → ⊥
+          differ : claim secrecy ≡ read → ⊥
           differ q = true≢false (ap is-claim q)
       go read (suc (suc (suc b))) h n = absurd (Option·none-ne-some read h)
-      go claim b h n = refl
+      go (claim kind) b h n = refl
 
 -- a row that is found is a variable's
 pub variable-found : (t : List ℕ) (n runs : ℕ) → Shape t n runs → (names : List ℕ) (u p from x : ℕ) → NextUnset (rowsOf t) names u p from x → (x ≡ n → ⊥) → (x < n) × (from ≤ x) × (getD t (3 * x) 0 ≡ 6) × ((y : Atom) × (atomAt (rowsOf t) x ≡ some y))

@@ -9,7 +9,7 @@ use lib.ListN.{length, getD, length-set}
 use Rattle.semantics.specs.Term.{Atom}
 use Rattle.semantics.specs.Scenario.{Scenario}
 use Rattle.semantics.specs.State.{Value, State, Active, active}
-use Rattle.semantics.specs.Moves.{Move, movesOf, movesOfRun}
+use Rattle.semantics.specs.Moves.{Move, full, movesIn, movesOfRun}
 use Rattle.semantics.specs.Tree.{listed}
 use Rattle.rows.specs.Rows.{rowsOf}
 use Rattle.cells.specs.laws.Shape.{shape-sized}
@@ -121,7 +121,7 @@ walk-values-env t = (next-unset-reads.Asked, next-unset-reads.Learnt, walk-move-
 abbrev walk-Inv-loop : walk-lts.InvT-loop
 walk-Inv-loop trace₀ memory₀ file t n r variables done names classes marks left at depth count₀ k₀ trace memory count k =
     (trace ≡ trace₀) × (count ≤ left) × (k ≤ r .count)
-    × ((sc : Scenario) (d : State) (ms : List Move) → Here file t n r sc d (stateOf done names classes marks) ms at → Passed sc left (listed (movesOf sc) depth d) (runsFrom sc (depth - 1) d k) count)
+    × ((sc : Scenario) (d : State) (ms : List Move) → Here file t n r sc d (stateOf done names classes marks) ms at → Passed sc left (listed (movesIn full sc) depth d) (runsFrom sc (depth - 1) d k) count)
     × Remembers file t n r variables memory
 
 abbrev walk-μ-loop : walk-lts.MeasureT-loop

@@ -10,7 +10,7 @@ use lib.ListN.{getD, getElem?}
 use Rattle.semantics.specs.Term.{role, Term, atom}
 use Rattle.semantics.specs.Inference.{derivable}
 use Rattle.semantics.specs.Table.{Row}
-use Rattle.semantics.specs.Roles.{EventKind, send, read, claim, eventKinds}
+use Rattle.semantics.specs.Roles.{secrecy, EventKind, send, read, claim, eventKinds}
 use Rattle.semantics.specs.WellFormed.{readable, wellFormed}
 use Rattle.rows.specs.Rows.{rowsOf}
 use Rattle.cells.specs.Cells.{Shape}
@@ -22,12 +22,12 @@ use Rattle.wellformed.specs.WellFormed.{WellFormedEvent}
 pub data EventIs : ℕ → EventKind → Type 0 where
   isSend : EventIs 0 send
   isRead : EventIs 1 read
-  isClaim : EventIs 2 claim
+  isClaim : EventIs 2 (claim secrecy)
 
 pub event-is : (kind : ℕ) (e : EventKind) → getElem? eventKinds kind ≡ some e → EventIs kind e
 event-is zero e h = rw (← Option·some-injective send e h) isSend
 event-is (suc zero) e h = rw (← Option·some-injective read e h) isRead
-event-is (suc (suc zero)) e h = rw (← Option·some-injective claim e h) isClaim
+event-is (suc (suc zero)) e h = rw (← Option·some-injective (claim secrecy) e h) isClaim
 event-is (suc (suc (suc kind))) e h = absurd (Option·none-ne-some e h)
 
 module _ (own : ℕ) (known : List Term) (peer : ℕ) (t : Term) where
@@ -36,7 +36,7 @@ module _ (own : ℕ) (known : List Term) (peer : ℕ) (t : Term) where
   unfolding wellFormed
   nameless d send = rw d
   nameless d read = rw d
-  nameless d claim = rw d
+  nameless d (claim secrecy) = rw d
 
   module _ (own-name : derivable known (atom (role own)) ≡ true) where
     -- a send and a read have a peer whose name is derivable

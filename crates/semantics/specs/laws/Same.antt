@@ -1,28 +1,28 @@
 -- The lists of traces below states of equal positions, values and derivable terms are equally long and break claims alike. Assumes nothing.
 use Prim.Native.Nat.{ℕ, zero, suc}
-use mathlib.Core.Path.{_≡_, refl, sym, ap, subst, fun-ext}
+use mathlib.Core.Path.{_≡_, refl, sym, ap, _∙_, subst, fun-ext}
 use mathlib.Core.Bool.{Bool, true, false, _&&_, true≢false}
 use mathlib.Core.List.{List, _∷_, _++_, map, List·Memᴰ, List·Memᴰ·head, List·Memᴰ·tail}
 use mathlib.Core.Option.{Option, none, some, Option·some-injective, Option·none-ne-some}
 use lib.Dec.{T}
 use lib.ListN.{length, getElem?, set}
-use Rattle.semantics.specs.Basic.{andThen, mapped, provided, presentOnes, numbersFrom, firstOf}
+use Rattle.semantics.specs.Basic.{andThen, mapped, provided, presentOnes, joined, numbersFrom, firstOf}
 use Rattle.semantics.specs.Term.{Atom, Term}
 use Rattle.semantics.specs.Inference.{Derives, member, derivable}
 use Rattle.semantics.specs.Value.{valueOf}
-use Rattle.semantics.specs.Roles.{EventKind, send, read, claim, Event}
-use Rattle.semantics.specs.Runs.{Run}
+use Rattle.semantics.specs.Roles.{ClaimKind, secrecy, EventKind, send, read, claim, claimKind, Event}
+use Rattle.semantics.specs.Runs.{Run, allTrusted}
 use Rattle.semantics.specs.Scenario.{Scenario}
-use Rattle.semantics.specs.State.{Value, Progress, State, Active, readingIn, newVariables, paired, active, eventsOf}
-use Rattle.semantics.specs.Moves.{Message, messageAfter, toSet, setAfter, knownAfter, advanced, performed, branch, choices, movesOfRun, movesOf}
+use Rattle.semantics.specs.State.{Value, Progress, State, Active, readingIn, newVariables, paired, active, eventsOf, Message, Claim}
+use Rattle.semantics.specs.Moves.{messageAfter, toSet, setAfter, knownAfter, advanced, performed, branch, choices, movesOfRun, Listing, full, runsIn, movesIn}
 use Rattle.semantics.specs.Tree.{listed}
-use Rattle.semantics.specs.Verdict.{Claim, secrecy, allTrusted, isClaim, brokenEvent, brokenInRun, broken}
+use Rattle.semantics.specs.Verdict.{claimedValue, isKnown, isAgainst, brokenEvent, brokenInRun, broken}
 use Rattle.semantics.specs.Guarantee.{GoodTable}
 use Rattle.semantics.specs.laws.Test.{same-test}
 use Rattle.semantics.specs.laws.Inference.{derives-cut, derives-monotone, derivable-exact}
-use Rattle.same.specs.Same.{Both, noneOf, someOf, Each, nil, cons, SameSets, SameRun, Same, SameMove, SameEntry}
-use Rattle.same.specs.laws.Each.{each-at, each-set, each-joined, each-present, each-joined-by, each-map, both-mapped}
-use Rattle.same.specs.laws.Values.{value-same, reading-same, message-same, new-same, sets-append}
+use Rattle.semantics.specs.Same.{Both, noneOf, someOf, Each, nil, cons, SameSets, SameRun, Same, SameMove, SameEntry}
+use Rattle.semantics.specs.laws.Each.{each-at, each-set, each-joined, each-present, each-joined-by, each-map, both-mapped}
+use Rattle.semantics.specs.laws.SameValues.{value-same, reading-same, message-same, new-same, sets-append}
 
 -- more terms known on both sides
 derivable-more : (m : Term) (known other : List Term) → ((t : Term) → derivable known t ≡ derivable other t) → (t : Term) → derivable (m ∷ known) t ≡ derivable (m ∷ other) t
@@ -58,7 +58,7 @@ known-same read known other (some m) h = go (derivable known (m .sender) && deri
     go true false e = absurd (true≢false e)
     go false true e = absurd (true≢false (sym e))
     go false false e = noneOf
-known-same claim known other m h = someOf h
+known-same (claim kind) known other m h = someOf h
 
 module _ (sc : Scenario) where
   -- the next event of a run in two states
@@ -133,25 +133,41 @@ module _ (sc : Scenario) where
         to-set : {a b : Active} → SameActive a b → toSet sc a ≡ toSet sc b
         to-set (sameActive {k} {run} {ev} {p} {q} runs) = new-same (sc .rows) (p .values) (q .values) (runs .sets) (ev .kind) (ev .row)
 
+    -- a list goes on with the same runs
+    runs-same : (which : Listing) {d e : State} → Same (sc .rows) d e → runsIn which sc d ≡ runsIn which sc e
+    unfolding runsIn
+    runs-same full same = refl
+
     -- The moves of both are the same, in each place.
-    pub moves-same : {d e : State} → Same (sc .rows) d e → Each (SameMove (sc .rows)) (movesOf sc d) (movesOf sc e)
-    unfolding movesOf
-    moves-same {d} {e} same = each-joined (λ u. movesOfRun sc d u (active sc d u)) (λ u. movesOfRun sc e u (active sc e u)) (λ u. moves-of-run same u (active-same d e (same .progress) u)) (numbersFrom 1 (length (sc .runs)))
+    pub moves-same : (which : Listing) {d e : State} → Same (sc .rows) d e → Each (SameMove (sc .rows)) (movesIn which sc d) (movesIn which sc e)
+    unfolding movesIn
+    moves-same which {d} {e} same =
+        subst (λ (us : List ℕ). Each (SameMove (sc .rows)) (joined (λ u. movesOfRun sc d u (active sc d u)) (runsIn which sc d)) (joined (λ u. movesOfRun sc e u (active sc e u)) us)) (runs-same which same)
+        (each-joined (λ u. movesOfRun sc d u (active sc d u)) (λ u. movesOfRun sc e u (active sc e u)) (λ u. moves-of-run same u (active-same d e (same .progress) u)) (runsIn which sc d))
 
     -- So are the traces below them.
-    pub listed-same : (n : ℕ) (d e : State) → Same (sc .rows) d e → Each (SameEntry (sc .rows)) (listed (movesOf sc) n d) (listed (movesOf sc) n e)
+    pub listed-same : (which : Listing) (n : ℕ) (d e : State) → Same (sc .rows) d e → Each (SameEntry (sc .rows)) (listed (movesIn which sc) n d) (listed (movesIn which sc) n e)
     unfolding listed
-    listed-same zero d e same = cons (refl, same) nil
-    listed-same (suc n) d e same =
+    listed-same which zero d e same = cons (refl, same) nil
+    listed-same which (suc n) d e same =
         cons (refl, same)
-        (each-joined-by (λ branch. map (λ e. (branch .0 ∷ e .0, e .1)) (listed (movesOf sc) n (branch .1))) (λ branch. map (λ e. (branch .0 ∷ e .0, e .1)) (listed (movesOf sc) n (branch .1)))
-        (λ m m′ r. each-map (λ e. (m .0 ∷ e .0, e .1)) (λ e. (m′ .0 ∷ e .0, e .1)) (λ x y h. ((λ i. r .0 i ∷ h .0 i), h .1)) (listed-same n (m .1) (m′ .1) (r .1))) (moves-same same))
+        (each-joined-by (λ branch. map (λ e. (branch .0 ∷ e .0, e .1)) (listed (movesIn which sc) n (branch .1))) (λ branch. map (λ e. (branch .0 ∷ e .0, e .1)) (listed (movesIn which sc) n (branch .1)))
+        (λ m m′ r. each-map (λ e. (m .0 ∷ e .0, e .1)) (λ e. (m′ .0 ∷ e .0, e .1)) (λ x y h. ((λ i. r .0 i ∷ h .0 i), h .1)) (listed-same which n (m .1) (m′ .1) (r .1))) (moves-same which same))
+
+    -- a term is derivable in both or in neither
+    known-both : {d e : State} → Same (sc .rows) d e → (o : Option Term) → isKnown (d .known) o ≡ isKnown (e .known) o
+    known-both same none = refl
+    known-both same (some t) = same .derives t
+
+    -- a claim of a kind holds in both or in neither
+    against-same : {d e : State} → Same (sc .rows) d e → (u : ℕ) (run : Run) {p q : Progress} → SameRun (sc .rows) p q → (ev : Event) (kind : ClaimKind) → isAgainst sc d u run p ev kind ≡ isAgainst sc e u run q ev kind
+    against-same {d} {e} same u run {p} {q} runs ev secrecy =
+        known-both same (claimedValue sc u run p ev) ∙ ap (isKnown (e .known)) (row-same u run (p .values) (q .values) (runs .sets) (ev .row))
 
     -- an event that is passed is a broken claim in both or in neither
     broken-event : {d e : State} → Same (sc .rows) d e → (u : ℕ) (run : Run) {p q : Progress} → SameRun (sc .rows) p q → (j : ℕ) (ev : Event) → brokenEvent sc d u run p j ev ≡ brokenEvent sc e u run q j ev
     unfolding brokenEvent
-    broken-event {d} {e} same u run {p} {q} runs j ev =
-        (λ i. andThen (row-same u run (p .values) (q .values) (runs .sets) (ev .row) i) (λ t. provided (isClaim (ev .kind) && allTrusted (sc .rows) run && same .derives t i) (record { run = u; event = j; kind = secrecy })))
+    broken-event {d} {e} same u run {p} {q} runs j ev = (λ i. andThen (claimKind (ev .kind)) (λ kind. provided (allTrusted (sc .rows) run && against-same same u run runs ev kind i) (record { run = u; event = j; kind = kind })))
 
     -- the first broken claim of a run with such a position
     abbrev judgedIn : State → ℕ → Run → Progress → Option Claim

@@ -5,8 +5,8 @@ use mathlib.Core.Path.{_≡_, refl, ap}
 use mathlib.Core.List.{List, [], _∷_, _++_, map}
 use mathlib.Core.Option.{Option, none, some}
 use lib.ListN.{length, getElem?, set}
 use Rattle.semantics.specs.Basic.{mapped, presentOnes, joined}
-use Rattle.same.specs.Same.{Both, noneOf, someOf, Each, nil, cons}
+use Rattle.semantics.specs.Same.{Both, noneOf, someOf, Each, nil, cons}
 
 module _ {A B : Type 0} {R : A → B → Type 0} where
   -- the lists are equally long

@@ -8,26 +8,26 @@ use mathlib.Core.Logic.{_↔_, _⊎_, inl, inr, ⊎-elim}
 use mathlib.Core.List.{List, [], _∷_, _++_, map, List·Memᴰ, List·Memᴰ·tail, List·Memᴰ·append-cases, Memᴰ·append-left}
 use mathlib.Core.Option.{Option, none, some, Option·some-injective}
 use lib.ListN.{getElem?, set}
 use Rattle.semantics.specs.Term.{Atom, Term}
 use Rattle.semantics.specs.Roles.{EventKind, send, read, Event}
 use Rattle.semantics.specs.Runs.{Run}
 use Rattle.semantics.specs.Scenario.{Scenario}
-use Rattle.semantics.specs.State.{Value, Progress, State, Active, initialKnowledge, initial, readingIn, eventsOf, paired}
-use Rattle.semantics.specs.Moves.{Move, Message, message, messageAfter, toSet, setAfter, advanced}
+use Rattle.semantics.specs.State.{Value, Progress, State, Active, initialKnowledge, initial, readingIn, eventsOf, paired, Message}
+use Rattle.semantics.specs.Moves.{Move, message, messageAfter, toSet, setAfter, advanced}
 use Rattle.semantics.specs.Tree.{stays, moves}
 use Rattle.semantics.specs.Allowed.{Performs, sends, reads, claims, Step, step, AllowedTrace}
 use Rattle.semantics.specs.Guarantee.{Guarantee, HasValue}
 use Rattle.semantics.specs.laws.Test.{none-there}
 use Rattle.semantics.specs.laws.List.{mem-map, mem-getElem, getElem-below, set-cases}
 use Rattle.semantics.specs.laws.Inference.{derivable-members}
 use Rattle.semantics.specs.laws.Tree.{follows-append, follows-good}
 use Rattle.semantics.specs.laws.Moves.{ActiveIn, active-in}
 use Rattle.semantics.specs.laws.Reached.{unmoved, passed-value}
 use Rattle.semantics.specs.laws.List.{set-same, set-other}
-use Rattle.same.specs.Same.{Both, noneOf, someOf, Each, SameRun, Same}
-use Rattle.same.specs.laws.Each.{each-at, each-turned}
-use Rattle.same.specs.laws.Values.{value-stays, reading-stays, message-same, runs-turned}
-use Rattle.same.specs.laws.Same.{row-same}
+use Rattle.semantics.specs.Same.{Both, noneOf, someOf, Each, SameRun, Same}
+use Rattle.semantics.specs.laws.Each.{each-at, each-turned}
+use Rattle.semantics.specs.laws.SameValues.{value-stays, reading-stays, message-same, runs-turned}
+use Rattle.semantics.specs.laws.Same.{row-same}
 
 -- the terms that a message makes known
 abbrev pub partsOf : Message → List Term

@@ -7,21 +7,21 @@ use mathlib.Core.List.{List, [], _∷_, _++_, map, List·Memᴰ, List·Memᴰ·h
 use mathlib.Core.Option.{Option, none, some}
 use lib.Dec.{T}
 use lib.ListN.{length}
 use Rattle.semantics.specs.Basic.{present, andThen, mapped, keep, presentOnes, numbersFrom}
 use Rattle.semantics.specs.Term.{Atom, trusted, untrusted, global, intruder, role, variable, local, Term}
 use Rattle.semantics.specs.Table.{Row, atomic, pkOf, skOf, sharedOf, pairOf, encryptedOf, variableAtom}
 use Rattle.semantics.specs.Value.{Reading, valueOf, beneath}
 use Rattle.semantics.specs.Roles.{EventKind, send, read, claim, Event}
 use Rattle.semantics.specs.Runs.{Run, atomOf, atomAt}
-use Rattle.semantics.specs.State.{Value, Progress, termOf, assigned, readingIn, unsetBeneath, newVariables}
-use Rattle.semantics.specs.Moves.{Message, message}
+use Rattle.semantics.specs.State.{Value, Progress, termOf, assigned, readingIn, unsetBeneath, newVariables, Message}
+use Rattle.semantics.specs.Moves.{message}
 use Rattle.semantics.specs.Guarantee.{refersTo, GoodTable, HasValue}
 use Rattle.semantics.specs.laws.Test.{andThen-some}
 use Rattle.semantics.specs.laws.List.{mem-present, mem-map}
 use Rattle.semantics.specs.laws.Value.{rowValue, value-unfolds, value-within, value-exact, row-induction, beneath-iff}
 use Rattle.semantics.specs.laws.Reached.{orElse, assigned-append, assigned-stays}
-use Rattle.same.specs.Same.{Both, noneOf, someOf, SameValue, SameSets, SameRun}
-use Rattle.same.specs.laws.Each.{both-turned}
+use Rattle.semantics.specs.Same.{Both, noneOf, someOf, SameValue, SameSets, SameRun}
+use Rattle.semantics.specs.laws.Each.{both-turned}
 
 module _ {rows : List Row} (good : GoodTable rows) (reading reading′ : Reading) where
   -- readings that agree on every atom beneath a row give it one value
@@ -137,7 +137,7 @@ module _ (rows : List Row) (sets sets′ : List (Atom × Value)) (same : SameSet
   unfolding newVariables
   new-same send row = refl
   new-same read row = unset-same row
-  new-same claim row = refl
+  new-same (claim kind) row = refl
 
   -- more values on both sides
   pub sets-append : (more : List (Atom × Value)) → SameSets rows (sets ++ more) (sets′ ++ more)
