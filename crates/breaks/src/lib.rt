@@ -1,33 +1,51 @@
-// Search: breaks, new values and steps as the walk through the list of allowed traces makes and writes them.
+// Search: the plain data of the walk through the list of allowed traces, and the new values and steps that it writes.
 ghost use mathlib.Core.Path.{_≡_};
 ghost use mathlib.Core.List.{List, [], _∷_, _++_};
 ghost use Prim.Native.Nat.{_+_, _*_, _<_, _≤_};
 ghost use lib.ListN.{length, take};
 ghost use Rattle.semantics.specs.State.{Value};
-ghost use Rattle.breaks.specs.Walk.{over, ValuesAre, ownBreak, placedLater, madeLonger};
-use claims::Claim;
-use claims::ClaimKind;
+ghost use Rattle.breaks.specs.Walk.{over, ValuesAre, StepFits, stepBefore};
+use findings::Walked;
+use runs::RunEvent;
+use runs::Runs;
 
-// A break: its place in the list, the length of its trace in bytes, and the claim's run, event and kind.
-pub struct Break {
-    pub place: usize,
-    pub length: usize,
-    pub run: usize,
-    pub event: usize,
-    pub kind: ClaimKind,
+// What a walk goes by: how many rows the table has, the runs, and the rows of the table's variables.
+pub struct Plan {
+    pub rows: usize,
+    pub runs: Runs,
+    pub variables: [usize; 8],
 }
 
-// What a walk through a part of the list finds: a break, so many traces without one, or that the budget ended.
-pub enum Walked {
-    Broken(Break),
-    Clean(usize),
-    Cut,
+// How far a trace has come: how many events each run has made.
+pub struct Course {
+    pub done: [usize; 4],
+}
+
+// How far a walk goes: what is left of the budget, where its own trace ends in the buffer, and how many moves are looked at.
+pub struct Reach {
+    pub left: usize,
+    pub at: usize,
+    pub depth: usize,
 }
 
 // New values as a trace has them, two bytes each, and how many they are.
 pub struct Values {
     pub bytes: [u8; 16],
     pub count: usize,
+}
+
+// The next event of a run, from 0, with the new values chosen so far.
+pub struct Turn {
+    pub run: usize,
+    pub event: RunEvent,
+    pub values: Values,
+}
+
+// A read whose values are chosen: the rows beneath its pattern; its variables of rows from one on have no value yet.
+pub struct Choice {
+    pub turn: Turn,
+    pub under: [bool; 96],
+    pub from: usize,
 }
 
 // Writes a step at a place of the trace: run, count of new values, two bytes for each.
@@ -46,48 +64,15 @@ pub fn write_step(trace: &mut [u8], at: usize, run: usize, values: Values)
     }
 }
 
-// The break of the first trace of a list, which has no bytes.
-pub fn own_break(claim: Claim) -> Break
-    ensures { λ b. ⌜ b ≡ ownBreak claim ⌝ }
+// Writes the step of a move at a place of the trace, if a break was found after it.
+pub fn write_before(trace: &mut [u8], at: usize, turn: Turn, found: Walked)
+    requires { ⌜ StepFits (length (now trace)) at turn found ⌝ }
+    ensures { λ _. ⌜ now (trace .exit) ≡ stepBefore (now (trace .entry)) at turn found ⌝ }
 {
-    let kind = claim.kind;
-    Break {
-        place: 1,
-        length: 0,
-        run: claim.run,
-        event: claim.event,
-        kind,
+    if !findings::is_broken(found) {
+        return;
     }
-}
-
-// A break that stands so many places later.
-pub fn later(b: Break, count: usize) -> Break
-    requires { ⌜ (b .place < 4294967296) × (count < 4294967296) ⌝ }
-    ensures { λ r. ⌜ r ≡ placedLater b count ⌝ }
-{
-    let kind = b.kind;
-    Break {
-        place: count + b.place,
-        length: b.length,
-        run: b.run,
-        event: b.event,
-        kind,
-    }
-}
-
-// A break whose trace begins with so many bytes more.
-pub fn longer(b: Break, bytes: usize) -> Break
-    requires { ⌜ (b .length ≤ 128) × (bytes ≤ 18) ⌝ }
-    ensures { λ r. ⌜ r ≡ madeLonger b bytes ⌝ }
-{
-    let kind = b.kind;
-    Break {
-        place: b.place,
-        length: bytes + b.length,
-        run: b.run,
-        event: b.event,
-        kind,
-    }
+    write_step(trace, at, turn.run + 1, turn.values);
 }
 
 // No new values.

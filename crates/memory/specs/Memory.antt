@@ -73,6 +73,11 @@ pub record Stored (before after key : List ℕ) (count : ℕ) : Type 0 where
   pub size : length after ≡ length before
   pub says : (k : List ℕ) (c : ℕ) → Says after k c → Says before k c ⊎ (SameWords k key × (c ≡ count))
 
+-- a count is stored, or where it is 0 nothing is
+pub record Kept (before after key : List ℕ) (count : ℕ) : Type 0 where
+  pub nothing : count ≡ 0 → after ≡ before
+  pub stored : 0 < count → Stored before after key count
+
 -- So many words from a place on are written, and no other word is.
 pub record Written (before after : List ℕ) (at count : ℕ) (word : ℕ → ℕ) : Type 0 where
   pub size : length after ≡ length before

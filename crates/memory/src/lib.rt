@@ -5,7 +5,7 @@ ghost use Prim.Native.Nat.{ℕ, _+_, _*_, _/_, _%_, _<_, _≤_};
 ghost use lib.ListN.{length, getD};
 ghost use Rattle.rows.specs.Rows.{Sized};
 ghost use Rattle.cells.specs.Cells.{cellCount};
-ghost use Rattle.memory.specs.Memory.{wordCount, slotCount, keySize, countEnd, Variables, nameOf, IsKey, HoldsKey, countAt, LookedUp, Stored, Written};
+ghost use Rattle.memory.specs.Memory.{wordCount, slotCount, keySize, countEnd, Variables, nameOf, IsKey, HoldsKey, countAt, LookedUp, Stored, Kept, Written};
 use cells::cell;
 
 // The words of the memory: sets of slots, in each slot the words of a key and two for the count.
@@ -223,4 +223,15 @@ pub fn store(memory: &mut [u16], key: &[u16; 38], count: usize)
     write_key(&mut memory[..], at, key);
     memory[at + Memory::LOW] = low_half(count);
     memory[at + Memory::HIGH] = high_half(count);
+}
+
+// Stores the count of a key, if there is one to store.
+pub fn keep(memory: &mut [u16], key: &[u16; 38], count: usize)
+    requires { ⌜ (length (now memory) ≡ wordCount) × (count < countEnd) ⌝ }
+    ensures { λ _. ⌜ Kept (now (memory .entry)) (now (memory .exit)) (now (key .entry)) count ⌝ }
+{
+    if count == 0 {
+        return;
+    }
+    store(&mut memory[..], key, count);
 }

@@ -4,3 +4,4 @@ pub mod Clean
 pub mod Placed
 pub mod Memory
 pub mod Known
+pub mod Start

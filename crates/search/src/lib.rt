@@ -12,8 +12,11 @@ ghost use Rattle.semantics.specs.Verdict.{verdict, searched, written, bufferAft
 ghost use Rattle.scenario.specs.Opened.{layoutOf};
 ghost use Rattle.breaks.specs.Walk.{Finds};
 ghost use Rattle.search.specs.Search.{verdictAs, searchedAs};
-use breaks::Break;
-use breaks::Walked;
+use breaks::Course;
+use breaks::Plan;
+use breaks::Reach;
+use findings::Break;
+use findings::Walked;
 use memory::Memory;
 use runs::Runs;
 use scenario::Layout;
@@ -54,31 +57,35 @@ fn walk_all(trace: &mut [u8], file: &[u8], l: Layout, left: usize) -> Walked
     requires { ⌜ ((sc : Scenario) × (opened (now file) ≡ accepted sc) × (l ≡ layoutOf (now file) sc)) × ((128 ≤ length (now trace)) × (left < 4294967296)) ⌝ }
     ensures { λ w. ⌜ ((sc : Scenario) → opened (now (file .entry)) ≡ accepted sc → l ≡ layoutOf (now (file .entry)) sc → Finds sc left (listed (movesIn full sc) (eventsLeft sc (initial sc)) (initial sc)) (now (trace .entry)) 0 (now (trace .exit)) w) ⌝ }
 {
-    let r = runs::runs_of(file, l);
-    let n = l.terms.count;
+    let runs = runs::runs_of(file, l);
+    let rows = l.terms.count;
     let t = frame::block_of(file, 0);
-    let s = State::initial(file, t, n, r, frame::block_of(file, 3));
+    let s = State::initial(file, t, rows, runs, frame::block_of(file, 3));
     let done = [State::NONE_DONE; 4];
     let names = s.names;
     let classes = s.classes;
     let marks = s.marks;
-    let variables = memory::variable_rows(t, n);
+    let variables = memory::variable_rows(t, rows);
     let mut memory = [0; Memory::WORDS];
     walk::walk(
         trace,
         &mut memory,
         file,
         t,
-        n,
-        r,
-        variables,
-        done,
+        Plan {
+            rows,
+            runs,
+            variables,
+        },
+        Course { done },
         &names,
         &classes,
         marks,
-        left,
-        0,
-        event_count(r),
+        Reach {
+            left,
+            at: 0,
+            depth: event_count(runs),
+        },
     )
 }
 

@@ -24,7 +24,7 @@ use Rattle.scenario.specs.declared.Opened.the-variants as opening
 use Rattle.replay.specs.Replay.{replayedAs}
 use Rattle.replay.specs.declared.Replayed.{Replayed}
 use Rattle.replay.specs.declared.Replayed.the-variants as replaying
-use Rattle.breaks.specs.declared.Break.{Break}
+use Rattle.findings.specs.declared.Break.{Break}
 use Rattle.search.specs.Search.{searchedAs}
 use Rattle.search.specs.declared.Searched.{Searched}
 use Rattle.search.specs.declared.Searched.the-variants as searching

@@ -8,7 +8,7 @@ ghost use Rattle.semantics.specs.State.{Value};
 ghost use Rattle.semantics.specs.Moves.{Move};
 ghost use Rattle.semantics.specs.Verdict.{valueBytes, traceBytes, searched};
 ghost use Rattle.text.specs.Text.{decimal, valueText, lineText, stepText, refusedText, brokenText, verdictText, limitsText, Holds, Adds};
-use breaks::Break;
+use findings::Break;
 use frame::File;
 use records::Scenario;
 use rows::wide;

@@ -1,147 +1,121 @@
 // Search: the walk through the list of allowed traces in its order. States that were walked whole are remembered, and not walked again.
-ghost use mathlib.Core.List.{List, []};
-ghost use Prim.Native.Nat.{ℕ, suc, _<_, _≤_};
-ghost use mathlib.Core.Path.{_≡_};
-ghost use Rattle.semantics.specs.Term.{Atom};
-ghost use Rattle.semantics.specs.Scenario.{Scenario};
-ghost use Rattle.semantics.specs.State as definitions;
-ghost use Rattle.semantics.specs.State.{Value, Active, active};
-ghost use Rattle.semantics.specs.Moves.{Move, full, movesIn, movesOfRun};
-ghost use Rattle.semantics.specs.Tree.{listed};
-ghost use Rattle.rows.specs.Rows.{rowsOf};
-ghost use Rattle.variables.specs.Variables.{Beneath, unsetFrom};
-ghost use Rattle.breaks.specs.Walk.{stateOf, below, branches, Finds, Here, AtMove, Choosing, Chosen, SomeChoice, SomeMove};
+ghost use Prim.Native.Nat.{_<_};
+ghost use Rattle.breaks.specs.Walk.{stateOf, SomeState, SomeClear, SomeChoice, SomeGrown, SomeMove, SomeStep, FindsFrom, FindsRun, FindsChoice, FindsGrown, FindsMove, FindsStep};
 ghost use Rattle.same.specs.Memory.{Remembers, Room};
-use breaks::Break;
-use breaks::Values;
-use breaks::Walked;
-use claims::Claimed;
-use runs::RunEvent;
-use runs::Runs;
-use state::State;
+use breaks::Choice;
+use breaks::Course;
+use breaks::Plan;
+use breaks::Reach;
+use breaks::Turn;
+use findings::Walked;
 use variables::NextValue;
 
-// Walks through the traces from a state on, `depth` moves deep; `at` is where its own trace ends. How far the runs have come and the marks go by value; names
-// and classes, which only a read changes, are lent. The memory stays right.
+// Walks through the traces from a state on. How far the runs have come and the marks go by value; names and classes, which only a read changes, are lent. The
+// memory stays right.
 pub fn walk(
     trace: &mut [u8],
     memory: &mut [u16],
     file: &[u8],
     t: &[u8],
-    n: usize,
-    r: Runs,
-    variables: [usize; 8],
-    done: [usize; 4],
+    plan: Plan,
+    course: Course,
     names: &[u16],
     classes: &[u16],
     marks: [bool; 480],
-    left: usize,
-    at: usize,
-    depth: usize,
+    reach: Reach,
 ) -> Walked
-    requires { ⌜ ((sc : Scenario) × (d : definitions.State) × (ms : List Move) × Here (now file) (now t) n r sc d (stateOf done (now names) (now classes) marks) ms at) × Room (now file) (now t) n r variables (now trace) (now memory) left depth ⌝ }
-    ensures { λ w. ⌜ ((sc : Scenario) (d : definitions.State) (ms : List Move) → Here (now (file .entry)) (now (t .entry)) n r sc d (stateOf done (now (names .entry)) (now (classes .entry)) marks) ms at → Finds sc left (listed (movesIn full sc) depth d) (now (trace .entry)) at (now (trace .exit)) w) ⌝ }
-    ensures { λ w. ⌜ Remembers (now (file .entry)) (now (t .entry)) n r variables (now (memory .exit)) ⌝ }
+    requires { ⌜ SomeState (now file) (now t) plan (stateOf course (now names) (now classes) marks) (reach .at) ⌝ }
+    requires { ⌜ Room (now file) (now t) plan (now trace) (now memory) reach ⌝ }
+    ensures { λ w. ⌜ FindsFrom (now (file .entry)) (now (t .entry)) plan (stateOf course (now (names .entry)) (now (classes .entry)) marks) reach (now (trace .entry)) (now (trace .exit)) w ⌝ }
+    ensures { λ w. ⌜ Remembers (now (file .entry)) (now (t .entry)) plan (now (memory .exit)) ⌝ }
 {
-    if left == 0 {
-        return Walked::Cut;
+    let done = course.done;
+    let claimed = claims::broken(file, t, plan.rows, plan.runs, done, marks);
+    let own = findings::own(reach.left, claimed);
+    if !findings::goes_on(own, reach.depth) {
+        return own;
     }
-    let claimed = claims::broken(file, t, n, r, done, marks);
-    match claimed {
-        Claimed::Broken(claim) => {
-            return Walked::Broken(breaks::own_break(claim));
-        }
-        Claimed::Nothing => {}
-    }
-    let mut count = 1;
-    if depth == 0 {
-        return Walked::Clean(count);
-    }
+    let mut count = findings::count_of(own);
     let mut k = 0;
-    while k < r.count {
+    while k < plan.runs.count {
         let found = walk_run(
             trace,
             memory,
             file,
             t,
-            n,
-            r,
-            variables,
-            done,
+            plan,
+            course,
             names,
             classes,
             marks,
-            left - count,
-            at,
-            depth - 1,
+            Reach {
+                left: reach.left - count,
+                at: reach.at,
+                depth: reach.depth - 1,
+            },
             k,
         );
-        match found {
-            Walked::Broken(b) => {
-                return Walked::Broken(breaks::later(b, count));
-            }
-            Walked::Clean(m) => {
-                count += m;
-            }
-            Walked::Cut => {
-                return Walked::Cut;
-            }
+        let total = findings::behind(count, found);
+        if !findings::is_clean(total) {
+            return total;
         }
+        count = findings::count_of(total);
         k += 1;
     }
     Walked::Clean(count)
 }
 
-// Walks through the traces that go on with run k, from a state whose arrays are lent.
+// Walks through the traces that go on with run k, from a state whose own trace breaks no claim.
 fn walk_run(
     trace: &mut [u8],
     memory: &mut [u16],
     file: &[u8],
     t: &[u8],
-    n: usize,
-    r: Runs,
-    variables: [usize; 8],
-    done: [usize; 4],
+    plan: Plan,
+    course: Course,
     names: &[u16],
     classes: &[u16],
     marks: [bool; 480],
-    left: usize,
-    at: usize,
-    depth: usize,
+    reach: Reach,
     k: usize,
 ) -> Walked
-    requires { ⌜ ((sc : Scenario) × (d : definitions.State) × (ms : List Move) × Here (now file) (now t) n r sc d (stateOf done (now names) (now classes) marks) ms at) × (Room (now file) (now t) n r variables (now trace) (now memory) left depth × (k < r .count)) ⌝ }
-    ensures { λ w. ⌜ ((sc : Scenario) (d : definitions.State) (ms : List Move) → Here (now (file .entry)) (now (t .entry)) n r sc d (stateOf done (now (names .entry)) (now (classes .entry)) marks) ms at → Finds sc left (below sc depth (movesOfRun sc d (suc k) (active sc d (suc k)))) (now (trace .entry)) at (now (trace .exit)) w) ⌝ }
-    ensures { λ w. ⌜ Remembers (now (file .entry)) (now (t .entry)) n r variables (now (memory .exit)) ⌝ }
+    requires { ⌜ SomeClear (now file) (now t) plan (stateOf course (now names) (now classes) marks) (reach .at) ⌝ }
+    requires { ⌜ Room (now file) (now t) plan (now trace) (now memory) reach ⌝ }
+    requires { ⌜ k < plan .runs .count ⌝ }
+    ensures { λ w. ⌜ FindsRun (now (file .entry)) (now (t .entry)) plan (stateOf course (now (names .entry)) (now (classes .entry)) marks) reach k (now (trace .entry)) (now (trace .exit)) w ⌝ }
+    ensures { λ w. ⌜ Remembers (now (file .entry)) (now (t .entry)) plan (now (memory .exit)) ⌝ }
 {
+    let runs = plan.runs;
+    let done = course.done;
     let j = done[k];
-    if r.events[k] <= j {
+    if runs.events[k] <= j {
         return Walked::Clean(0);
     }
-    let e = runs::event_of(file, r, k, j);
-    if e.kind == 1 {
-        let under = variables::beneath(t, n, e.row);
+    let event = runs::event_of(file, runs, k, j);
+    let turn = Turn {
+        run: k,
+        event,
+        values: breaks::no_values(),
+    };
+    if event.kind == 1 {
+        let under = variables::beneath(t, plan.rows, event.row);
         return walk_values(
             trace,
             memory,
             file,
             t,
-            n,
-            r,
-            variables,
-            done,
+            plan,
+            course,
             names,
-            left,
-            at,
-            depth,
-            k,
-            e,
-            under,
             names,
             classes,
             marks,
-            0,
-            breaks::no_values(),
+            reach,
+            Choice {
+                turn,
+                under,
+                from: 0,
+            },
         );
     }
     walk_move(
@@ -149,130 +123,111 @@ fn walk_run(
         memory,
         file,
         t,
-        n,
-        r,
-        variables,
-        done,
-        left,
-        at,
-        depth,
-        k,
-        e,
+        plan,
+        course,
         names,
         classes,
         marks,
-        breaks::no_values(),
+        reach,
+        turn,
     )
 }
 
-// Walks through the traces that go on with the read of run k, its variables of rows below `from` having values. Own names are the state's; names, classes
-// and marks have the values chosen so far.
+// Walks through the traces that go on with a read and the values chosen for it so far. Own names are the state's; names, classes and marks have those values.
 fn walk_values(
     trace: &mut [u8],
     memory: &mut [u16],
     file: &[u8],
     t: &[u8],
-    n: usize,
-    r: Runs,
-    variables: [usize; 8],
-    done: [usize; 4],
+    plan: Plan,
+    course: Course,
     own: &[u16],
-    left: usize,
-    at: usize,
-    depth: usize,
-    k: usize,
-    e: RunEvent,
-    under: [bool; 96],
     names: &[u16],
     classes: &[u16],
     marks: [bool; 480],
-    from: usize,
-    values: Values,
+    reach: Reach,
+    choice: Choice,
 ) -> Walked
-    requires { ⌜ SomeChoice (now file) (now t) n r done (now own) at k e from (now names) (now classes) marks values × (Beneath (rowsOf (now t)) (e .row) under × (Room (now file) (now t) n r variables (now trace) (now memory) left depth × ((from ≤ n) × (e .kind ≡ 1)))) ⌝ }
-    ensures { λ w. ⌜ ((sc : Scenario) (d : definitions.State) (s : State) (ms : List Move) (a : Active) (xs : List Atom) (vs : List Value) → AtMove (now (file .entry)) (now (t .entry)) n r sc d s ms at k e a → done ≡ s .done → now (own .entry) ≡ s .names → Choosing sc d s a from xs vs (now (names .entry)) (now (classes .entry)) marks values → Finds sc left (below sc depth (branches sc d (suc k) a vs (unsetFrom (sc .rows) (a .progress .values) (a .event .row) from))) (now (trace .entry)) at (now (trace .exit)) w) ⌝ }
-    ensures { λ w. ⌜ Remembers (now (file .entry)) (now (t .entry)) n r variables (now (memory .exit)) ⌝ }
+    requires { ⌜ SomeChoice (now file) (now t) plan course (now own) (now names) (now classes) marks (reach .at) choice ⌝ }
+    requires { ⌜ Room (now file) (now t) plan (now trace) (now memory) reach ⌝ }
+    ensures { λ w. ⌜ FindsChoice (now (file .entry)) (now (t .entry)) plan course (now (own .entry)) (now (names .entry)) (now (classes .entry)) marks reach choice
+        (now (trace .entry)) (now (trace .exit)) w ⌝ }
+    ensures { λ w. ⌜ Remembers (now (file .entry)) (now (t .entry)) plan (now (memory .exit)) ⌝ }
 {
-    let x = variables::next_unset(t, n, own, &under, k + 1, from);
-    if x == n {
+    let turn = choice.turn;
+    let event = turn.event;
+    let values = turn.values;
+    let under = choice.under;
+    let x = variables::next_unset(t, plan.rows, own, &under, turn.run + 1, choice.from);
+    if x == plan.rows {
         return walk_move(
             trace,
             memory,
             file,
             t,
-            n,
-            r,
-            variables,
-            done,
-            left,
-            at,
-            depth,
-            k,
-            e,
+            plan,
+            course,
             names,
             classes,
             marks,
-            values,
+            reach,
+            turn,
         );
     }
-    if !partial::may_be_read(classes, marks, t, n, r.count, k, e) {
+    if !partial::may_be_read(
+        classes,
+        marks,
+        t,
+        plan.rows,
+        plan.runs.count,
+        turn.run,
+        event,
+    ) {
         return Walked::Clean(0);
     }
     let mut count = 0;
     let mut row = 0;
     let mut run = 0;
     loop {
-        let next = variables::next_value(t, n, r.count, x, row, run);
+        let next = variables::next_value(t, plan.rows, plan.runs.count, x, row, run);
         match next {
             NextValue::Nothing => {
                 return Walked::Clean(count);
             }
             NextValue::Value { row: y, run: w } => {
                 let own_names = state::copied(names);
-                let more = values::put(own_names, x, k + 1, y, w);
-                let mut more_classes = state::copied(classes);
-                let more_marks = state::with_names(
-                    &mut more_classes,
-                    marks,
-                    &more,
-                    t,
-                    n,
-                    r.count,
-                    k + 1,
-                );
-                let found = walk_values(
+                let more = values::put(own_names, x, choice.turn.run + 1, y, w);
+                let found = walk_value(
                     trace,
                     memory,
                     file,
                     t,
-                    n,
-                    r,
-                    variables,
-                    done,
+                    plan,
+                    course,
                     own,
-                    left - count,
-                    at,
-                    depth,
-                    k,
-                    e,
-                    under,
                     &more,
-                    &more_classes,
-                    more_marks,
-                    x + 1,
-                    breaks::with_value(values, y, w),
+                    classes,
+                    marks,
+                    Reach {
+                        left: reach.left - count,
+                        at: reach.at,
+                        depth: reach.depth,
+                    },
+                    Choice {
+                        turn: Turn {
+                            run: choice.turn.run,
+                            event,
+                            values: breaks::with_value(values, y, w),
+                        },
+                        under,
+                        from: x + 1,
+                    },
                 );
-                match found {
-                    Walked::Broken(b) => {
-                        return Walked::Broken(breaks::later(b, count));
-                    }
-                    Walked::Clean(m) => {
-                        count += m;
-                    }
-                    Walked::Cut => {
-                        return Walked::Cut;
-                    }
+                let total = findings::behind(count, found);
+                if !findings::is_clean(total) {
+                    return total;
                 }
+                count = findings::count_of(total);
                 row = y;
                 run = w + 1;
             }
@@ -280,76 +235,146 @@ fn walk_values(
     }
 }
 
-// Walks through the traces that go on with the next event of run k, all its variables having values. Only here is the memory used: a state whose traces were
-// all walked without a break is looked up before its marks are worked on, and stored once it is walked.
+// Walks on with one value more: names and bytes have it already, and here it is worked into classes and marks.
+fn walk_value(
+    trace: &mut [u8],
+    memory: &mut [u16],
+    file: &[u8],
+    t: &[u8],
+    plan: Plan,
+    course: Course,
+    own: &[u16],
+    names: &[u16],
+    classes: &[u16],
+    marks: [bool; 480],
+    reach: Reach,
+    choice: Choice,
+) -> Walked
+    requires { ⌜ SomeGrown (now file) (now t) plan course (now own) (now names) (now classes) marks (reach .at) choice ⌝ }
+    requires { ⌜ Room (now file) (now t) plan (now trace) (now memory) reach ⌝ }
+    ensures { λ w. ⌜ FindsGrown (now (file .entry)) (now (t .entry)) plan course (now (own .entry)) (now (names .entry)) (now (classes .entry)) marks reach choice
+        (now (trace .entry)) (now (trace .exit)) w ⌝ }
+    ensures { λ w. ⌜ Remembers (now (file .entry)) (now (t .entry)) plan (now (memory .exit)) ⌝ }
+{
+    let mut more = state::copied(classes);
+    let grown = state::with_names(
+        &mut more,
+        marks,
+        names,
+        t,
+        plan.rows,
+        plan.runs.count,
+        choice.turn.run + 1,
+    );
+    walk_values(
+        trace,
+        memory,
+        file,
+        t,
+        plan,
+        course,
+        own,
+        names,
+        &more,
+        grown,
+        reach,
+        choice,
+    )
+}
+
+// Walks through the traces that go on with one move, all its values being chosen, if it is allowed.
 fn walk_move(
     trace: &mut [u8],
     memory: &mut [u16],
     file: &[u8],
     t: &[u8],
-    n: usize,
-    r: Runs,
-    variables: [usize; 8],
-    done: [usize; 4],
-    left: usize,
-    at: usize,
-    depth: usize,
-    k: usize,
-    e: RunEvent,
+    plan: Plan,
+    course: Course,
     names: &[u16],
     classes: &[u16],
     marks: [bool; 480],
-    values: Values,
+    reach: Reach,
+    turn: Turn,
 ) -> Walked
-    requires { ⌜ SomeMove (now file) (now t) n r done at k e (now names) (now classes) marks values × Room (now file) (now t) n r variables (now trace) (now memory) left depth ⌝ }
-    ensures { λ w. ⌜ ((sc : Scenario) (d : definitions.State) (s : State) (ms : List Move) (a : Active) (vs : List Value) → AtMove (now (file .entry)) (now (t .entry)) n r sc d s ms at k e a → done ≡ s .done → Chosen sc d a e vs (now (names .entry)) (now (classes .entry)) marks values → Finds sc left (below sc depth (branches sc d (suc k) a vs [])) (now (trace .entry)) at (now (trace .exit)) w) ⌝ }
-    ensures { λ w. ⌜ Remembers (now (file .entry)) (now (t .entry)) n r variables (now (memory .exit)) ⌝ }
+    requires { ⌜ SomeMove (now file) (now t) plan course (now names) (now classes) marks (reach .at) turn ⌝ }
+    requires { ⌜ Room (now file) (now t) plan (now trace) (now memory) reach ⌝ }
+    ensures { λ w. ⌜ FindsMove (now (file .entry)) (now (t .entry)) plan course (now (names .entry)) (now (classes .entry)) marks reach turn (now (trace .entry)) (now (trace .exit)) w ⌝ }
+    ensures { λ w. ⌜ Remembers (now (file .entry)) (now (t .entry)) plan (now (memory .exit)) ⌝ }
 {
-    if !moves::is_allowed(classes, &marks, k, e) {
+    if !moves::is_allowed(classes, &marks, turn.run, turn.event) {
         return Walked::Clean(0);
     }
-    let next = state::advance(done, k);
-    let key = memory::key_of(variables, next, names, depth);
+    walk_after(
+        trace,
+        memory,
+        file,
+        t,
+        plan,
+        course,
+        names,
+        classes,
+        marks,
+        reach,
+        turn,
+    )
+}
+
+// Walks through the traces that go on with a move that is allowed. Only here is the memory used: a state whose traces were all walked without a break is looked
+// up before its marks are worked on, and stored once it is walked.
+fn walk_after(
+    trace: &mut [u8],
+    memory: &mut [u16],
+    file: &[u8],
+    t: &[u8],
+    plan: Plan,
+    course: Course,
+    names: &[u16],
+    classes: &[u16],
+    marks: [bool; 480],
+    reach: Reach,
+    turn: Turn,
+) -> Walked
+    requires { ⌜ SomeStep (now file) (now t) plan course (now names) (now classes) marks (reach .at) turn ⌝ }
+    requires { ⌜ Room (now file) (now t) plan (now trace) (now memory) reach ⌝ }
+    ensures { λ w. ⌜ FindsStep (now (file .entry)) (now (t .entry)) plan course (now (names .entry)) (now (classes .entry)) marks reach turn (now (trace .entry)) (now (trace .exit)) w ⌝ }
+    ensures { λ w. ⌜ Remembers (now (file .entry)) (now (t .entry)) plan (now (memory .exit)) ⌝ }
+{
+    let done = course.done;
+    let variables = plan.variables;
+    let next = state::advance(done, turn.run);
+    let key = memory::key_of(variables, next, names, reach.depth);
     let known = memory::look_up(&memory[..], &key);
     if 0 < known {
-        if left < known {
-            return Walked::Cut;
-        }
-        return Walked::Clean(known);
+        return findings::known(reach.left, known);
     }
-    let moved = state::perform(classes, marks, t, n, r.count, k, e);
-    if moved.allowed {
-        let after = moved.marks;
-        let bytes = 2 + 2 * values.count;
-        let found = walk(
-            trace,
-            memory,
-            file,
-            t,
-            n,
-            r,
-            variables,
-            next,
-            names,
-            classes,
-            after,
-            left,
-            at + bytes,
-            depth,
-        );
-        match found {
-            Walked::Broken(b) => {
-                breaks::write_step(trace, at, k + 1, values);
-                return Walked::Broken(breaks::longer(b, bytes));
-            }
-            Walked::Clean(m) => {
-                memory::store(&mut memory[..], &key, m);
-                return Walked::Clean(m);
-            }
-            Walked::Cut => {
-                return Walked::Cut;
-            }
-        }
-    }
-    Walked::Clean(0)
+    let moved = state::perform(
+        classes,
+        marks,
+        t,
+        plan.rows,
+        plan.runs.count,
+        turn.run,
+        turn.event,
+    );
+    let after = moved.marks;
+    let bytes = 2 + 2 * turn.values.count;
+    let found = walk(
+        trace,
+        memory,
+        file,
+        t,
+        plan,
+        Course { done: next },
+        names,
+        classes,
+        after,
+        Reach {
+            left: reach.left,
+            at: reach.at + bytes,
+            depth: reach.depth,
+        },
+    );
+    memory::keep(&mut memory[..], &key, findings::count_of(found));
+    breaks::write_before(trace, reach.at, turn, found);
+    findings::after_step(found, bytes)
 }

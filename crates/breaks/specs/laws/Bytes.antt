@@ -3,13 +3,18 @@ use Prim.Native.Nat.{ℕ, zero, suc, _+_, _*_, _-_, _<_, _≤_}
 use native.Mathlib.Numerals.{add-one}
 use native.Mathlib.Omega.{arith}
 use mathlib.Core.Path.{_≡_, refl, sym, ap, _∙_, subst}
+use mathlib.Core.Bool.{true, false, true≢false}
 use mathlib.Core.List.{List, [], _∷_, _++_, append-assoc, append-nil}
 use lib.ListN.{length, getD, take, drop, set, length-append, length-take, length-drop, length-set, take-append-drop}
 use lib.Seq.{take-suc, take-suc-set, take-set-le, drop-cons, length-take-le, set-at, take-at, drop-at, take-append-le, take-take, drop-drop, set-split}
 use Rattle.semantics.specs.State.{Value}
 use Rattle.semantics.specs.Verdict.{valueBytes}
 use Rattle.breaks.specs.declared.Values.{Values}
-use Rattle.breaks.specs.Walk.{over, ValuesAre}
+use Rattle.findings.specs.declared.Walked.{Walked}
+use Rattle.findings.specs.declared.Walked.the-variants.{Broken, Clean, Cut}
+use Rattle.findings.specs.Findings.{isBroken}
+use Rattle.breaks.specs.declared.Turn.{Turn}
+use Rattle.breaks.specs.Walk.{over, ValuesAre, stepBytes, stepBefore}
 
 -- nothing is written at first
 pub over-none : (b : List ℕ) (at : ℕ) → over b at [] ≡ b
@@ -86,3 +91,14 @@ pub over-next : (b : List ℕ) (at : ℕ) (bytes : List ℕ) (i : ℕ) → i < l
 over-next b at bytes i l h =
     let size : length (take i bytes) ≡ i = length-take-le i bytes (omega arith) in
     over-more b at (take i bytes) (getD bytes i 0) (omega (arith, size)) h ∙ ap (over b at) (sym (ap (λ (m : ℕ). take m bytes) (add-one i) ∙ take-suc bytes i 0 l))
+
+-- a step is written if there is a break, and not otherwise
+pub before-written : (b : List ℕ) (at : ℕ) (turn : Turn) (w : Walked) → isBroken w ≡ true → stepBefore b at turn w ≡ over b at (stepBytes turn)
+before-written b at turn (Broken x) e = refl
+before-written b at turn (Clean m) e = absurd (true≢false (sym e))
+before-written b at turn Cut e = absurd (true≢false (sym e))
+
+pub before-kept : (b : List ℕ) (at : ℕ) (turn : Turn) (w : Walked) → isBroken w ≡ false → stepBefore b at turn w ≡ b
+before-kept b at turn (Broken x) e = absurd (true≢false e)
+before-kept b at turn (Clean m) e = refl
+before-kept b at turn Cut e = refl

@@ -29,18 +29,23 @@ use Rattle.runs.specs.declared.Runs.{Runs}
 use Rattle.state.specs.declared.State.{State as CodeState}
 use Rattle.variables.specs.declared.NextValue.{NextValue}
 use Rattle.variables.specs.declared.NextValue.the-variants.{Value as isValue, Nothing}
-use Rattle.variables.specs.Variables.{unsetFrom, NextUnset, valuesFrom, Names, NotBefore, NextOf, hasNext, hasNone}
+use Rattle.variables.specs.Variables.{Beneath, unsetFrom, NextUnset, valuesFrom, Names, NotBefore, NextOf, hasNext, hasNone}
 use Rattle.variables.specs.laws.Values.{values-all}
 use Rattle.values.specs.Values.{Setting}
 use Rattle.values.specs.laws.Values.{setting-more}
 use Rattle.values.specs.laws.Arrays.{part-more, part-ready}
 use Rattle.values.specs.laws.Next.{no-more, Another, another}
 use Rattle.breaks.specs.declared.Values.{Values}
-use Rattle.breaks.specs.declared.Walked.{Walked}
-use Rattle.breaks.specs.declared.Walked.the-variants.{Broken, Clean, Cut}
-use Rattle.breaks.specs.Walk.{Finds, below, branches, ValuesAre, Here, AtMove, Choosing, Chosen}
+use Rattle.findings.specs.declared.Walked.{Walked}
+use Rattle.findings.specs.declared.Walked.the-variants.{Broken, Clean, Cut}
+use Rattle.findings.specs.Findings.{behindAs, isClean, countOf, sizeOf}
+use Rattle.breaks.specs.declared.Choice.{Choice}
+use Rattle.breaks.specs.declared.Course.{Course}
+use Rattle.breaks.specs.declared.Plan.{Plan}
+use Rattle.breaks.specs.declared.Reach.{Reach}
+use Rattle.breaks.specs.Walk.{Finds, below, branches, ValuesAre, AtMove, Choosing, Chosen, SomeChoice, SomeGrown, SomeMove, readBranches, FindsRead, FindsChoice, FindsGrown, FindsMove}
 use Rattle.breaks.specs.laws.Entries.{valuesOf, branches-more, branches-pruned}
-use Rattle.breaks.specs.laws.Finds.{Passed, passed-none, passed-all}
+use Rattle.breaks.specs.laws.Finds.{Passed, passed-none, passed-all, finds-size, passed-on, passed-stops}
 use Rattle.breaks.specs.laws.Walk.{finds-same}
 
 -- a variable, by its number and type
@@ -88,17 +93,17 @@ takes-more : {rows : List Row} {runs : ℕ} {xs : List Atom} {vs : List Value} {
 takes-more takesNone may = takesMore may takesNone
 takes-more (takesMore m takes) may = takesMore m (takes-more takes may)
 
-module _ {file t : List ℕ} {n : ℕ} {r : Runs} {sc : Scenario} {d : State} {s : CodeState} {ms : List Move} {at k : ℕ} {e : RunEvent} {a : Active} (move : AtMove file t n r sc d s ms at k e a) (kind : e .kind ≡ 1)
+module _ {file t : List ℕ} {plan : Plan} {sc : Scenario} {d : State} {s : CodeState} {ms : List Move} {at k : ℕ} {e : RunEvent} {a : Active} (move : AtMove file t plan sc d s ms at k e a) (kind : e .kind ≡ 1)
     {from : ℕ} {xs : List Atom} {vs : List Value} {names classes : List ℕ} {marks : List Bool} {values : Values} (choosing : Choosing sc d s a from xs vs names classes marks values) {x : ℕ} (view : NextUnset (rowsOf t) (s .names) (k + 1) (e .row) from x) where
   abbrev pub left-to-set : List Atom
   left-to-set = unsetFrom (sc .rows) (a .progress .values) (a .event .row) from
 
   -- no variable is left
-  module _ (end : x ≡ n) where
+  module _ (end : x ≡ plan .rows) where
     none-left : left-to-set ≡ []
-    none-left = no-more (move .next) (move .here .given .shape .count) from x view end
+    none-left = no-more (move .next) (move .clear .here .reached .given .shape .count) from x view end
 
-    pub choose-all : Chosen sc d a e vs names classes marks values
+    choose-all : Chosen sc d a e vs names classes marks values
     choose-all = record {
       ready = part-ready (move .next) (choosing .setting) (choosing .arrays) none-left;
       takes = subst (λ (l : List Atom). Takes (sc .rows) (length (sc .runs)) l vs) (sym (choosing .setting .split ∙ ap (λ (l : List Atom). xs ++ l) none-left ∙ append-nil xs)) (choosing .takes);
@@ -106,13 +111,13 @@ module _ {file t : List ℕ} {n : ℕ} {r : Runs} {sc : Scenario} {d : State} {s
       are = choosing .are;
     }
 
-    pub choose-done : (left depth : ℕ) {b b′ : List ℕ} {w : Walked} → Finds sc left (below sc depth (branches sc d (suc k) a vs [])) b at b′ w → Finds sc left (below sc depth (branches sc d (suc k) a vs left-to-set)) b at b′ w
-    choose-done left depth finds = finds-same sc left (ap (λ (l : List Atom). below sc depth (branches sc d (suc k) a vs l)) none-left) finds
+    choose-done : (left depth : ℕ) {b b′ : List ℕ} {w : Walked} → Finds sc left (below plan sc depth (branches sc d (suc k) a vs [])) b at b′ w → Finds sc left (below plan sc depth (branches sc d (suc k) a vs left-to-set)) b at b′ w
+    choose-done left depth finds = finds-same sc left (ap (λ (l : List Atom). below plan sc depth (branches sc d (suc k) a vs l)) none-left) finds
 
   -- another variable
-  module _ (more : x ≡ n → ⊥) where
+  module _ (more : x ≡ plan .rows → ⊥) where
     pub its : Another (move .next) from x
-    its = another (move .next) (move .here .given .shape .count) from x view more
+    its = another (move .next) (move .clear .here .reached .given .shape .count) from x view more
 
     abbrev pub rest : List Atom
     rest = unsetFrom (sc .rows) (a .progress .values) (a .event .row) (x + 1)
@@ -124,29 +129,29 @@ module _ {file t : List ℕ} {n : ℕ} {r : Runs} {sc : Scenario} {d : State} {s
     var = variable-is (its .y) (its .isVariable)
 
     -- fewer than 8 values are chosen, so there is room for its value
-    pub few-values : values .count < 8
+    few-values : values .count < 8
     few-values =
         let many : length (toSet sc a) ≡ length xs + suc (length rest) = ap length (choosing .setting .split ∙ ap (λ (l : List Atom). xs ++ l) in-front) ∙ length-append xs (its .y ∷ rest) in
-        omega (arith, set-few sc (move .here .given .good) a, choosing .setting .many, choosing .are .many)
+        omega (arith, set-few sc (move .clear .here .reached .given .good) a, choosing .setting .many, choosing .are .many)
 
     -- the values tried so far
     pub record Trying (left depth row run count : ℕ) : Type 0 where
       pub tried : List Value
       pub split : candidates (sc .rows) (length (sc .runs)) (its .y) ≡ tried ++ valuesFrom (sc .rows) (length (sc .runs)) (var .1) row run
-      pub passed : Passed sc left (below sc depth (branches sc d (suc k) a vs left-to-set)) (valuesOf sc depth d (suc k) a vs rest (valuesFrom (sc .rows) (length (sc .runs)) (var .1) row run)) count
+      pub passed : Passed sc left (below plan sc depth (branches sc d (suc k) a vs left-to-set)) (valuesOf plan sc depth d (suc k) a vs rest (valuesFrom (sc .rows) (length (sc .runs)) (var .1) row run)) count
 
-    pub trying-none : (left depth : ℕ) → Trying left depth 0 0 0
+    trying-none : (left depth : ℕ) → Trying left depth 0 0 0
     trying-none left depth =
         let all = ap (candidates (sc .rows) (length (sc .runs))) (var .2) ∙ values-all (sc .rows) (length (sc .runs)) (var .0) (var .1) in
-        let same : below sc depth (branches sc d (suc k) a vs left-to-set) ≡ valuesOf sc depth d (suc k) a vs rest (valuesFrom (sc .rows) (length (sc .runs)) (var .1) 0 0) =
-        ap (λ (l : List Atom). below sc depth (branches sc d (suc k) a vs l)) in-front ∙ branches-more sc depth d (suc k) a vs (its .y) rest ∙ ap (valuesOf sc depth d (suc k) a vs rest) all in
-        record { tried = []; split = all; passed = subst (λ (es : List Entry). Passed sc left (below sc depth (branches sc d (suc k) a vs left-to-set)) es 0) same (passed-none sc left (below sc depth (branches sc d (suc k) a vs left-to-set))) }
+        let same : below plan sc depth (branches sc d (suc k) a vs left-to-set) ≡ valuesOf plan sc depth d (suc k) a vs rest (valuesFrom (sc .rows) (length (sc .runs)) (var .1) 0 0) =
+        ap (λ (l : List Atom). below plan sc depth (branches sc d (suc k) a vs l)) in-front ∙ branches-more plan sc depth d (suc k) a vs (its .y) rest ∙ ap (valuesOf plan sc depth d (suc k) a vs rest) all in
+        record { tried = []; split = all; passed = subst (λ (es : List Entry). Passed sc left (below plan sc depth (branches sc d (suc k) a vs left-to-set)) es 0) same (passed-none sc left (below plan sc depth (branches sc d (suc k) a vs left-to-set))) }
 
     module _ {left depth row run count : ℕ} (trying : Trying left depth row run count) where
       -- no value is left
-      pub trying-end : valuesFrom (sc .rows) (length (sc .runs)) (var .1) row run ≡ [] → (b : List ℕ) → Finds sc left (below sc depth (branches sc d (suc k) a vs left-to-set)) b at b (Clean count)
+      trying-end : valuesFrom (sc .rows) (length (sc .runs)) (var .1) row run ≡ [] → (b : List ℕ) → Finds sc left (below plan sc depth (branches sc d (suc k) a vs left-to-set)) b at b (Clean count)
       trying-end none-left b =
-          passed-all sc left (subst (λ (es : List Entry). Passed sc left (below sc depth (branches sc d (suc k) a vs left-to-set)) es count) (ap (valuesOf sc depth d (suc k) a vs rest) none-left) (trying .passed)) b at
+          passed-all sc left (subst (λ (es : List Entry). Passed sc left (below plan sc depth (branches sc d (suc k) a vs left-to-set)) es count) (ap (valuesOf plan sc depth d (suc k) a vs rest) none-left) (trying .passed)) b at
 
       -- the next value
       module _ (v : Value) (b : Atom) (value : Names (sc .rows) (length (sc .runs)) (v .row) (v .run) b)
@@ -157,46 +162,176 @@ module _ {file t : List ℕ} {n : ℕ} {r : Runs} {sc : Scenario} {d : State} {s
             (subst (λ (vs : List Value). List·Memᴰ v vs) (sym (trying .split)) (Memᴰ·append-right (trying .tried) (subst (λ (vs : List Value). List·Memᴰ v vs) (sym isNext) (first refl))))
 
         -- its branches come next
-        pub trying-next : Passed sc left (below sc depth (branches sc d (suc k) a vs left-to-set)) (below sc depth (branches sc d (suc k) a (vs ++ (v ∷ [])) rest) ++ valuesOf sc depth d (suc k) a vs rest (valuesFrom (sc .rows) (length (sc .runs)) (var .1) (v .row) (v .run + 1))) count
-        trying-next = subst (λ (es : List Entry). Passed sc left (below sc depth (branches sc d (suc k) a vs left-to-set)) es count) (ap (valuesOf sc depth d (suc k) a vs rest) isNext) (trying .passed)
+        trying-next : Passed sc left (below plan sc depth (branches sc d (suc k) a vs left-to-set)) (below plan sc depth (branches sc d (suc k) a (vs ++ (v ∷ [])) rest) ++ valuesOf plan sc depth d (suc k) a vs rest (valuesFrom (sc .rows) (length (sc .runs)) (var .1) (v .row) (v .run + 1))) count
+        trying-next = subst (λ (es : List Entry). Passed sc left (below plan sc depth (branches sc d (suc k) a vs left-to-set)) es count) (ap (valuesOf plan sc depth d (suc k) a vs rest) isNext) (trying .passed)
 
         -- and when they are passed the values behind it
-        pub trying-more : {count′ : ℕ} → Passed sc left (below sc depth (branches sc d (suc k) a vs left-to-set)) (valuesOf sc depth d (suc k) a vs rest (valuesFrom (sc .rows) (length (sc .runs)) (var .1) (v .row) (v .run + 1))) count′ → Trying left depth (v .row) (v .run + 1) count′
+        trying-more : {count′ : ℕ} → Passed sc left (below plan sc depth (branches sc d (suc k) a vs left-to-set)) (valuesOf plan sc depth d (suc k) a vs rest (valuesFrom (sc .rows) (length (sc .runs)) (var .1) (v .row) (v .run + 1))) count′ → Trying left depth (v .row) (v .run + 1) count′
         trying-more passed = record {
           tried = trying .tried ++ (v ∷ []);
           split = trying .split ∙ ap (λ (l : List Value). trying .tried ++ l) isNext ∙ sym (append-assoc (trying .tried) (v ∷ []) (valuesFrom (sc .rows) (length (sc .runs)) (var .1) (v .row) (v .run + 1)));
           passed = passed;
         }
 
-        -- the names and bytes with it
-        pub choosing-more : {more-names more-classes : List ℕ} {more-marks : List Bool} {more-values : Values} → more-names ≡ set names (cellOf x (k + 1)) (cellOf (v .row) (v .run)) → Refilled (rowsOf t) (r .count) (k + 1) more-names classes more-classes
-            → Settled (rowsOf t) (r .count) more-classes marks more-marks → ValuesAre (vs ++ (v ∷ [])) more-values → Choosing sc d s a (x + 1) (xs ++ (its .y ∷ [])) (vs ++ (v ∷ [])) more-names more-classes more-marks more-values
-        choosing-more {more-names} put refilled settled are =
-            let setting = subst (λ (f : ℕ). Setting sc d a (s .names) f (xs ++ (its .y ∷ [])) (vs ++ (v ∷ [])) more-names) (sym (add-one x))
+        -- the names with it
+        setting-next : {more-names : List ℕ} → more-names ≡ set names (cellOf x (k + 1)) (cellOf (v .row) (v .run)) → Setting sc d a (s .names) (x + 1) (xs ++ (its .y ∷ [])) (vs ++ (v ∷ [])) more-names
+        setting-next {more-names} put =
+            subst (λ (f : ℕ). Setting sc d a (s .names) f (xs ++ (its .y ∷ [])) (vs ++ (v ∷ [])) more-names) (sym (add-one x))
             (subst (λ (l : List ℕ). Setting sc d a (s .names) (suc x) (xs ++ (its .y ∷ [])) (vs ++ (v ∷ [])) l) (sym (put ∙ ap (λ (u : ℕ). set names (cellOf x u) (cellOf (v .row) (v .run))) (add-one k)))
-            (setting-more sc (move .here .given .good) d k a (move .next .isActive) (s .names) from xs vs names (choosing .setting) x (its .y) (its .low) (its .from-on) (its .isAtom) (its .isVariable) (its .unset) (its .first) v b value)) in
-            record { setting = setting; arrays = part-more (move .next) (choosing .setting) (choosing .arrays) (move .here .given .shape) (its .y) v setting refilled settled; takes = takes-more (choosing .takes) may-take; are = are }
+            (setting-more sc (move .clear .here .reached .given .good) d k a (move .next .isActive) (s .names) from xs vs names (choosing .setting) x (its .y) (its .low) (its .from-on) (its .isAtom) (its .isVariable) (its .unset) (its .first) v b value))
 
-    pub low : x < n
-    low = omega (arith, its .low, ap length (move .here .given .rows), move .here .given .shape .count)
+        takes-next : Takes (sc .rows) (length (sc .runs)) (xs ++ (its .y ∷ [])) (vs ++ (v ∷ []))
+        takes-next = takes-more (choosing .takes) may-take
+
+    low : x < plan .rows
+    low = omega (arith, its .low, ap length (move .clear .here .reached .given .rows), move .clear .here .reached .given .shape .count)
 
     -- its atom, in the table's bytes
-    pub atom-read : atomAt (rowsOf t) x ≡ some (variable (var .0) (var .1))
-    atom-read = subst (λ (rows : List Row). atomAt rows x ≡ some (its .y)) (move .here .given .rows) (its .isAtom) ∙ ap some (var .2)
+    atom-read : atomAt (rowsOf t) x ≡ some (variable (var .0) (var .1))
+    atom-read = subst (λ (rows : List Row). atomAt rows x ≡ some (its .y)) (move .clear .here .reached .given .rows) (its .isAtom) ∙ ap some (var .2)
 
     -- the next value, as it was found
-    module _ {row run : ℕ} {next : NextValue} (found : NextOf (rowsOf t) (r .count) (var .1) row run next) where
+    module _ {row run : ℕ} {next : NextValue} (found : NextOf (rowsOf t) (plan .runs .count) (var .1) row run next) where
       in-scenario : NextOf (sc .rows) (length (sc .runs)) (var .1) row run next
-      in-scenario = subst (λ (rows : List Row). NextOf rows (length (sc .runs)) (var .1) row run next) (sym (move .here .given .rows)) (subst (λ (m : ℕ). NextOf (rowsOf t) m (var .1) row run next) (move .here .given .runs .count) found)
+      in-scenario = subst (λ (rows : List Row). NextOf rows (length (sc .runs)) (var .1) row run next) (sym (move .clear .here .reached .given .rows)) (subst (λ (m : ℕ). NextOf (rowsOf t) m (var .1) row run next) (move .clear .here .reached .given .runs .count) found)
 
-      pub values-end : next ≡ Nothing → valuesFrom (sc .rows) (length (sc .runs)) (var .1) row run ≡ []
+      values-end : next ≡ Nothing → valuesFrom (sc .rows) (length (sc .runs)) (var .1) row run ≡ []
       values-end e = no-value in-scenario e
 
-      pub value-next : {y v : ℕ} → next ≡ isValue y v → IsNext (sc .rows) (length (sc .runs)) (var .1) row run y v
+      value-next : {y v : ℕ} → next ≡ isValue y v → IsNext (sc .rows) (length (sc .runs)) (var .1) row run y v
       value-next e = next-value in-scenario e
 
-      pub value-low : {y v : ℕ} → next ≡ isValue y v → (y < n) × (v ≤ 4)
+      value-low : {y v : ℕ} → next ≡ isValue y v → (y < plan .rows) × (v ≤ 4)
       value-low e =
           let names = value-next e .names in
-          let below = ap length (move .here .given .rows) in
-          (omega (arith, names .below, move .here .given .shape .count), omega (arith, names .within, move .here .given .runs .count, move .here .given .runs .few))
+          let below = ap length (move .clear .here .reached .given .rows) in
+          (omega (arith, names .below, move .clear .here .reached .given .shape .count), omega (arith, names .within, move .clear .here .reached .given .runs .count, move .clear .here .reached .given .runs .few))
+
+-- the next row from which a variable of the read is not set, as it was found
+abbrev pub NextFor : List ℕ → List ℕ → Choice → ℕ → Type 0
+NextFor t own choice x = (pattern : ℕ) → Beneath (rowsOf t) pattern (choice .under) → NextUnset (rowsOf t) own (choice .turn .run + 1) pattern (choice .from) x
+
+-- the same of what the code is given, for the values that it chooses
+module _ {file t : List ℕ} {plan : Plan} {course : Course} {own names classes : List ℕ} {marks : List Bool} {choice : Choice} {x : ℕ}
+    (unset : NextFor t own choice x) (reach : Reach) (m : SomeChoice file t plan course own names classes marks (reach .at) choice) where
+  pub view : NextUnset (rowsOf t) (m .read .s .names) (choice .turn .run + 1) (choice .turn .event .row) (choice .from) x
+  view = subst (λ (l : List ℕ). NextUnset (rowsOf t) l (choice .turn .run + 1) (choice .turn .event .row) (choice .from) x) (m .read .isOwn) (unset (choice .turn .event .row) (m .read .under))
+
+  -- no variable is left: one move
+  module _ (end : x ≡ plan .rows) where
+    pub choice-move : SomeMove file t plan course names classes marks (reach .at) (choice .turn)
+    choice-move = record {
+      sc = m .read .sc;
+      d = m .read .d;
+      s = m .read .s;
+      ms = m .read .ms;
+      a = m .read .a;
+      vs = m .vs;
+      move = m .read .move;
+      isDone = m .read .isDone;
+      chosen = choose-all (m .read .move) (m .read .isRead) (m .choosing) view end;
+    }
+
+    pub choice-done : {b b′ : List ℕ} {w : Walked} → FindsMove file t plan course names classes marks reach (choice .turn) b b′ w → FindsRead (m .read) (m .vs) reach b b′ w
+    unfolding choice-move
+    choice-done told = choose-done (m .read .move) (m .read .isRead) (m .choosing) view end (reach .left) (reach .depth) (told choice-move)
+
+  -- another variable
+  module _ (more : x ≡ plan .rows → ⊥) where
+    pub row-low : x < plan .rows
+    row-low = low (m .read .move) (m .read .isRead) (m .choosing) view more
+
+    pub row-from : choice .from ≤ x
+    row-from = its (m .read .move) (m .read .isRead) (m .choosing) view more .from-on
+
+    pub few-chosen : choice .turn .values .count < 8
+    few-chosen = few-values (m .read .move) (m .read .isRead) (m .choosing) view more
+
+    -- the values tried so far
+    pub record Tried (row run count : ℕ) : Type 0 where
+      pub trying : Trying (m .read .move) (m .read .isRead) (m .choosing) view more (reach .left) (reach .depth) row run count
+
+    pub tried-none : Tried 0 0 0
+    tried-none = record { trying = trying-none (m .read .move) (m .read .isRead) (m .choosing) view more (reach .left) (reach .depth) }
+
+    module _ {row run : ℕ} {next : NextValue} (told : (num : ℕ) (type : VariableType) → atomAt (rowsOf t) x ≡ some (variable num type) → NextOf (rowsOf t) (plan .runs .count) type row run next) where
+      next-of : NextOf (rowsOf t) (plan .runs .count) (var (m .read .move) (m .read .isRead) (m .choosing) view more .1) row run next
+      next-of = told (var (m .read .move) (m .read .isRead) (m .choosing) view more .0) (var (m .read .move) (m .read .isRead) (m .choosing) view more .1) (atom-read (m .read .move) (m .read .isRead) (m .choosing) view more)
+
+      -- no value is left
+      pub tried-end : next ≡ Nothing → {count : ℕ} → Tried row run count → (b : List ℕ) → FindsRead (m .read) (m .vs) reach b b (Clean count)
+      tried-end e tried b = trying-end (m .read .move) (m .read .isRead) (m .choosing) view more (tried .trying) (values-end (m .read .move) (m .read .isRead) (m .choosing) view more next-of e) b
+
+      -- the next one
+      module _ {y v : ℕ} (e : next ≡ isValue y v) where
+        value-is : IsNext (m .read .sc .rows) (length (m .read .sc .runs)) (var (m .read .move) (m .read .isRead) (m .choosing) view more .1) row run y v
+        value-is = value-next (m .read .move) (m .read .isRead) (m .choosing) view more next-of e
+
+        pub value-within : (y < plan .rows) × (v ≤ 4)
+        value-within = value-low (m .read .move) (m .read .isRead) (m .choosing) view more next-of e
+
+        pub value-later : NotBefore row run y v
+        value-later = value-is .notBefore
+
+        module _ {count : ℕ} (tried : Tried row run count) {more-names : List ℕ} (put : more-names ≡ set names (cellOf x (choice .turn .run + 1)) (cellOf y v))
+            {values : Values} (are : (vs : List Value) → ValuesAre vs (choice .turn .values) → ValuesAre (vs ++ (record { row = y; run = v } ∷ [])) values) where
+          abbrev longer : Choice
+          longer = record { turn = record { run = choice .turn .run; event = choice .turn .event; values = values }; under = choice .under; from = x + 1 }
+
+          pub grown : SomeGrown file t plan course own more-names classes marks (reach .at) longer
+          grown =
+              let v′ : Value = record { row = y; run = v } in
+              record {
+                read = record { sc = m .read .sc; d = m .read .d; s = m .read .s; ms = m .read .ms; a = m .read .a; move = m .read .move; isDone = m .read .isDone; isOwn = m .read .isOwn; isRead = m .read .isRead; inside = omega (arith, row-low); under = m .read .under };
+                xs = m .xs;
+                vs = m .vs;
+                y = its (m .read .move) (m .read .isRead) (m .choosing) view more .y;
+                v = v′;
+                from = choice .from;
+                old = names;
+                was = m .choosing .setting;
+                arrays = m .choosing .arrays;
+                setting = setting-next (m .read .move) (m .read .isRead) (m .choosing) view more (tried .trying) v′ (value-is .atom) (value-is .names) (value-is .isNext) put;
+                takes = takes-next (m .read .move) (m .read .isRead) (m .choosing) view more (tried .trying) v′ (value-is .atom) (value-is .names) (value-is .isNext);
+                are = are (m .vs) (m .choosing .are);
+              }
+
+          module _ {b b′ : List ℕ} {w total : Walked} (found : FindsGrown file t plan course own more-names classes marks (record { left = reach .left - count; at = reach .at; depth = reach .depth }) longer b b′ w) (is : total ≡ behindAs count w) where
+            passed : Passed (m .read .sc) (reach .left) (below plan (m .read .sc) (reach .depth) (readBranches (m .read .sc) (m .read .d) (m .read .a) choice (m .vs)))
+                (below plan (m .read .sc) (reach .depth) (readBranches (m .read .sc) (m .read .d) (m .read .a) longer (m .vs ++ (record { row = y; run = v } ∷ [])))
+                ++ valuesOf plan (m .read .sc) (reach .depth) (m .read .d) (suc (choice .turn .run)) (m .read .a) (m .vs) (rest (m .read .move) (m .read .isRead) (m .choosing) view more)
+                (valuesFrom (m .read .sc .rows) (length (m .read .sc .runs)) (var (m .read .move) (m .read .isRead) (m .choosing) view more .1) y (v + 1))) count
+            passed = trying-next (m .read .move) (m .read .isRead) (m .choosing) view more (tried .trying) (record { row = y; run = v }) (value-is .atom) (value-is .names) (value-is .isNext)
+
+            pub tried-size : sizeOf w ≤ reach .left - count
+            tried-size = finds-size _ _ _ w (found grown)
+
+            pub tried-stops : isClean total ≡ false → FindsRead (m .read) (m .vs) reach b b′ total
+            unfolding grown
+            tried-stops clean = passed-stops (m .read .sc) (reach .left) _ _ _ _ passed (found grown) is clean
+
+            pub tried-on : isClean total ≡ true → Tried y (v + 1) (countOf total) × (b′ ≡ b) × (countOf total ≤ reach .left)
+            unfolding grown
+            tried-on clean =
+                let on = passed-on (m .read .sc) (reach .left) _ _ _ _ passed (found grown) is clean in
+                (record { trying = trying-more (m .read .move) (m .read .isRead) (m .choosing) view more (tried .trying) (record { row = y; run = v }) (value-is .atom) (value-is .names) (value-is .isNext) (on .0) }, on .1, on .2)
+
+-- classes and marks with one more value
+module _ {file t : List ℕ} {plan : Plan} {course : Course} {own names classes : List ℕ} {marks : List Bool} {choice : Choice} (reach : Reach) (m : SomeGrown file t plan course own names classes marks (reach .at) choice)
+    {more-classes : List ℕ} {more-marks : List Bool} (refilled : Refilled (rowsOf t) (plan .runs .count) (choice .turn .run + 1) names classes more-classes) (settled : Settled (rowsOf t) (plan .runs .count) more-classes marks more-marks) where
+  pub grown-choice : SomeChoice file t plan course own names more-classes more-marks (reach .at) choice
+  grown-choice = record {
+    read = m .read;
+    xs = m .xs ++ (m .y ∷ []);
+    vs = m .vs ++ (m .v ∷ []);
+    choosing = record {
+      setting = m .setting;
+      arrays = part-more (m .read .move .next) (m .was) (m .arrays) (m .read .move .clear .here .reached .given .shape) (m .y) (m .v) (m .setting) refilled settled;
+      takes = m .takes;
+      are = m .are;
+    };
+  }
+
+  pub grown-finds : {b b′ : List ℕ} {w : Walked} → FindsChoice file t plan course own names more-classes more-marks reach choice b b′ w → FindsRead (m .read) (m .vs ++ (m .v ∷ [])) reach b b′ w
+  unfolding grown-choice
+  grown-finds told = told grown-choice

@@ -10,12 +10,12 @@ use Rattle.semantics.specs.Term.{Atom}
 use Rattle.semantics.specs.Scenario.{Scenario}
 use Rattle.semantics.specs.State.{Value, State, Active, active}
 use Rattle.semantics.specs.Moves.{Move, candidates, choices, performed, toSet, branch, movesOfRun, full, runsIn, movesIn}
-use Rattle.semantics.specs.Tree.{listed}
 use Rattle.semantics.specs.Verdict.{Entry}
-use Rattle.semantics.specs.Allowed.{Takes}
-use Rattle.semantics.specs.laws.Moves.{mem-choices}
-use Rattle.semantics.specs.laws.Tree.{listed-zero, listed-suc}
-use Rattle.breaks.specs.Walk.{afterMove, below, branches}
+use Rattle.semantics.specs.Allowed.{Takes, Step}
+use Rattle.semantics.specs.laws.Moves.{mem-choices, moves-exact}
+use Rattle.semantics.specs.laws.Tree.{listed-suc}
+use Rattle.breaks.specs.declared.Plan.{Plan}
+use Rattle.breaks.specs.Walk.{nextIn, entriesFrom, afterMove, below, ofRun, branches}
 
 module _ {A B : Type 0} (f : A → List B) where
   joined-append : (xs ys : List A) → joined f (xs ++ ys) ≡ joined f xs ++ joined f ys
@@ -45,49 +45,51 @@ present-joined f g [] = refl
 present-joined {C = C} f g (x ∷ xs) =
     ap presentOnes (map-append f (g x) (joined g xs)) ∙ present-append (map f (g x)) (map f (joined g xs)) ∙ ap (λ (l : List C). presentOnes (map f (g x)) ++ l) (present-joined f g xs)
 
-module _ (sc : Scenario) (n : ℕ) where
-  -- the entries of a state: its own, then those below it
-  pub entries-leaf : (d : State) → listed (movesIn full sc) 0 d ≡ ([], d) ∷ []
-  entries-leaf d = listed-zero (movesIn full sc) d
+-- the moves that are walked through are allowed
+pub next-step : (plan : Plan) (sc : Scenario) (s : State) (m : Move) (s′ : State) → List·Memᴰ (m, s′) (nextIn plan sc s) → Step sc s m s′
+unfolding nextIn
+next-step plan sc s m s′ q = moves-exact sc s full m s′ .0 q
 
-  pub entries-of : (d : State) → listed (movesIn full sc) (suc n) d ≡ ([], d) ∷ below sc n (movesIn full sc d)
-  entries-of d = listed-suc (movesIn full sc) n d
+module _ (plan : Plan) (sc : Scenario) (n : ℕ) where
+  -- the entries of a state: its own, then those below it
+  pub entries-of : (d : State) → entriesFrom plan (suc n) sc d ≡ ([], d) ∷ below plan sc n (nextIn plan sc d)
+  entries-of d = listed-suc (nextIn plan sc) n d
 
   -- those of the runs from one on
   abbrev pub runsFrom : State → ℕ → List Entry
-  runsFrom d k = joined (λ u. below sc n (movesOfRun sc d u (active sc d u))) (numbersFrom (suc k) (length (sc .runs) - k))
+  runsFrom d k = joined (λ u. below plan sc n (movesOfRun sc d u (active sc d u))) (numbersFrom (suc k) (length (sc .runs) - k))
 
-  pub runs-all : (d : State) → below sc n (movesIn full sc d) ≡ runsFrom d 0
-  unfolding movesIn runsIn
+  pub runs-all : (d : State) → below plan sc n (nextIn plan sc d) ≡ runsFrom d 0
+  unfolding nextIn movesIn runsIn
   runs-all d =
       let z : length (sc .runs) ≡ length (sc .runs) - 0 = omega arith in
-      joined-joined (λ b. map (afterMove (b .0)) (listed (movesIn full sc) n (b .1))) (λ u. movesOfRun sc d u (active sc d u)) (numbersFrom 1 (length (sc .runs)))
-      ∙ ap (λ (m : ℕ). joined (λ u. below sc n (movesOfRun sc d u (active sc d u))) (numbersFrom 1 m)) z
+      joined-joined (λ b. map (afterMove (b .0)) (entriesFrom plan n sc (b .1))) (λ u. movesOfRun sc d u (active sc d u)) (numbersFrom 1 (length (sc .runs)))
+      ∙ ap (λ (m : ℕ). joined (λ u. below plan sc n (movesOfRun sc d u (active sc d u))) (numbersFrom 1 m)) z
 
-  pub runs-next : (d : State) (k : ℕ) → k < length (sc .runs) → runsFrom d k ≡ below sc n (movesOfRun sc d (suc k) (active sc d (suc k))) ++ runsFrom d (suc k)
+  pub runs-next : (d : State) (k : ℕ) → k < length (sc .runs) → runsFrom d k ≡ below plan sc n (movesOfRun sc d (suc k) (active sc d (suc k))) ++ runsFrom d (suc k)
   runs-next d k l =
       let z : length (sc .runs) - k ≡ suc (length (sc .runs) - suc k) = omega arith in
-      ap (λ (m : ℕ). joined (λ u. below sc n (movesOfRun sc d u (active sc d u))) (numbersFrom (suc k) m)) z
+      ap (λ (m : ℕ). joined (λ u. below plan sc n (movesOfRun sc d u (active sc d u))) (numbersFrom (suc k) m)) z
 
   pub runs-end : (d : State) (k : ℕ) → length (sc .runs) ≤ k → runsFrom d k ≡ []
   runs-end d k l =
       let z : length (sc .runs) - k ≡ 0 = omega arith in
-      ap (λ (m : ℕ). joined (λ u. below sc n (movesOfRun sc d u (active sc d u))) (numbersFrom (suc k) m)) z
+      ap (λ (m : ℕ). joined (λ u. below plan sc n (movesOfRun sc d u (active sc d u))) (numbersFrom (suc k) m)) z
 
   -- a run without an event to come
-  pub run-none : (d : State) (u : ℕ) → active sc d u ≡ none → below sc n (movesOfRun sc d u (active sc d u)) ≡ []
+  pub run-none : (d : State) (u : ℕ) → active sc d u ≡ none → below plan sc n (movesOfRun sc d u (active sc d u)) ≡ []
   unfolding movesOfRun
-  run-none d u e = ap (λ (o : Option Active). below sc n (movesOfRun sc d u o)) e
+  run-none d u e = ap (λ (o : Option Active). below plan sc n (movesOfRun sc d u o)) e
 
   -- and one with: every choice of values for what its event sets
-  pub run-some : (d : State) (u : ℕ) {a : Active} → active sc d u ≡ some a → below sc n (movesOfRun sc d u (active sc d u)) ≡ below sc n (branches sc d u a [] (toSet sc a))
+  pub run-some : (d : State) (u : ℕ) {a : Active} → active sc d u ≡ some a → below plan sc n (movesOfRun sc d u (active sc d u)) ≡ below plan sc n (branches sc d u a [] (toSet sc a))
   unfolding movesOfRun
-  run-some d u e = ap (λ (o : Option Active). below sc n (movesOfRun sc d u o)) e
+  run-some d u e = ap (λ (o : Option Active). below plan sc n (movesOfRun sc d u o)) e
 
   module _ (d : State) (u : ℕ) (a : Active) (vs : List Value) where
     -- the values of one more variable
     abbrev pub valuesOf : List Atom → List Value → List Entry
-    valuesOf xs candidates = joined (λ v. below sc n (branches sc d u a (vs ++ (v ∷ [])) xs)) candidates
+    valuesOf xs candidates = joined (λ v. below plan sc n (branches sc d u a (vs ++ (v ∷ [])) xs)) candidates
 
     one-more : (x : Atom) (xs : List Atom) → branches sc d u a vs (x ∷ xs) ≡ joined (λ v. branches sc d u a (vs ++ (v ∷ [])) xs) (candidates (sc .rows) (length (sc .runs)) x)
     unfolding choices
@@ -100,26 +102,26 @@ module _ (sc : Scenario) (n : ℕ) where
             ap presentOnes (map-map (λ ws. mapped (branch u (vs ++ ws)) (performed sc d a (vs ++ ws))) (λ ws. v ∷ ws) (choices (sc .rows) (length (sc .runs)) xs)
             ∙ ap (λ (h : List Value → Option (Move × State)). map h (choices (sc .rows) (length (sc .runs)) xs)) (fun-ext (λ ws. ap (λ (l : List Value). mapped (branch u l) (performed sc d a l)) (sym (append-assoc vs (v ∷ []) ws)))))
 
-    pub branches-more : (x : Atom) (xs : List Atom) → below sc n (branches sc d u a vs (x ∷ xs)) ≡ valuesOf xs (candidates (sc .rows) (length (sc .runs)) x)
+    pub branches-more : (x : Atom) (xs : List Atom) → below plan sc n (branches sc d u a vs (x ∷ xs)) ≡ valuesOf xs (candidates (sc .rows) (length (sc .runs)) x)
     branches-more x xs =
-        ap (below sc n) (one-more x xs)
-        ∙ joined-joined (λ b. map (afterMove (b .0)) (listed (movesIn full sc) n (b .1))) (λ v. branches sc d u a (vs ++ (v ∷ [])) xs) (candidates (sc .rows) (length (sc .runs)) x)
+        ap (below plan sc n) (one-more x xs)
+        ∙ joined-joined (λ b. map (afterMove (b .0)) (entriesFrom plan n sc (b .1))) (λ v. branches sc d u a (vs ++ (v ∷ [])) xs) (candidates (sc .rows) (length (sc .runs)) x)
 
     -- no variable is left: one branch, or none
     alone : branches sc d u a vs [] ≡ presentOnes (mapped (branch u vs) (performed sc d a vs) ∷ [])
     unfolding choices
     alone = ap (λ (l : List Value). presentOnes (mapped (branch u l) (performed sc d a l) ∷ [])) (append-nil vs)
 
-    pub branches-allowed : {d′ : State} → performed sc d a vs ≡ some d′ → below sc n (branches sc d u a vs []) ≡ map (afterMove (record { run = u; values = vs })) (listed (movesIn full sc) n d′)
+    pub branches-allowed : {d′ : State} → performed sc d a vs ≡ some d′ → below plan sc n (branches sc d u a vs []) ≡ map (afterMove (record { run = u; values = vs })) (entriesFrom plan n sc d′)
     branches-allowed e =
-        ap (below sc n) (alone ∙ ap (λ (o : Option State). presentOnes (mapped (branch u vs) o ∷ [])) e) ∙ append-nil _
+        ap (below plan sc n) (alone ∙ ap (λ (o : Option State). presentOnes (mapped (branch u vs) o ∷ [])) e) ∙ append-nil _
 
-    pub branches-refused : performed sc d a vs ≡ none → below sc n (branches sc d u a vs []) ≡ []
-    branches-refused e = ap (below sc n) (alone ∙ ap (λ (o : Option State). presentOnes (mapped (branch u vs) o ∷ [])) e)
+    pub branches-refused : performed sc d a vs ≡ none → below plan sc n (branches sc d u a vs []) ≡ []
+    branches-refused e = ap (below plan sc n) (alone ∙ ap (λ (o : Option State). presentOnes (mapped (branch u vs) o ∷ [])) e)
 
     -- where no completion by values that the variables may take is allowed there is no branch
-    pub branches-pruned : (xs : List Atom) → ((ws : List Value) → Takes (sc .rows) (length (sc .runs)) xs ws → performed sc d a (vs ++ ws) ≡ none) → below sc n (branches sc d u a vs xs) ≡ []
-    branches-pruned xs none-allowed = ap (below sc n) (go (choices (sc .rows) (length (sc .runs)) xs) (λ ws m. none-allowed ws (mem-choices (sc .rows) (length (sc .runs)) xs .0 m)))
+    pub branches-pruned : (xs : List Atom) → ((ws : List Value) → Takes (sc .rows) (length (sc .runs)) xs ws → performed sc d a (vs ++ ws) ≡ none) → below plan sc n (branches sc d u a vs xs) ≡ []
+    branches-pruned xs none-allowed = ap (below plan sc n) (go (choices (sc .rows) (length (sc .runs)) xs) (λ ws m. none-allowed ws (mem-choices (sc .rows) (length (sc .runs)) xs .0 m)))
       where
         go : (cs : List (List Value)) → ((ws : List Value) → List·Memᴰ ws cs → performed sc d a (vs ++ ws) ≡ none) → presentOnes (map (λ ws. mapped (branch u (vs ++ ws)) (performed sc d a (vs ++ ws))) cs) ≡ []
         go [] h = refl

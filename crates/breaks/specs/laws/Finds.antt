@@ -8,9 +8,11 @@ use lib.ListN.{length, length-append}
 use Rattle.semantics.specs.State.{Claim}
 use Rattle.semantics.specs.Scenario.{Scenario}
 use Rattle.semantics.specs.Verdict.{Entry, Finding, found, nothing, cut, later, walked}
-use Rattle.breaks.specs.declared.Break.{Break}
-use Rattle.breaks.specs.declared.Walked.{Walked}
-use Rattle.breaks.specs.declared.Walked.the-variants.{Broken, Clean, Cut}
+use mathlib.Core.Bool.{Bool, true, false, true≢false}
+use Rattle.findings.specs.declared.Break.{Break}
+use Rattle.findings.specs.declared.Walked.{Walked}
+use Rattle.findings.specs.declared.Walked.the-variants.{Broken, Clean, Cut}
+use Rattle.findings.specs.Findings.{placedLater, behindAs, isClean, countOf, sizeOf}
 use Rattle.breaks.specs.Walk.{judged, breakAs, walkedAs, bufferAs, Finds}
 use Rattle.breaks.specs.laws.Walked.{laterBy, continued, walked-append, nothing-within, found-within}
 
@@ -45,11 +47,20 @@ answer-broken es (found p e c) {b} q = (p, e, c, refl, ap (break-of b) q)
 answer-broken es nothing q = let z : _≡_ {A = ℕ} 0 1 = ap which q in absurd (omega arith)
 answer-broken es cut q = let z : _≡_ {A = ℕ} 0 2 = ap which q in absurd (omega arith)
 
--- a break stands at a place within the budget
-pub broken-place : (sc : Scenario) (left : ℕ) (es : List Entry) {before after : List ℕ} {at : ℕ} {w : Walked} → Finds sc left es before at after w → {b : Break} → w ≡ Broken b → b .place ≤ left
-broken-place sc left es finds {b} e =
-    let a = answer-broken es (walked (judged sc) left es) (sym e ∙ finds .answer) in
+-- a break's place and a count are within the budget
+pub finds-size : (sc : Scenario) (left : ℕ) (es : List Entry) {before after : List ℕ} {at : ℕ} (w : Walked) → Finds sc left es before at after w → sizeOf w ≤ left
+finds-size sc left es (Broken b) finds =
+    let a = answer-broken es (walked (judged sc) left es) (finds .answer) in
     omega (arith, ap (λ (x : Break). x .place) (a .4), found-within (judged sc) left es (a .3) .0)
+finds-size sc left es (Clean m) finds =
+    let a = answer-clean es (walked (judged sc) left es) (finds .answer) in
+    omega (arith, nothing-within (judged sc) left es (a .0), a .1)
+finds-size sc left es Cut finds = omega arith
+
+pub finds-count : (sc : Scenario) (left : ℕ) (es : List Entry) {before after : List ℕ} {at : ℕ} (w : Walked) → Finds sc left es before at after w → countOf w ≤ left
+finds-count sc left es (Broken b) finds = omega arith
+finds-count sc left es (Clean m) finds = finds-size sc left es (Clean m) finds
+finds-count sc left es Cut finds = omega arith
 
 -- the entries that were walked through so far, without a break
 pub record Passed (sc : Scenario) (left : ℕ) (all rest : List Entry) (count : ℕ) : Type 0 where
@@ -90,11 +101,11 @@ module _ (sc : Scenario) (left : ℕ) where
     next : walked (judged sc) (left - count) (seg ++ rest) ≡ continued (length seg) (walked (judged sc) (left - count) seg) (walked (judged sc) (left - count - length seg) rest)
     next = walked-append (judged sc) (left - count) seg rest
 
-    module _ {before after : List ℕ} {at : ℕ} {w : Walked} (finds : Finds sc (left - count) seg before at after w) where
+    module _ {before after : List ℕ} {at : ℕ} where
       -- the next part has no break
-      pub passed-more : {m : ℕ} → w ≡ Clean m → Passed sc left all rest (count + m) × (after ≡ before) × (count + m ≤ left)
-      passed-more {m} e =
-          let a = answer-clean seg (walked (judged sc) (left - count) seg) (sym e ∙ finds .answer) in
+      more : {m : ℕ} → Finds sc (left - count) seg before at after (Clean m) → Passed sc left all rest (count + m) × (after ≡ before) × (count + m ≤ left)
+      more {m} finds =
+          let a = answer-clean seg (walked (judged sc) (left - count) seg) (finds .answer) in
           let clean : walked (judged sc) left (passed .done ++ seg) ≡ nothing =
           walked-append (judged sc) left (passed .done) seg
           ∙ ap (λ (f : Finding). continued (length (passed .done)) f (walked (judged sc) (left - length (passed .done)) seg)) (passed .clean)
@@ -106,24 +117,42 @@ module _ (sc : Scenario) (left : ℕ) where
           )
 
       -- the budget ends in it
-      pub passed-cut : w ≡ Cut → Finds sc left all before at after Cut
-      passed-cut e =
-          let a = answer-cut seg (walked (judged sc) (left - count) seg) (sym e ∙ finds .answer) in
+      cuts : Finds sc (left - count) seg before at after Cut → Finds sc left all before at after Cut
+      cuts finds =
+          let a = answer-cut seg (walked (judged sc) (left - count) seg) (finds .answer) in
           let all-cut : walked (judged sc) left all ≡ cut =
           whole ∙ ap (laterBy count) (next ∙ ap (λ (f : Finding). continued (length seg) f (walked (judged sc) (left - count - length seg) rest)) a) in
           record { answer = sym (ap (walkedAs all) all-cut); buffer = finds .buffer ∙ ap (bufferAs before at) a ∙ sym (ap (bufferAs before at) all-cut) }
 
       -- or it has the first break
-      pub passed-broken : {b : Break} → w ≡ Broken b
-          → Finds sc left all before at after (Broken (record { place = count + b .place; length = b .length; run = b .run; event = b .event; kind = b .kind }))
-      passed-broken {b} e =
-          let a = answer-broken seg (walked (judged sc) (left - count) seg) (sym e ∙ finds .answer) in
+      breaks : {b : Break} → Finds sc (left - count) seg before at after (Broken b) → Finds sc left all before at after (Broken (placedLater b count))
+      breaks {b} finds =
+          let a = answer-broken seg (walked (judged sc) (left - count) seg) (finds .answer) in
           let all-found : walked (judged sc) left all ≡ found (count + a .0) (a .1) (a .2) =
           whole ∙ ap (laterBy count) (next ∙ ap (λ (f : Finding). continued (length seg) f (walked (judged sc) (left - count - length seg) rest)) (a .3)) in
           record {
-            answer = ap (λ (x : Break). Broken (record { place = count + x .place; length = x .length; run = x .run; event = x .event; kind = x .kind })) (a .4) ∙ sym (ap (walkedAs all) all-found);
+            answer = ap (λ (x : Break). Broken (placedLater x count)) (a .4) ∙ sym (ap (walkedAs all) all-found);
             buffer = finds .buffer ∙ ap (bufferAs before at) (a .3) ∙ sym (ap (bufferAs before at) all-found);
           }
+
+      -- so the walk goes on behind it, or what it comes to is what is found
+      on : (w : Walked) → Finds sc (left - count) seg before at after w → isClean (behindAs count w) ≡ true
+          → Passed sc left all rest (countOf (behindAs count w)) × (after ≡ before) × (countOf (behindAs count w) ≤ left)
+      on (Broken b) finds clean = absurd (true≢false (sym clean))
+      on (Clean m) finds clean = more finds
+      on Cut finds clean = absurd (true≢false (sym clean))
+
+      stops : (w : Walked) → Finds sc (left - count) seg before at after w → isClean (behindAs count w) ≡ false → Finds sc left all before at after (behindAs count w)
+      stops (Broken b) finds clean = breaks finds
+      stops (Clean m) finds clean = absurd (true≢false clean)
+      stops Cut finds clean = cuts finds
+
+      module _ {w total : Walked} (finds : Finds sc (left - count) seg before at after w) (e : total ≡ behindAs count w) where
+        pub passed-on : isClean total ≡ true → Passed sc left all rest (countOf total) × (after ≡ before) × (countOf total ≤ left)
+        passed-on clean = rw e (on w finds (sym (ap isClean e) ∙ clean))
+
+        pub passed-stops : isClean total ≡ false → Finds sc left all before at after total
+        passed-stops clean = rw e (stops w finds (sym (ap isClean e) ∙ clean))
 
   -- nothing is left
   pub passed-all : {all : List Entry} {count : ℕ} → Passed sc left all [] count → (before : List ℕ) (at : ℕ) → Finds sc left all before at before (Clean count)

@@ -3,37 +3,42 @@ use Prim.Native.Nat.{ℕ, zero, suc, _+_, _*_, _<_, _≤_}
 use native.Mathlib.Numerals.{add-one}
 use native.Mathlib.Omega.{arith}
 use mathlib.Core.Path.{_≡_, refl, sym, ap, _∙_, subst}
-use mathlib.Core.Bool.{Bool, true, false, true≢false}
+use mathlib.Core.Bool.{Bool, true, false, not, true≢false}
 use mathlib.Core.List.{List, [], _∷_, _++_, map, append-assoc, append-nil, List·Memᴰ}
-use mathlib.Core.Option.{Option, none, some}
+use mathlib.Core.Option.{Option, none, some, Option·some-injective, Option·none-ne-some}
+use lib.Dec.{T}
 use lib.ListN.{length, getD, set, take, drop, length-append, length-map}
-use Rattle.semantics.specs.Basic.{joined}
+use Rattle.semantics.specs.Basic.{joined, present}
 use Rattle.semantics.specs.Limits.{mostTraceBytes}
 use Rattle.semantics.specs.Scenario.{Scenario}
-use Rattle.semantics.specs.State.{Value, State, Active, active, initial, Claim}
-use Rattle.semantics.specs.Moves.{Move, toSet, performed, full, movesIn}
-use Rattle.semantics.specs.Tree.{listed, Follows, stays, moves}
+use Rattle.semantics.specs.State.{Value, State, Active, Claim}
+use Rattle.semantics.specs.Moves.{Move, performed}
+use Rattle.semantics.specs.Tree.{Follows, stays, moves}
 use Rattle.semantics.specs.Verdict.{Entry, Finding, found, nothing, cut, walked, valueBytes, moveBytes, traceBytes}
-use Rattle.semantics.specs.Allowed.{Takes, Step, step, AllowedTrace}
-use Rattle.semantics.specs.Guarantee.{Guarantee}
+use Rattle.semantics.specs.Allowed.{Step, step, AllowedTrace}
+use Rattle.semantics.specs.laws.Test.{present-some, absent-none}
 use Rattle.semantics.specs.laws.Tree.{follows-append, follows-map, listed-sound}
-use Rattle.semantics.specs.laws.Moves.{performed-exact, moves-exact}
+use Rattle.semantics.specs.laws.Moves.{performed-exact}
 use Rattle.semantics.specs.laws.Reached.{takes-length}
 use Rattle.semantics.specs.laws.Bytes.{set-few, trace-bytes}
 use Rattle.runs.specs.declared.RunEvent.{RunEvent}
-use Rattle.runs.specs.declared.Runs.{Runs}
 use Rattle.state.specs.declared.State.{State as CodeState}
 use Rattle.state.specs.declared.Moved.{Moved}
-use Rattle.state.specs.State.{IsState, Performed, isAllowed, notAllowed}
+use Rattle.cells.specs.Cells.{Shape}
+use Rattle.state.specs.State.{Due, IsState, NextMove, Ready, Performed, isAllowed, notAllowed}
 use Rattle.claims.specs.Claims.{kindAs}
-use Rattle.breaks.specs.declared.Break.{Break}
-use Rattle.breaks.specs.declared.Values.{Values}
-use Rattle.breaks.specs.declared.Walked.{Walked}
-use Rattle.breaks.specs.declared.Walked.the-variants.{Broken, Clean, Cut}
-use Rattle.breaks.specs.Walk.{stateOf, judged, breakAs, walkedAs, over, bufferAs, Finds, afterMove, below, branches, madeLonger, ValuesAre, Here, AtMove, Chosen}
+use Rattle.findings.specs.declared.Break.{Break}
+use Rattle.findings.specs.declared.Walked.{Walked}
+use Rattle.findings.specs.declared.Walked.the-variants.{Broken, Clean, Cut}
+use Rattle.findings.specs.Findings.{madeLonger, afterStep, isBroken, lengthOf}
+use Rattle.breaks.specs.declared.Course.{Course}
+use Rattle.breaks.specs.declared.Plan.{Plan}
+use Rattle.breaks.specs.declared.Reach.{Reach}
+use Rattle.breaks.specs.declared.Turn.{Turn}
+use Rattle.breaks.specs.Walk.{stateOf, judged, breakAs, walkedAs, over, bufferAs, Finds, nextIn, entriesFrom, afterMove, below, branches, stepBytes, stepSize, stepBefore, StepFits, Here, SomeState, SomeMove, SomeStep, moveBranches, FindsFrom, FindsAfter, FindsStep}
 use Rattle.breaks.specs.laws.Walked.{changed, walked-map, found-within}
 use Rattle.breaks.specs.laws.Finds.{answer-clean, answer-cut, answer-broken}
-use Rattle.breaks.specs.laws.Entries.{branches-allowed, branches-refused}
+use Rattle.breaks.specs.laws.Entries.{next-step, branches-allowed, branches-refused}
 use Rattle.breaks.specs.laws.Bytes.{over-length, over-over}
 use Rattle.breaks.specs.laws.Walk.{finds-nil, finds-same}
 
@@ -55,17 +60,6 @@ trace-one : (m : Move) → traceBytes (m ∷ []) ≡ moveBytes m
 unfolding traceBytes
 trace-one m = append-nil (moveBytes m)
 
--- what a move answered, the other way round
-pub performed-no : {sc : Scenario} {d : State} {a : Active} {vs : List Value} {done : List ℕ} {k : ℕ} {names classes : List ℕ} {moved : Moved} → Performed sc d a vs done k names classes moved → moved .allowed ≡ false → performed sc d a vs ≡ none
-performed-no (isAllowed e f g) h = absurd (true≢false (sym e ∙ h))
-performed-no (notAllowed e f) h = f
-
-pub performed-yes : {sc : Scenario} {d : State} {a : Active} {vs : List Value} {made : List ℕ} {k : ℕ} {names classes : List ℕ} {moved : Moved} → Performed sc d a vs made k names classes moved → moved .allowed ≡ true
-    → {done next : List ℕ} → done ≡ made → next ≡ set done k (getD done k 0 + 1) → (d′ : State) × (performed sc d a vs ≡ some d′) × IsState sc d′ (stateOf next names classes (moved .marks))
-performed-yes {sc} {k = k} {names = names} {classes = classes} {moved = moved} (isAllowed {d′} e f g) h same advanced =
-    (d′, f, subst (λ (l : List ℕ). IsState sc d′ (stateOf l names classes (moved .marks))) (sym (advanced ∙ ap (λ (l : List ℕ). set l k (getD l k 0 + 1)) same)) g)
-performed-yes (notAllowed e f) h same advanced = absurd (true≢false (sym h ∙ e))
-
 -- positions stay low where a low one is put in
 set-low : (l : List ℕ) (k v j : ℕ) → getD l j 0 ≤ 8 → v ≤ 8 → getD (set l k v) j 0 ≤ 8
 set-low [] k v j h w = h
@@ -74,124 +68,222 @@ set-low (x ∷ l) zero v (suc j) h w = h
 set-low (x ∷ l) (suc k) v zero h w = h
 set-low (x ∷ l) (suc k) v (suc j) h w = set-low l k v j h w
 
--- a trace's end is within the longest trace
-pub place-low : {file t : List ℕ} {n : ℕ} {r : Runs} {sc : Scenario} {d : State} {s : CodeState} {ms : List Move} {at : ℕ} → Here file t n r sc d s ms at → at ≤ mostTraceBytes
-place-low {sc = sc} {d = d} {ms = ms} here = omega (arith, here .place, trace-bytes sc (here .given .good) ms d (here .allowed))
+-- what a move answers, whatever state it is asked of
+abbrev pub Performing : List ℕ → ℕ → ℕ → RunEvent → List ℕ → List Bool → Moved → Type 0
+Performing t runs k e classes marks moved =
+    (sc : Scenario) (d : State) (s : CodeState) (a : Active) (vs : List Value) (names : List ℕ) → NextMove t runs k e sc d s a → length (s .done) ≡ 4 → Ready sc d a vs names classes marks
+    → ((e .kind ≡ 1 → ⊥) → vs ≡ []) → Performed sc d a vs (s .done) k names classes moved
 
-module _ {file t : List ℕ} {n : ℕ} {r : Runs} {sc : Scenario} {d : State} {s : CodeState} {ms : List Move} {at k : ℕ} {e : RunEvent} {a : Active} (move : AtMove file t n r sc d s ms at k e a)
-    {vs : List Value} {names classes : List ℕ} {marks : List Bool} {values : Values} (chosen : Chosen sc d a e vs names classes marks values) where
+-- whether it is allowed, whatever state it is asked of
+abbrev pub Allowing : List ℕ → List Bool → ℕ → RunEvent → Bool → Type 0
+Allowing classes marks k e b =
+    (t : List ℕ) (n runs : ℕ) (sc : Scenario) (d : State) (s : CodeState) (a : Active) (vs : List Value) (names : List ℕ) → Shape t n runs → Due n runs k (e .own) (e .peer) (e .row) → NextMove t runs k e sc d s a
+    → length (s .done) ≡ 4 → Ready sc d a vs names classes marks → ((e .kind ≡ 1 → ⊥) → vs ≡ []) → b ≡ present (performed sc d a vs)
+
+-- the state after a move that is allowed
+performed-state : {sc : Scenario} {d : State} {a : Active} {vs : List Value} {made : List ℕ} {k : ℕ} {names classes : List ℕ} {moved : Moved} → Performed sc d a vs made k names classes moved → {d′ : State} → performed sc d a vs ≡ some d′
+    → IsState sc d′ (record { done = set made k (getD made k 0 + 1); names = names; classes = classes; marks = moved .marks })
+performed-state {sc} {made = made} {k = k} {names = names} {classes = classes} {moved = moved} (isAllowed {d′ = d″} e f g) {d′} p =
+    subst (λ (x : State). IsState sc x (record { done = set made k (getD made k 0 + 1); names = names; classes = classes; marks = moved .marks })) (Option·some-injective d″ d′ (sym f ∙ p)) g
+performed-state (notAllowed e f) {d′} p = absurd (Option·none-ne-some d′ (sym f ∙ p))
+
+module _ {file t : List ℕ} {plan : Plan} {course : Course} {names classes : List ℕ} {marks : List Bool} {at : ℕ} {turn : Turn} (m : SomeMove file t plan course names classes marks at turn) where
   abbrev pub taken : Move
-  taken = record { run = suc k; values = vs }
+  taken = record { run = suc (turn .run); values = m .vs }
+
+  here : Here file t plan (m .sc) (m .d) (m .s) (m .ms) at
+  here = m .move .clear .here
+
+  -- a trace's end is within the longest trace
+  pub place-low : at ≤ mostTraceBytes
+  place-low = omega (arith, here .place, trace-bytes (m .sc) (here .reached .given .good) (m .ms) (m .d) (here .reached .allowed))
 
   -- how far the runs have come after it
-  pub next-low : {done next : List ℕ} → done ≡ s .done → next ≡ set done k (getD done k 0 + 1) → (j : ℕ) → j < 4 → getD next j 0 ≤ 8
-  next-low e f j l = rw (f, e) (set-low (s .done) k (getD (s .done) k 0 + 1) j (move .here .low j l) (omega (arith, move .few)))
+  pub next-low : {next : List ℕ} → next ≡ set (course .done) (turn .run) (getD (course .done) (turn .run) 0 + 1) → (j : ℕ) → j < 4 → getD next j 0 ≤ 8
+  next-low f j l = rw (f, m .isDone) (set-low (m .s .done) (turn .run) (getD (m .s .done) (turn .run) 0 + 1) j (here .low j l) (omega (arith, m .move .few)))
 
-  -- how many bytes the step has
-  pub step-size : {bytes : ℕ} → bytes ≡ 2 + 2 * values .count → bytes ≡ length (moveBytes taken)
-  step-size e = omega (arith, chosen .are .many, value-bytes vs)
+  -- the bytes of the step
+  pub step-size : stepSize turn ≡ length (moveBytes taken)
+  step-size = omega (arith, m .chosen .are .many, value-bytes (m .vs))
 
-  pub step-bytes : (k + 1) ∷ values .count ∷ take (2 * values .count) (values .bytes) ≡ moveBytes taken
-  step-bytes = λ i. add-one k i ∷ chosen .are .many i ∷ chosen .are .written i
+  step-bytes : stepBytes turn ≡ moveBytes taken
+  step-bytes = λ i. add-one (turn .run) i ∷ m .chosen .are .many i ∷ m .chosen .are .written i
 
   -- they are at most eight
-  pub few-chosen : values .count ≤ 8
-  few-chosen = omega (arith, chosen .are .many, takes-length (chosen .takes), set-few sc (move .here .given .good) a)
+  pub few-chosen : turn .values .count ≤ 8
+  few-chosen = omega (arith, m .chosen .are .many, takes-length (m .chosen .takes), set-few (m .sc) (here .reached .given .good) (m .a))
 
-  -- a move that is not allowed
-  pub move-refused : (left depth : ℕ) → performed sc d a vs ≡ none → (b : List ℕ) → Finds sc left (below sc depth (branches sc d (suc k) a vs [])) b at b (Clean 0)
-  move-refused left depth no-move b = finds-nil sc left (branches-refused sc depth d (suc k) a vs no-move) b at
+  module _ {b : Bool} (tells : Allowing classes marks (turn .run) (turn .event) b) (size : length (course .done) ≡ 4) where
+    told : b ≡ present (performed (m .sc) (m .d) (m .a) (m .vs))
+    told = tells t (plan .rows) (plan .runs .count) (m .sc) (m .d) (m .s) (m .a) (m .vs) names (here .reached .given .shape) (m .move .due) (m .move .next) (sym (ap length (m .isDone)) ∙ size) (m .chosen .ready) (m .chosen .only)
 
-  -- one that is: the state after it is reached by the longer trace
-  pub move-step : {d′ : State} → performed sc d a vs ≡ some d′ → Step sc d taken d′
-  move-step {d′} e = let w = performed-exact sc d a vs d′ .0 e in step (move .next .isActive) (chosen .takes) (w .1) (w .2)
+    -- a move that is not allowed
+    pub move-refused : b ≡ false → (reach : Reach) (trace : List ℕ) → FindsAfter m reach trace trace (Clean 0)
+    move-refused it reach trace =
+        let no-move = absent-none (performed (m .sc) (m .d) (m .a) (m .vs)) (subst (λ (c : Bool). T (not c)) (sym it ∙ told) tt) in
+        finds-nil (m .sc) (reach .left) (branches-refused plan (m .sc) (reach .depth) (m .d) (suc (turn .run)) (m .a) (m .vs) no-move) trace (reach .at)
 
-  pub move-allowed : {d′ : State} → performed sc d a vs ≡ some d′ → AllowedTrace sc (ms ++ (taken ∷ [])) d′
-  move-allowed e = follows-append (move .here .allowed) (moves (move-step e) stays)
+    -- one that is
+    pub move-taken : b ≡ true → SomeStep file t plan course names classes marks at turn
+    move-taken it = let w = present-some (performed (m .sc) (m .d) (m .a) (m .vs)) (subst T (sym it ∙ told) tt) in record { of = m; d′ = w .0; allowed = w .1 }
 
-  pub move-here : {d′ : State} {s′ : CodeState} → performed sc d a vs ≡ some d′ → IsState sc d′ s′ → ((j : ℕ) → j < 4 → getD (s′ .done) j 0 ≤ 8) → {at′ : ℕ} → at′ ≡ at + length (moveBytes taken) → Here file t n r sc d′ s′ (ms ++ (taken ∷ [])) at′
-  move-here e state low place = record {
-    isOpened = move .here .isOpened;
-    given = move .here .given;
-    state = state;
-    low = low;
-    allowed = move-allowed e;
-    place = place ∙ (λ i. move .here .place i + length (sym (trace-one taken) i)) ∙ sym (ap length (trace-append ms (taken ∷ [])) ∙ length-append (traceBytes ms) (traceBytes (taken ∷ [])));
-  }
+pub move-done : {file t : List ℕ} {plan : Plan} {course : Course} {names classes : List ℕ} {marks : List Bool} {turn : Turn} (reach : Reach) (m : SomeMove file t plan course names classes marks (reach .at) turn) {b : Bool}
+    → Allowing classes marks (turn .run) (turn .event) b → length (course .done) ≡ 4 → b ≡ true → {before after : List ℕ} {w : Walked} → FindsStep file t plan course names classes marks reach turn before after w → FindsAfter m reach before after w
+unfolding move-taken
+move-done reach m tells size it finds = finds (move-taken m tells size it)
 
-  -- a break below it has a trace that fits
-  pub break-fits : {d′ : State} → performed sc d a vs ≡ some d′ → (depth : ℕ) {ms′ : List Move} {end : State} → List·Memᴰ (ms′, end) (listed (movesIn full sc) depth d′) → at + length (moveBytes taken) + length (traceBytes ms′) ≤ mostTraceBytes
-  break-fits {d′} p depth {ms′} {end} m =
-      let rest = follows-map {Step = λ s m s′. List·Memᴰ (m, s′) (movesIn full sc s)} (λ s. Unit {0}) (λ s g m s′ q. tt) {Step′ = Step sc} (λ s g m s′ q. moves-exact sc s full m s′ .0 q) tt (listed-sound (movesIn full sc) depth d′ m) in
-      let all : AllowedTrace sc (ms ++ (taken ∷ ms′)) end = follows-append (move .here .allowed) (moves (move-step p) rest) in
-      let fits = trace-bytes sc (move .here .given .good) (ms ++ (taken ∷ ms′)) end all in
-      omega (arith, fits, ap length (trace-append ms (taken ∷ ms′)), length-append (traceBytes ms) (traceBytes (taken ∷ ms′)), ap length (trace-more taken ms′), length-append (moveBytes taken) (traceBytes ms′), move .here .place)
+module _ {file t : List ℕ} {plan : Plan} {course : Course} {names classes : List ℕ} {marks : List Bool} {turn : Turn} (reach : Reach) (m : SomeStep file t plan course names classes marks (reach .at) turn) where
+  abbrev sc : Scenario
+  sc = m .of .sc
 
-  module _ {d′ : State} (allowed : performed sc d a vs ≡ some d′) (left depth : ℕ) {b b′ : List ℕ} {at′ : ℕ} {w : Walked} (finds : Finds sc left (listed (movesIn full sc) depth d′) b at′ b′ w) where
-    -- what is found below it, after the move
-    all : below sc depth (branches sc d (suc k) a vs []) ≡ map (afterMove taken) (listed (movesIn full sc) depth d′)
-    all = branches-allowed sc depth d (suc k) a vs allowed
+  abbrev its : Move
+  its = taken (m .of)
 
-    mapped-walk : walked (judged sc) left (map (afterMove taken) (listed (movesIn full sc) depth d′)) ≡ changed (judged sc) (afterMove taken) (walked (judged sc) left (listed (movesIn full sc) depth d′))
-    mapped-walk = walked-map (judged sc) (afterMove taken) (λ e. refl) left (listed (movesIn full sc) depth d′)
+  -- the state after it is reached by the longer trace
+  move-step : Step sc (m .of .d) its (m .d′)
+  move-step = let w = performed-exact sc (m .of .d) (m .of .a) (m .of .vs) (m .d′) .0 (m .allowed) in step (m .of .move .next .isActive) (m .of .chosen .takes) (w .1) (w .2)
 
-    pub move-clean : {m : ℕ} → w ≡ Clean m → (b′ ≡ b) × Finds sc left (below sc depth (branches sc d (suc k) a vs [])) b at b (Clean m)
-    move-clean {m} q =
-        let x = answer-clean (listed (movesIn full sc) depth d′) (walked (judged sc) left (listed (movesIn full sc) depth d′)) (sym q ∙ finds .answer) in
-        let none-found = mapped-walk ∙ ap (changed (judged sc) (afterMove taken)) (x .0) in (
-          finds .buffer ∙ ap (bufferAs b at′) (x .0),
-          finds-same sc left all (record {
-            answer = ap Clean (x .1 ∙ sym (length-map (listed (movesIn full sc) depth d′) (afterMove taken))) ∙ sym (ap (walkedAs (map (afterMove taken) (listed (movesIn full sc) depth d′))) none-found);
-            buffer = sym (ap (bufferAs b at) none-found);
-          }),
-        )
+  pub move-allowed : AllowedTrace sc (m .of .ms ++ (its ∷ [])) (m .d′)
+  move-allowed = follows-append (m .of .move .clear .here .reached .allowed) (moves move-step stays)
 
-    pub move-cut : w ≡ Cut → (b′ ≡ b) × Finds sc left (below sc depth (branches sc d (suc k) a vs [])) b at b Cut
-    move-cut q =
-        let x = answer-cut (listed (movesIn full sc) depth d′) (walked (judged sc) left (listed (movesIn full sc) depth d′)) (sym q ∙ finds .answer) in
-        let is-cut = mapped-walk ∙ ap (changed (judged sc) (afterMove taken)) x in (
-          finds .buffer ∙ ap (bufferAs b at′) x,
-          finds-same sc left all (record { answer = sym (ap (walkedAs (map (afterMove taken) (listed (movesIn full sc) depth d′))) is-cut); buffer = sym (ap (bufferAs b at) is-cut) }),
-        )
+  -- an entry below it has a trace that fits
+  entry-fits : (depth : ℕ) {ms′ : List Move} {end : State} → List·Memᴰ (ms′, end) (entriesFrom plan depth sc (m .d′)) → reach .at + stepSize turn + length (traceBytes ms′) ≤ mostTraceBytes
+  entry-fits depth {ms′} {end} q =
+      let here = m .of .move .clear .here in
+      let rest = follows-map {Step = λ s x s′. List·Memᴰ (x, s′) (nextIn plan sc s)} (λ s. Unit {0}) (λ s g x s′ q. tt) {Step′ = Step sc} (λ s g x s′ q. next-step plan sc s x s′ q) tt (listed-sound (nextIn plan sc) depth (m .d′) q) in
+      let all : AllowedTrace sc (m .of .ms ++ (its ∷ ms′)) end = follows-append (here .reached .allowed) (moves move-step rest) in
+      let fits = trace-bytes sc (here .reached .given .good) (m .of .ms ++ (its ∷ ms′)) end all in
+      omega (arith, fits, step-size (m .of), ap length (trace-append (m .of .ms) (its ∷ ms′)), length-append (traceBytes (m .of .ms)) (traceBytes (its ∷ ms′)), ap length (trace-more its ms′), length-append (moveBytes its) (traceBytes ms′), here .place)
+
+  -- what is found after it
+  module _ (b b′ : List ℕ) where
+    abbrev after : List Entry
+    after = entriesFrom plan (reach .depth) sc (m .d′)
+
+    abbrev Found : Walked → Type 0
+    Found w = Finds sc (reach .left) after b (reach .at + stepSize turn) b′ w
+
+    abbrev Put : List ℕ → Walked → Type 0
+    Put b″ w = Finds sc (reach .left) (below plan sc (reach .depth) (moveBranches sc (m .of .d) (m .of .a) turn (m .of .vs))) b (reach .at) b″ w
+
+    all : below plan sc (reach .depth) (moveBranches sc (m .of .d) (m .of .a) turn (m .of .vs)) ≡ map (afterMove its) after
+    all = branches-allowed plan sc (reach .depth) (m .of .d) (suc (turn .run)) (m .of .a) (m .of .vs) (m .allowed)
+
+    mapped-walk : walked (judged sc) (reach .left) (map (afterMove its) after) ≡ changed (judged sc) (afterMove its) (walked (judged sc) (reach .left) after)
+    mapped-walk = walked-map (judged sc) (afterMove its) (λ e. refl) (reach .left) after
+
+    -- nothing, or the end of the budget
+    pub move-clean : {n : ℕ} → Found (Clean n) → Put b′ (Clean n)
+    move-clean finds =
+        let x = answer-clean after (walked (judged sc) (reach .left) after) (finds .answer) in
+        let none-found = mapped-walk ∙ ap (changed (judged sc) (afterMove its)) (x .0) in
+        finds-same sc (reach .left) all (record {
+          answer = ap Clean (x .1 ∙ sym (length-map after (afterMove its))) ∙ sym (ap (walkedAs (map (afterMove its) after)) none-found);
+          buffer = finds .buffer ∙ ap (bufferAs b (reach .at + stepSize turn)) (x .0) ∙ sym (ap (bufferAs b (reach .at)) none-found);
+        })
+
+    pub move-cut : Found Cut → Put b′ Cut
+    move-cut finds =
+        let x = answer-cut after (walked (judged sc) (reach .left) after) (finds .answer) in
+        let is-cut = mapped-walk ∙ ap (changed (judged sc) (afterMove its)) x in
+        finds-same sc (reach .left) all (record { answer = sym (ap (walkedAs (map (afterMove its) after)) is-cut); buffer = finds .buffer ∙ ap (bufferAs b (reach .at + stepSize turn)) x ∙ sym (ap (bufferAs b (reach .at)) is-cut) })
 
     -- a break: what is known of it
-    pub record Below (x : Break) : Type 0 where
+    record Below (x : Break) : Type 0 where
       pub place : ℕ
       pub entry : Entry
       pub claim : Claim
-      pub isFound : walked (judged sc) left (listed (movesIn full sc) depth d′) ≡ found place entry claim
+      pub isFound : walked (judged sc) (reach .left) after ≡ found place entry claim
       pub isBreak : x ≡ breakAs place entry claim
-      pub fits : at + length (moveBytes taken) + length (traceBytes (entry .0)) ≤ mostTraceBytes
-      pub written : b′ ≡ over b at′ (traceBytes (entry .0))
+      pub fits : reach .at + stepSize turn + length (traceBytes (entry .0)) ≤ mostTraceBytes
+      pub written : b′ ≡ over b (reach .at + stepSize turn) (traceBytes (entry .0))
 
-    pub move-below : {x : Break} → w ≡ Broken x → Below x
-    move-below {x} q =
-        let y = answer-broken (listed (movesIn full sc) depth d′) (walked (judged sc) left (listed (movesIn full sc) depth d′)) (sym q ∙ finds .answer) in
+    broken-below : {x : Break} → Found (Broken x) → Below x
+    broken-below {x} finds =
+        let y = answer-broken after (walked (judged sc) (reach .left) after) (finds .answer) in
         record {
           place = y .0;
           entry = y .1;
           claim = y .2;
           isFound = y .3;
           isBreak = y .4;
-          fits = break-fits allowed depth (found-within (judged sc) left (listed (movesIn full sc) depth d′) (y .3) .1);
-          written = finds .buffer ∙ ap (bufferAs b at′) (y .3);
+          fits = entry-fits (reach .depth) (found-within (judged sc) (reach .left) after (y .3) .1);
+          written = finds .buffer ∙ ap (bufferAs b (reach .at + stepSize turn)) (y .3);
         }
 
-    pub below-room : {x : Break} → Below x → mostTraceBytes ≤ length b → at′ ≡ at + length (moveBytes taken) → length b′ ≡ length b
-    below-room y room start = ap length (y .written) ∙ over-length b at′ (traceBytes (y .entry .0)) (omega (arith, start, y .fits))
-
-    -- the break with the step written in front
-    pub move-broken : {x : Break} → Below x → mostTraceBytes ≤ length b → {bytes : ℕ} → bytes ≡ 2 + 2 * values .count → at′ ≡ at + bytes → (b″ : List ℕ) → b″ ≡ over b′ at ((k + 1) ∷ values .count ∷ take (2 * values .count) (values .bytes))
-        → Finds sc left (below sc depth (branches sc d (suc k) a vs [])) b at b″ (Broken (madeLonger x bytes))
-    move-broken {x} y room {bytes} size end b″ wrote =
-        let is-found = mapped-walk ∙ ap (changed (judged sc) (afterMove taken)) (y .isFound) in
-        let long : length (traceBytes (taken ∷ y .entry .0)) ≡ bytes + length (traceBytes (y .entry .0)) = ap length (trace-more taken (y .entry .0)) ∙ length-append (moveBytes taken) (traceBytes (y .entry .0)) ∙ ap (λ (m : ℕ). m + length (traceBytes (y .entry .0))) (sym (step-size size)) in
-        let start : at′ ≡ at + length (moveBytes taken) = end ∙ ap (λ (m : ℕ). at + m) (step-size size) in
-        let whole : b″ ≡ over b at (traceBytes (taken ∷ y .entry .0)) =
-        wrote ∙ (λ i. over (y .written i) at (step-bytes i)) ∙ over-over b at (moveBytes taken) (traceBytes (y .entry .0)) start (omega (arith, start, y .fits)) ∙ ap (over b at) (sym (trace-more taken (y .entry .0))) in
-        finds-same sc left all (record {
-          answer = ap (λ (z : Break). Broken (madeLonger z bytes)) (y .isBreak)
+    -- with the step written in front
+    put-broken : {x : Break} → Found (Broken x) → mostTraceBytes ≤ length b → Put (over b′ (reach .at) (stepBytes turn)) (Broken (madeLonger x (stepSize turn)))
+    put-broken {x} finds room =
+        let y = broken-below finds in
+        let is-found = mapped-walk ∙ ap (changed (judged sc) (afterMove its)) (y .isFound) in
+        let long : length (traceBytes (its ∷ y .entry .0)) ≡ stepSize turn + length (traceBytes (y .entry .0)) =
+        ap length (trace-more its (y .entry .0)) ∙ length-append (moveBytes its) (traceBytes (y .entry .0)) ∙ ap (λ (n : ℕ). n + length (traceBytes (y .entry .0))) (sym (step-size (m .of))) in
+        let start : reach .at + stepSize turn ≡ reach .at + length (moveBytes its) = ap (λ (n : ℕ). reach .at + n) (step-size (m .of)) in
+        let whole : over b′ (reach .at) (stepBytes turn) ≡ over b (reach .at) (traceBytes (its ∷ y .entry .0)) =
+        (λ i. over (y .written i) (reach .at) (step-bytes (m .of) i)) ∙ over-over b (reach .at) (moveBytes its) (traceBytes (y .entry .0)) start (omega (arith, y .fits)) ∙ ap (over b (reach .at)) (sym (trace-more its (y .entry .0))) in
+        finds-same sc (reach .left) all (record {
+          answer = ap (λ (z : Break). Broken (madeLonger z (stepSize turn))) (y .isBreak)
               ∙ ap (λ (l : ℕ). Broken (record { place = y .place; length = l; run = y .claim .run; event = y .claim .event; kind = kindAs (y .claim .kind) })) (sym long)
-              ∙ sym (ap (walkedAs (map (afterMove taken) (listed (movesIn full sc) depth d′))) is-found);
-          buffer = whole ∙ sym (ap (bufferAs b at) is-found);
+              ∙ sym (ap (walkedAs (map (afterMove its) after)) is-found);
+          buffer = whole ∙ sym (ap (bufferAs b (reach .at)) is-found);
         })
+
+    -- whatever it is, the step is put in front
+    put : (w : Walked) → Found w → mostTraceBytes ≤ length b → Put (stepBefore b′ (reach .at) turn w) (afterStep w (stepSize turn))
+    put (Broken x) finds room = put-broken finds room
+    put (Clean n) finds room = move-clean finds
+    put Cut finds room = move-cut finds
+
+    -- where it is written there is room for it, and the trace is not too long
+    step-inside : (w : Walked) → Found w → mostTraceBytes ≤ length b → isBroken w ≡ true → reach .at + stepSize turn ≤ length b′
+    step-inside (Broken x) finds room q =
+        let y = broken-below finds in
+        omega (arith, y .fits, ap length (y .written), over-length b (reach .at + stepSize turn) (traceBytes (y .entry .0)) (omega (arith, y .fits)))
+    step-inside (Clean n) finds room q = absurd (true≢false (sym q))
+    step-inside Cut finds room q = absurd (true≢false (sym q))
+
+    fits-in : {w : Walked} → Found w → mostTraceBytes ≤ length b → StepFits (length b′) (reach .at) turn w
+    fits-in {w} finds room = record {
+      inside = step-inside w finds room;
+      few = few-chosen (m .of);
+      low = omega (arith, m .of .move .clear .here .reached .given .runs .few, m .of .move .due .isRun);
+    }
+
+    is-short : (w : Walked) → Found w → lengthOf w ≤ mostTraceBytes
+    is-short (Broken x) finds = let y = broken-below finds in omega (arith, y .fits, ap (λ (z : Break). z .length) (y .isBreak))
+    is-short (Clean n) finds = omega arith
+    is-short Cut finds = omega arith
+
+  -- the state after it, with what is answered of the marks, and how far the walk goes from there
+  module _ {moved : Moved} (performs : Performing t (plan .runs .count) (turn .run) (turn .event) classes marks moved) (size : length (course .done) ≡ 4) {next : List ℕ} (e : next ≡ set (course .done) (turn .run) (getD (course .done) (turn .run) 0 + 1)) where
+    pub after-state : SomeState file t plan (stateOf (record { done = next }) names classes (moved .marks)) (reach .at + stepSize turn)
+    after-state =
+        let here = m .of .move .clear .here in
+        let at-state = performed-state (performs sc (m .of .d) (m .of .s) (m .of .a) (m .of .vs) names (m .of .move .next) (sym (ap length (m .of .isDone)) ∙ size) (m .of .chosen .ready) (m .of .chosen .only)) (m .allowed) in
+        record {
+          sc = sc;
+          d = m .d′;
+          ms = m .of .ms ++ (its ∷ []);
+          here = record {
+            reached = record { isOpened = here .reached .isOpened; given = here .reached .given; allowed = move-allowed };
+            state = subst (λ (l : List ℕ). IsState sc (m .d′) (record { done = l; names = names; classes = classes; marks = moved .marks })) (sym (e ∙ ap (λ (l : List ℕ). set l (turn .run) (getD l (turn .run) 0 + 1)) (m .of .isDone))) at-state;
+            low = next-low (m .of) e;
+            place = (λ i. here .place i + (step-size (m .of) ∙ ap length (sym (trace-one its))) i) ∙ sym (ap length (trace-append (m .of .ms) (its ∷ [])) ∙ length-append (traceBytes (m .of .ms)) (traceBytes (its ∷ [])));
+          };
+        }
+
+    -- what a walk from it finds, after the move
+    module _ {b b′ : List ℕ} {w : Walked} (told : FindsFrom file t plan (stateOf (record { done = next }) names classes (moved .marks)) (record { left = reach .left; at = reach .at + stepSize turn; depth = reach .depth }) b b′ w) where
+      pub found-after : Finds sc (reach .left) (entriesFrom plan (reach .depth) sc (m .d′)) b (reach .at + stepSize turn) b′ w
+      unfolding after-state
+      found-after = told after-state
+
+      pub step-length : lengthOf w ≤ mostTraceBytes
+      step-length = is-short b b′ w found-after
+
+      module _ (room : mostTraceBytes ≤ length b) where
+        pub step-fits : StepFits (length b′) (reach .at) turn w
+        step-fits = fits-in b b′ found-after room
+
+        pub step-finds : {w′ : Walked} {b″ : List ℕ} → b″ ≡ stepBefore b′ (reach .at) turn w → w′ ≡ afterStep w (stepSize turn) → FindsAfter (m .of) reach b b″ w′
+        step-finds f g = rw (f, g) (put b b′ w found-after room)

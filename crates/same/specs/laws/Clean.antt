@@ -7,8 +7,7 @@ use mathlib.Core.Option.{none, Option·none-ne-some}
 use lib.ListN.{length}
 use Rattle.semantics.specs.Scenario.{Scenario}
 use Rattle.semantics.specs.State.{State}
-use Rattle.semantics.specs.Moves.{Move, full, movesIn}
-use Rattle.semantics.specs.Tree.{listed}
+use Rattle.semantics.specs.Moves.{full, Move}
 use Rattle.semantics.specs.Verdict as verdicts
 use Rattle.semantics.specs.Verdict.{Entry, Finding, nothing, cut, walked}
 use Rattle.semantics.specs.Allowed.{AllowedTrace}
@@ -17,12 +16,12 @@ use Rattle.semantics.specs.laws.List.{mem-getElem, getElem-below}
 use Rattle.semantics.specs.laws.Tree.{listed-first}
 use Rattle.semantics.specs.laws.Verdict as walks
 use Rattle.semantics.specs.laws.Verdict.{walkedFound, walkedAll, walkedCut, walked-view}
-use Rattle.breaks.specs.declared.Walked.{Walked}
-use Rattle.breaks.specs.declared.Walked.the-variants as answers
-use Rattle.breaks.specs.Walk.{judged, walkedAs, bufferAs, Finds}
+use Rattle.findings.specs.declared.Walked.the-variants as answers
+use Rattle.breaks.specs.declared.Plan.{Plan}
+use Rattle.breaks.specs.Walk.{judged, walkedAs, bufferAs, Finds, nextIn, entriesFrom}
 use Rattle.breaks.specs.laws.Walked.{nothing-within}
 use Rattle.breaks.specs.laws.Finds.{answer-clean}
-use Rattle.semantics.specs.Same.{Each, cons, SameEntry}
+use Rattle.semantics.specs.Same.{Each, cons, Same, SameEntry}
 use Rattle.same.specs.Clean.{Clean, Placed, SamePositions, SameNames}
 use Rattle.semantics.specs.laws.Each.{each-length}
 use Rattle.semantics.specs.laws.Same.{listed-same, broken-same}
@@ -54,19 +53,9 @@ clean-found {sc} {left} {es} finds =
     let a = answer-clean es (walked (judged sc) left es) (finds .answer) in
     record { unbroken = nothing-breaks sc left es (walked-view (judged sc) left es) (a .0); counted = sym (a .1) }
 
--- They are within the budget.
-pub clean-within : {sc : Scenario} {left : ℕ} {es : List Entry} {before after : List ℕ} {at m : ℕ} → Finds sc left es before at after (answers.Clean m) → m ≤ left
-clean-within {sc} {left} {es} finds =
-    let a = answer-clean es (walked (judged sc) left es) (finds .answer) in
-    omega (arith, nothing-within (judged sc) left es (a .0), a .1)
-
--- It leaves the buffer as it was.
-pub clean-buffer : {sc : Scenario} {left : ℕ} {es : List Entry} {before after : List ℕ} {at m : ℕ} → Finds sc left es before at after (answers.Clean m) → after ≡ before
-clean-buffer {sc} {left} {es} {before} {at = at} finds = finds .buffer ∙ ap (bufferAs before at) (answer-clean es (walked (judged sc) left es) (finds .answer) .0)
-
 -- A list has the trace of its own state first, so there is one.
-pub clean-some : {sc : Scenario} (depth : ℕ) (d : State) {m : ℕ} → Clean sc (listed (movesIn full sc) depth d) m → 1 ≤ m
-clean-some {sc} depth d clean = omega (arith, getElem-below (listed (movesIn full sc) depth d) 0 (listed-first (movesIn full sc) depth d), clean .counted)
+pub clean-some : {sc : Scenario} (plan : Plan) (depth : ℕ) (d : State) {m : ℕ} → Clean sc (entriesFrom plan depth sc d) m → 1 ≤ m
+clean-some {sc} plan depth d clean = omega (arith, getElem-below (entriesFrom plan depth sc d) 0 (listed-first (nextIn plan sc) depth d), clean .counted)
 
 -- A walk through such entries answers how many they are, if the budget is enough.
 pub clean-finds : {sc : Scenario} {left : ℕ} {es : List Entry} {m : ℕ} → Clean sc es m → m ≤ left → (before : List ℕ) (at : ℕ) → Finds sc left es before at before (answers.Clean m)
@@ -81,6 +70,11 @@ clean-cuts {sc} {left} {es} clean l before at =
     record { answer = sym (ap (walkedAs es) ends); buffer = sym (ap (bufferAs before at) ends) }
 
 module _ {sc : Scenario} (g : Guarantee sc) where
+  -- the entries below equal states are the same in each place
+  entries-same : (plan : Plan) (depth : ℕ) (d d′ : State) → Same (sc .rows) d d′ → Each (SameEntry (sc .rows)) (entriesFrom plan depth sc d) (entriesFrom plan depth sc d′)
+  unfolding nextIn
+  entries-same plan depth d d′ same = listed-same sc (g .table) full depth d d′ same
+
   -- entries that are the same in each place break claims alike
   unbroken-same : {es es′ : List Entry} → Each (SameEntry (sc .rows)) es es′ → ((e : Entry) → List·Memᴰ e es → judged sc e ≡ none) → (e : Entry) → List·Memᴰ e es′ → judged sc e ≡ none
   unbroken-same (cons r rs) h e (List·Memᴰ·head q) = ap (judged sc) q ∙ sym (broken-same sc (g .table) (r .1)) ∙ h _ (List·Memᴰ·head refl)
@@ -88,8 +82,7 @@ module _ {sc : Scenario} (g : Guarantee sc) where
 
   -- Below reached states with equal positions and names are equally many entries that break no claim.
   pub clean-same : {ms ms′ : List Move} {d d′ : State} {done done′ names names′ : List ℕ} → AllowedTrace sc ms d → AllowedTrace sc ms′ d′ → Placed sc d done names → Placed sc d′ done′ names′
-      → SamePositions sc done done′ → SameNames sc names names′ → (depth : ℕ) {m : ℕ} → Clean sc (listed (movesIn full sc) depth d) m → Clean sc (listed (movesIn full sc) depth d′) m
-  clean-same {d = d} {d′ = d′} t t′ placed placed′ positions names depth clean =
-      let same : Each (SameEntry (sc .rows)) (listed (movesIn full sc) depth d) (listed (movesIn full sc) depth d′) =
-      listed-same sc (g .table) full depth d d′ (same-reached g t t′ (same-names g placed placed′ positions names)) in
+      → SamePositions sc done done′ → SameNames sc names names′ → (plan : Plan) (depth : ℕ) {m : ℕ} → Clean sc (entriesFrom plan depth sc d) m → Clean sc (entriesFrom plan depth sc d′) m
+  clean-same {d = d} {d′ = d′} t t′ placed placed′ positions names plan depth clean =
+      let same = entries-same plan depth d d′ (same-reached g t t′ (same-names g placed placed′ positions names)) in
       record { unbroken = unbroken-same same (clean .unbroken); counted = sym (each-length same) ∙ clean .counted }

@@ -1,20 +1,14 @@
 -- `walk_all` walks through the whole list of an accepted file. The memory is an array of zeros at first, which says nothing. Assumes nothing.
 use native.Mathlib.Omega.{arith}
 use borrow.Author.Needs.{needs}
-use Prim.Native.Nat.{ℕ}
-use mathlib.Core.Path.{_≡_, refl, sym, ap, _∙_}
-use mathlib.Core.List.{[]}
+use mathlib.Core.Path.{_≡_, refl, _∙_}
 use lib.ListN.{length}
 use Rattle.semantics.specs.Scenario.{Scenario}
-use Rattle.semantics.specs.State.{initial}
-use Rattle.semantics.specs.Moves.{full, movesIn}
-use Rattle.semantics.specs.Tree.{listed}
 use Rattle.runs.specs.laws.Blocks.{opened-framed}
 use Rattle.state.specs.laws.Given.{opened-knowledge, given-layout}
-use Rattle.breaks.specs.laws.Walk.{finds-same}
 use Rattle.same.specs.laws.Memory.{remembers-start}
+use Rattle.same.specs.laws.Start.{state-first, first-finds}
 use Rattle.search.specs.laws.Events.{total-left}
-use Rattle.search.specs.laws.Verdict.{here-first}
 use Rattle.search.proofs.walk_all.Statement.{statement}
 use Rattle.search.proofs.walk_all.Tie as tie
 
@@ -53,9 +47,10 @@ walk-requires c κs =
     let start = c .before .before .before .before .before .before .before .before .before .before .before .before .before .before .before in
     let p = start .pre .0 in
     let runs = c .before .before .before .before .before .before .before .before .before .before .before .before .runs-of .ensures (p .0) (p .1) in
-    let given = given-layout _ (p .0) (p .1) (p .2) runs (c .before .before .before .before .before .before .before .before .before .before .before .block-of .ensures) in (
-      (p .0, initial (p .0), [], here-first (p .1) given (c .before .before .before .before .before .before .before .before .before .initial .ensures (p .0) given (opened-knowledge _ (p .0) (p .1) (c .before .before .before .before .before .before .before .before .before .before .block-of2 .ensures))) refl),
-      record { buffer = start .pre .1 .0; budget = start .pre .1 .1; moves = omega (arith, c .event-count .ensures .1); remembers = remembers-start _ _ _ _ (c .before .before .before .before .before .variable-rows .ensures) refl },
+    let given = given-layout _ (p .0) (p .1) (p .2) runs (c .before .before .before .before .before .before .before .before .before .before .before .block-of .ensures) in
+    let state = c .before .before .before .before .before .before .before .before .before .initial .ensures (p .0) given (opened-knowledge _ (p .0) (p .1) (c .before .before .before .before .before .before .before .before .before .before .block-of2 .ensures)) in (
+      state-first _ (p .1) given state refl,
+      record { buffer = start .pre .1 .0; budget = start .pre .1 .1; moves = omega (arith, c .event-count .ensures .1); remembers = remembers-start _ _ _ (c .before .before .before .before .before .variable-rows .ensures) refl },
     )
 
 events-size : (c : tie.After-runs-of) → length (c .runs-of .result .events) ≡ 4
@@ -65,23 +60,9 @@ returns : tie.Need-returns
 returns c sc o l =
     let runs = c .before .before .before .before .before .before .before .before .before .before .before .before .before .before .before .before .runs-of .ensures sc o in
     let given = given-layout _ sc o l runs (c .before .before .before .before .before .before .before .before .before .before .before .before .before .before .before .block-of .ensures) in
-    let here = here-first o given (c .before .before .before .before .before .before .before .before .before .before .before .before .before .initial .ensures sc given (opened-knowledge _ sc o (c .before .before .before .before .before .before .before .before .before .before .before .before .before .before .block-of2 .ensures))) refl in
+    let state = c .before .before .before .before .before .before .before .before .before .before .before .before .before .initial .ensures sc given (opened-knowledge _ sc o (c .before .before .before .before .before .before .before .before .before .before .before .before .before .before .block-of2 .ensures)) in
     let depth = c .before .before .before .before .event-count .ensures .0 ∙ total-left _ sc _ runs (events-size (c .before .before .before .before .before .before .before .before .before .before .before .before .before .before .before .before)) in
-    finds-same sc _ (ap (λ (m : ℕ). listed (movesIn full sc) m (initial sc)) (sym depth)) (c .before .before .before .walk .ensures .0 sc (initial sc) [] here)
+    first-finds _ o given state refl depth (c .before .before .before .walk .ensures .0)
 
 pub walk-all-spec : {M : Type 1} → statement M
-walk-all-spec =
-    tie.close
-    (tie.spec
-    (λ c κs. search needs)
-    block-of-requires
-    block-of-requires-2
-    initial-requires
-    variable-rows-requires
-    (λ c. search needs)
-    (λ c. search needs)
-    slice-aggregate-walk-3
-    event-count-requires
-    walk-requires
-    (λ c. search needs)
-    returns)
+walk-all-spec = tie.close (tie.spec (λ c κs. search needs) block-of-requires block-of-requires-2 initial-requires variable-rows-requires (λ c. search needs) (λ c. search needs) slice-aggregate-walk-3 event-count-requires walk-requires (λ c. search needs) returns)

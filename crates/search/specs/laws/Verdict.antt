@@ -1,33 +1,27 @@
 -- The verdict by what the walk through the whole list finds, and Search by the verdict. Assumes nothing.
-use Prim.Native.Nat.{ℕ, zero, suc, _+_, _<_, _≤_}
+use Prim.Native.Nat.{ℕ, _+_, _<_, _≤_}
 use native.Mathlib.Omega.{arith}
 use mathlib.Core.Path.{_≡_, refl, sym, ap, _∙_}
 use mathlib.Core.Bool.{Bool, true, false}
-use mathlib.Core.List.{List, [], _∷_, _++_, map}
-use mathlib.Core.Option.{some, Option·some-injective, Option·none-ne-some}
+use mathlib.Core.List.{List, _++_}
 use lib.Dec.{ltb}
-use lib.ListN.{length, getElem?, drop, replicate}
+use lib.ListN.{length, drop}
 use borrow.Author.Tests.{lt-ltb, le-ltb}
 use Rattle.semantics.specs.Basic.{provided}
 use Rattle.semantics.specs.Answer.{Answer, refused, accepted, checked, _>>=_, _>>_}
 use Rattle.semantics.specs.Frame.{budgetOf}
 use Rattle.semantics.specs.Scenario.{Scenario, scenarioOf, opened}
-use Rattle.semantics.specs.Runs.{Run}
-use Rattle.semantics.specs.State.{Progress, initial, eventsLeft}
+use Rattle.semantics.specs.State.{initial, eventsLeft}
 use Rattle.semantics.specs.Moves.{full, movesIn}
-use Rattle.semantics.specs.Tree.{listed, stays}
+use Rattle.semantics.specs.Tree.{listed}
 use Rattle.semantics.specs.Verdict.{Entry, Finding, found, nothing, cut, walked, Verdict, verdictFrom, verdict, traceList, traceBytes, shortBuffer, searched, written, bufferAfter, searchedIn, bufferIn}
 use Rattle.semantics.specs.laws.Open.{opened-inverts}
 use Rattle.scenario.specs.Opened.{openedAs}
 use Rattle.scenario.specs.declared.Opened.the-variants as opening
-use Rattle.runs.specs.declared.Runs.{Runs}
-use Rattle.state.specs.State.{Given, IsState}
-use Rattle.state.specs.declared.State.{State}
-use Rattle.memory.specs.laws.Words.{zeros-read}
-use Rattle.breaks.specs.Walk.{stateOf, judged, over, walkedAs, bufferAs, Finds, Here}
+use Rattle.breaks.specs.Walk.{judged, over, walkedAs, bufferAs, Finds}
 use Rattle.breaks.specs.laws.Walk.{walk-cut}
-use Rattle.breaks.specs.declared.Walked.{Walked}
-use Rattle.breaks.specs.declared.Walked.the-variants as walking
+use Rattle.findings.specs.declared.Walked.{Walked}
+use Rattle.findings.specs.declared.Walked.the-variants as walking
 use Rattle.search.specs.declared.Searched.{Searched}
 use Rattle.search.specs.declared.Searched.the-variants.{Refused, Broken, Held, Stopped}
 use Rattle.search.specs.Search.{verdictAs, searchedAs}
@@ -71,28 +65,9 @@ module _ (file : List ℕ) (sc : Scenario) (isOpened : opened file ≡ accepted 
   unfolding scenarioOf
   opened-budget e = e ∙ sym (ap (λ (x : Scenario). x .budget) (opened-inverts file sc isOpened .scenario))
 
--- no run has made an event before any move
-first-done : (rs : List Run) (k : ℕ) (p : Progress) → getElem? (map (λ run. record { done = 0; values = [] }) rs) k ≡ some p → 0 ≡ p .done
-first-done [] k p e = absurd (Option·none-ne-some p e)
-first-done (r ∷ rs) zero p e = ap (λ (q : Progress). q .done) (Option·some-injective (record { done = 0; values = [] }) p e)
-first-done (r ∷ rs) (suc k) p e = first-done rs k p e
-
--- the state before any move, where the walk begins
-pub here-first : {file t : List ℕ} {n : ℕ} {r : Runs} {sc : Scenario} {s : State} → opened file ≡ accepted sc → Given file t n r sc → IsState sc (initial sc) s → {done : List ℕ} → done ≡ replicate 4 0
-    → Here file t n r sc (initial sc) (stateOf done (s .names) (s .classes) (s .marks)) [] 0
-unfolding traceBytes initial
-here-first {sc = sc} isOpened given state e = rw e (record {
-  isOpened = isOpened;
-  given = given;
-  state = record { progress = state .progress; done = λ k p q. zeros-read 4 k ∙ first-done (sc .runs) k p q; arrays = state .arrays; valued = state .valued };
-  low = λ k l. omega (arith, zeros-read 4 k);
-  allowed = stays;
-  place = refl;
-})
-
 -- the walk with no budget
 pub first-cut : (sc : Scenario) {left : ℕ} → left ≡ 0 → (depth : ℕ) (before : List ℕ) → Finds sc left (listed (movesIn full sc) depth (initial sc)) before 0 before walking.Cut
-first-cut sc {left} z depth before = walk-cut sc left (initial sc) before 0 depth z
+first-cut sc {left} z depth before = walk-cut (movesIn full sc) sc left (initial sc) before 0 depth z
 
 module _ (file buffer : List ℕ) where
   -- a refused file

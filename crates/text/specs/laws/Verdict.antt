@@ -12,7 +12,7 @@ use Rattle.semantics.specs.Answer.{Answer, refused, accepted, checked, _>>=_, _
 use Rattle.semantics.specs.Scenario.{opened}
 use Rattle.semantics.specs.Moves.{full, Move}
 use Rattle.semantics.specs.Verdict.{Verdict, brokenAt, held, stopped, verdict, traceBytes, shortBuffer, searched, written, bufferAfter, searchedIn, bufferIn}
-use Rattle.breaks.specs.declared.Break.{Break}
+use Rattle.findings.specs.declared.Break.{Break}
 use Rattle.search.specs.Search.{searchedAs}
 use Rattle.search.specs.declared.Searched.the-variants.{Refused, Broken, Held, Stopped}
 use Rattle.text.specs.declared.Text.{Text}

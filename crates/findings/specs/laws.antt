@@ -1,0 +1,2 @@
+-- The laws of what a walk finds, with their proofs.
+pub mod Findings
