@@ -20,11 +20,11 @@ use Rattle.runs.specs.declared.RunEvent.{RunEvent}
 use Rattle.state.specs.declared.State.{State}
 use Rattle.state.specs.State.{Given, Due, IsState, NextMove, Ready}
 use Rattle.values.specs.Values.{Setting, PartArrays}
-use Rattle.claims.specs.Claims.{kindAs}
+use Rattle.answers.specs.Answers.{walkedAs}
 use Rattle.variables.specs.Variables.{Beneath, unsetFrom}
-use Rattle.findings.specs.declared.Break.{Break}
-use Rattle.findings.specs.declared.Walked.{Walked}
-use Rattle.findings.specs.declared.Walked.the-variants.{Broken, Clean, Cut}
+use Rattle.answers.specs.declared.Break.{Break}
+use Rattle.answers.specs.declared.Walked.{Walked}
+use Rattle.answers.specs.declared.Walked.the-variants.{Broken, Clean, Cut}
 use Rattle.findings.specs.Findings.{isBroken}
 use Rattle.breaks.specs.declared.Choice.{Choice}
 use Rattle.breaks.specs.declared.Course.{Course}
@@ -36,16 +36,6 @@ use Rattle.breaks.specs.declared.Values.{Values}
 -- whether the trace of an entry breaks a claim: its state says
 abbrev pub judged : Scenario → Entry → Option definitions.Claim
 judged sc e = broken sc (e .1)
-
--- a break: its place in the list, the length of its trace in bytes, and the claim
-abbrev pub breakAs : ℕ → Entry → definitions.Claim → Break
-breakAs p e c = record { place = p; length = length (traceBytes (e .0)); run = c .run; event = c .event; kind = kindAs (c .kind) }
-
--- what a walk answers: the break, how many entries there are without one, or that the budget ended
-abbrev pub walkedAs : List Entry → Finding → Walked
-walkedAs es (found p e c) = Broken (breakAs p e c)
-walkedAs es nothing = Clean (length es)
-walkedAs es cut = Cut
 
 -- bytes written over others from a place on
 abbrev pub over : List ℕ → ℕ → List ℕ → List ℕ

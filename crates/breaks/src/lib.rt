@@ -5,7 +5,7 @@ ghost use Prim.Native.Nat.{_+_, _*_, _<_, _≤_};
 ghost use lib.ListN.{length, take};
 ghost use Rattle.semantics.specs.State.{Value};
 ghost use Rattle.breaks.specs.Walk.{over, ValuesAre, StepFits, stepBefore};
-use findings::Walked;
+use answers::Walked;
 use runs::RunEvent;
 use runs::Runs;
 

@@ -1,4 +1,3 @@
 -- Which claim a state breaks, as the code answers it, and the laws of that.
-pub mod Claims
 pub mod AtRun
 pub mod laws

@@ -15,28 +15,13 @@ ghost use Rattle.cells.specs.Cells.{cellCount};
 ghost use Rattle.runs.specs.Runs.{RunsAt};
 ghost use Rattle.state.specs.State.{Given, IsState};
 ghost use Rattle.claims.specs.AtRun.{AtRun, claimAt, eventBreaks};
-ghost use Rattle.claims.specs.Claims.{claimedAs};
+ghost use Rattle.answers.specs.Answers.{claimedAs};
+use answers::Claim;
+use answers::ClaimKind;
+use answers::Claimed;
 use cells::cell;
 use runs::Runs;
 use state::State;
-
-// The kind of a claim.
-pub enum ClaimKind {
-    Secrecy,
-}
-
-// A claim: its run, from 1, its event, from 0, and its kind.
-pub struct Claim {
-    pub run: usize,
-    pub event: usize,
-    pub kind: ClaimKind,
-}
-
-// The claim broken, or none.
-pub enum Claimed {
-    Broken(Claim),
-    Nothing,
-}
 
 // Whether event j of run k, both from 0, is a claim whose value is derivable. Past the last event there is none.
 fn claims_derivable(file: &[u8], r: Runs, marks: &[bool], k: usize, j: usize) -> bool

@@ -1,3 +1,3 @@
 -- What Derive's functions answer, in terms of the definitions.
-pub mod Answers
+pub mod Absent
 pub mod laws

@@ -7,15 +7,11 @@ ghost use Rattle.semantics.specs.Derive.{derived, derivableRow};
 ghost use Rattle.rows.specs.Rows.{rowsOf};
 ghost use Rattle.cells.specs.Cells.{Shape};
 ghost use Rattle.role_level.specs.RoleLevel.{ListedBelow};
-ghost use Rattle.derive.specs.Answers.{derivedAs, AbsentAt};
+ghost use Rattle.answers.specs.Answers.{derivedAs};
+ghost use Rattle.derive.specs.Absent.{AbsentAt};
+use answers::Derived;
+use answers::Refusal;
 use rows::Place;
-
-// What Derive answers.
-pub enum Derived {
-    Refused { number: usize, place: usize },
-    Derivable,
-    NotDerivable,
-}
 
 // Refusal 11: the place of the first listed row that is absent, or the list's length if the target is.
 fn absent_at(list: &[u8], n: usize, target: u64) -> Place
@@ -50,14 +46,14 @@ pub fn derive(t: &[u8], list: &[u8], target: u64) -> Derived
 {
     let judged = table::check(t, 0);
     match judged {
-        table::Judged::Refused { number, place } => Derived::Refused { number, place },
+        table::Judged::Refused(r) => Derived::Refused(r),
         table::Judged::Rows(n) => {
             let place = absent_at(list, n, target);
             match place {
-                Place::At(at) => Derived::Refused {
+                Place::At(at) => Derived::Refused(Refusal {
                     number: 11,
                     place: at,
-                },
+                }),
                 Place::Nowhere => {
                     if is_known(t, n, list, target as usize) {
                         Derived::Derivable

@@ -2,12 +2,12 @@
 use Prim.Native.Nat.{ℕ, zero, suc, _+_}
 use mathlib.Core.Bool.{Bool, true, false, not}
 use lib.Dec.{eqb, ltb}
-use Rattle.claims.specs.declared.Claim.{Claim}
-use Rattle.claims.specs.declared.Claimed.{Claimed}
-use Rattle.claims.specs.declared.Claimed.the-variants as claimed
-use Rattle.findings.specs.declared.Break.{Break}
-use Rattle.findings.specs.declared.Walked.{Walked}
-use Rattle.findings.specs.declared.Walked.the-variants.{Broken, Clean, Cut}
+use Rattle.answers.specs.declared.Claim.{Claim}
+use Rattle.answers.specs.declared.Claimed.{Claimed}
+use Rattle.answers.specs.declared.Claimed.the-variants as claimed
+use Rattle.answers.specs.declared.Break.{Break}
+use Rattle.answers.specs.declared.Walked.{Walked}
+use Rattle.answers.specs.declared.Walked.the-variants.{Broken, Clean, Cut}
 
 -- the break of the first trace of a list, which has no bytes
 abbrev pub ownBreak : Claim → Break

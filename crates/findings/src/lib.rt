@@ -2,25 +2,10 @@
 ghost use mathlib.Core.Path.{_≡_};
 ghost use Prim.Native.Nat.{_<_, _≤_};
 ghost use Rattle.findings.specs.Findings.{ownBreak, placedLater, madeLonger, ownAs, goesOn, knownAs, behindAs, afterStep, isClean, isBroken, countOf, sizeOf, lengthOf};
-use claims::Claim;
-use claims::ClaimKind;
-use claims::Claimed;
-
-// A break: its place in the list, the length of its trace in bytes, and the claim's run, event and kind.
-pub struct Break {
-    pub place: usize,
-    pub length: usize,
-    pub run: usize,
-    pub event: usize,
-    pub kind: ClaimKind,
-}
-
-// What a walk through a part of the list finds: a break, so many traces without one, or that the budget ended.
-pub enum Walked {
-    Broken(Break),
-    Clean(usize),
-    Cut,
-}
+use answers::Break;
+use answers::Claim;
+use answers::Claimed;
+use answers::Walked;
 
 // The break of the first trace of a list, which has no bytes.
 pub fn own_break(claim: Claim) -> Break

@@ -5,7 +5,10 @@ ghost use Prim.Native.Nat.{_+_, _<_, _≤_};
 ghost use lib.ListN.{length, take, drop};
 ghost use Rattle.semantics.specs.Frame.{blockLength, unversioned, tooLong, budgetOf, framed, misframed, blockFrom, block};
 ghost use Rattle.rows.specs.Rows.{placeAs};
-ghost use Rattle.frame.specs.Framing.{framingOf, framingAs, IsFramed};
+ghost use Rattle.answers.specs.Answers.{checkedAs};
+ghost use Rattle.frame.specs.Framing.{framingOf, IsFramed};
+use answers::Checked;
+use answers::Refusal;
 use rows::Place;
 
 // The limit of a file.
@@ -15,12 +18,6 @@ impl File {
     pub const MOST_BYTES: usize = 4096;
 
     pub const BLOCKS: usize = 4;
-}
-
-// What the check of a frame answers.
-pub enum Framing {
-    Refused { number: usize, place: usize },
-    Framed,
 }
 
 // The length of the block at the front, from its first two bytes.
@@ -102,28 +99,28 @@ fn misframed(file: &[u8]) -> Place
 }
 
 // Refusals 1 to 3, in this order.
-pub fn check(file: &[u8]) -> Framing
-    ensures { λ r. ⌜ r ≡ framingAs (framingOf (now (file .entry))) ⌝ }
+pub fn check(file: &[u8]) -> Checked
+    ensures { λ r. ⌜ r ≡ checkedAs (framingOf (now (file .entry))) ⌝ }
 {
     match unversioned(file) {
         Place::At(place) => {
-            return Framing::Refused { number: 1, place };
+            return Checked::Refused(Refusal { number: 1, place });
         }
         Place::Nowhere => {}
     }
     match too_long(file) {
         Place::At(place) => {
-            return Framing::Refused { number: 2, place };
+            return Checked::Refused(Refusal { number: 2, place });
         }
         Place::Nowhere => {}
     }
     match misframed(file) {
         Place::At(place) => {
-            return Framing::Refused { number: 3, place };
+            return Checked::Refused(Refusal { number: 3, place });
         }
         Place::Nowhere => {}
     }
-    Framing::Framed
+    Checked::Passed
 }
 
 // The budget: how many traces of the list may be judged.

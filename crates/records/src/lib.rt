@@ -15,9 +15,9 @@ use rows::Place;
 use table::Table;
 
 // The limits of a scenario, beside those of its table.
-pub struct Scenario {}
+pub struct Limits {}
 
-impl Scenario {
+impl Limits {
     pub const MOST_RUNS: usize = 4;
 
     pub const MOST_EVENTS: usize = 8;
@@ -110,7 +110,7 @@ fn good_role(s: &[u8], n: usize, clear: &[bool], roles: usize, i: usize) -> bool
     if Table::MOST_ROLES <= i {
         return false;
     }
-    if Scenario::MOST_EVENTS < rows::wide(s[1 + rows::wide(s[0])]) {
+    if Limits::MOST_EVENTS < rows::wide(s[1 + rows::wide(s[0])]) {
         return false;
     }
     if !knowledge_fits(s, n, clear) {
@@ -190,7 +190,7 @@ fn good_run(s: &[u8], t: &[u8], n: usize, roles: usize, i: usize) -> bool
     if s.len() < 1 + roles {
         return false;
     }
-    if Scenario::MOST_RUNS <= i {
+    if Limits::MOST_RUNS <= i {
         return false;
     }
     if roles <= rows::wide(s[0]) {

@@ -1,27 +1,19 @@
 // Replay: a trace followed step by step; refused as Open, refused with 12 at a step, the claim broken, or none.
 ghost use mathlib.Core.Path.{_≡_};
-ghost use Rattle.semantics.specs.Answer.{accepted};
-ghost use Rattle.semantics.specs.Scenario.{Scenario, opened};
 ghost use Rattle.semantics.specs.Replay.{replayed};
-ghost use Rattle.scenario.specs.Opened.{layoutOf};
-ghost use Rattle.replay.specs.Replay.{followedOf, replayedAs};
-use claims::Claim;
-use claims::Claimed;
-use scenario::Layout;
-use scenario::Opened;
+ghost use Rattle.answers.specs.Answers.{scenarioIn, Accepts, replayedAs};
+ghost use Rattle.replay.specs.Replay.{followedOf};
+use answers::Claimed;
+use answers::Layout;
+use answers::Opened;
+use answers::Refusal;
+use answers::Replayed;
 use state::State;
-
-// What Replay answers.
-pub enum Replayed {
-    Refused { number: usize, place: usize },
-    Broken(Claim),
-    NoClaim,
-}
 
 // A trace followed through an accepted file: refused with 12 at a step, the claim broken, or none.
 fn followed(file: &[u8], l: Layout, trace: &[u8]) -> Replayed
-    requires { ⌜ ((sc : Scenario) × (opened (now file) ≡ accepted sc) × (l ≡ layoutOf (now file) sc)) ⌝ }
-    ensures { λ r. ⌜ ((sc : Scenario) → opened (now (file .entry)) ≡ accepted sc → l ≡ layoutOf (now (file .entry)) sc → r ≡ replayedAs (followedOf sc (now (trace .entry)))) ⌝ }
+    requires { ⌜ Accepts (now file) l ⌝ }
+    ensures { λ r. ⌜ r ≡ replayedAs (followedOf (scenarioIn (now (file .entry))) (now (trace .entry))) ⌝ }
 {
     let r = runs::runs_of(file, l);
     let n = l.terms.count;
@@ -31,10 +23,10 @@ fn followed(file: &[u8], l: Layout, trace: &[u8]) -> Replayed
     while at < trace.len() {
         let stepped = steps::step(file, t, n, r, s, &trace[at..]);
         if !stepped.allowed {
-            return Replayed::Refused {
+            return Replayed::Refused(Refusal {
                 number: 12,
                 place: at,
-            };
+            });
         }
         let after = stepped.state;
         s = after;
@@ -55,7 +47,7 @@ pub fn replay(file: &[u8], trace: &[u8]) -> Replayed
 {
     let opened = scenario::open(file);
     match opened {
-        Opened::Refused { number, place } => Replayed::Refused { number, place },
+        Opened::Refused(r) => Replayed::Refused(r),
         Opened::Accepted(layout) => followed(file, layout, trace),
     }
 }

@@ -13,9 +13,9 @@ ghost use Rattle.semantics.specs.Scenario.{Scenario, opened};
 ghost use Rattle.semantics.specs.State.{eventsOf};
 ghost use Rattle.rows.specs.Rows.{rowsOf, Sized};
 ghost use Rattle.records.specs.Records.{partAt, recordAt};
-ghost use Rattle.scenario.specs.Opened.{layoutOf};
+ghost use Rattle.answers.specs.Answers.{layoutOf};
 ghost use Rattle.runs.specs.Runs.{RunAt, RunsAt, EventRead, IsRun, AgentsAt};
-use scenario::Layout;
+use answers::Layout;
 
 // Where the runs stand: how many, how many agents each names; for each the offset of its record, that of its role's first event, and how many events it has.
 pub struct Runs {

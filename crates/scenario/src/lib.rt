@@ -10,29 +10,14 @@ ghost use Rattle.rows.specs.Rows.{rowsOf, placeAs};
 ghost use Rattle.cells.specs.Cells.{Shape};
 ghost use Rattle.frame.specs.Framing.{IsFramed};
 ghost use Rattle.records.specs.Records.{partAt};
-ghost use Rattle.scenario.specs.Opened.{layoutOf, openedAs, rolesRefusal, judgedRuns, judgedRows};
+ghost use Rattle.answers.specs.Answers.{layoutOf, openedAs};
+ghost use Rattle.scenario.specs.Opened.{rolesRefusal, judgedRuns, judgedRows};
+use answers::Block;
+use answers::Checked;
+use answers::Layout;
+use answers::Opened;
+use answers::Refusal;
 use rows::Place;
-
-// A block of an accepted file: where its bytes begin, and how many rows, roles, runs or knowledge rows it has.
-pub struct Block {
-    pub start: usize,
-    pub count: usize,
-}
-
-// Where the parts of an accepted file stand.
-pub struct Layout {
-    pub budget: usize,
-    pub terms: Block,
-    pub roles: Block,
-    pub runs: Block,
-    pub knowledge: Block,
-}
-
-// What Open answers.
-pub enum Opened {
-    Refused { number: usize, place: usize },
-    Accepted(Layout),
-}
 
 // How many run records begin in a block.
 fn run_count(b: &[u8], roles: usize) -> usize
@@ -106,17 +91,17 @@ fn judged_runs(file: &[u8], n: usize) -> Opened
     let knowledge = frame::block_of(file, 3);
     let place = records::bad_run(runs, frame::start_of(file, 2), terms, n, roles);
     match place {
-        Place::At(at) => Opened::Refused {
+        Place::At(at) => Opened::Refused(Refusal {
             number: 8,
             place: at,
-        },
+        }),
         Place::Nowhere => {
             let place = lists::bad_knowledge(knowledge, frame::start_of(file, 3), terms, n);
             match place {
-                Place::At(at) => Opened::Refused {
+                Place::At(at) => Opened::Refused(Refusal {
                     number: 9,
                     place: at,
-                },
+                }),
                 Place::Nowhere => Opened::Accepted(parts_of(file, n, roles)),
             }
         }
@@ -130,19 +115,19 @@ fn judged(file: &[u8], n: usize) -> Opened
 {
     let place = judged_roles(file, n);
     match place {
-        Place::At(at) => Opened::Refused {
+        Place::At(at) => Opened::Refused(Refusal {
             number: 6,
             place: at,
-        },
+        }),
         Place::Nowhere => {
             let terms = frame::block_of(file, 0);
             let roles = frame::block_of(file, 1);
             let place = wellformed::ill_formed(roles, frame::start_of(file, 1), terms, n);
             match place {
-                Place::At(at) => Opened::Refused {
+                Place::At(at) => Opened::Refused(Refusal {
                     number: 7,
                     place: at,
-                },
+                }),
                 Place::Nowhere => judged_runs(file, n),
             }
         }
@@ -155,12 +140,12 @@ pub fn open(file: &[u8]) -> Opened
 {
     let framing = frame::check(file);
     match framing {
-        frame::Framing::Refused { number, place } => Opened::Refused { number, place },
-        frame::Framing::Framed => {
+        Checked::Refused(r) => Opened::Refused(r),
+        Checked::Passed => {
             let terms = frame::block_of(file, 0);
             let table = table::check(terms, frame::start_of(file, 0));
             match table {
-                table::Judged::Refused { number, place } => Opened::Refused { number, place },
+                table::Judged::Refused(r) => Opened::Refused(r),
                 table::Judged::Rows(n) => judged(file, n),
             }
         }

@@ -1,3 +1,2 @@
--- Search as the code answers it, and the laws of that.
-pub mod Search
+-- The laws of Search as the code answers it.
 pub mod laws

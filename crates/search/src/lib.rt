@@ -9,34 +9,19 @@ ghost use Rattle.semantics.specs.State.{initial, eventsLeft};
 ghost use Rattle.semantics.specs.Moves.{full, movesIn};
 ghost use Rattle.semantics.specs.Tree.{listed};
 ghost use Rattle.semantics.specs.Verdict.{verdict, searched, written, bufferAfter};
-ghost use Rattle.scenario.specs.Opened.{layoutOf};
+ghost use Rattle.answers.specs.Answers.{layoutOf, scenarioIn, Accepts, verdictAs, searchedAs};
 ghost use Rattle.breaks.specs.Walk.{Finds};
-ghost use Rattle.search.specs.Search.{verdictAs, searchedAs};
+use answers::Checked;
+use answers::Layout;
+use answers::Opened;
+use answers::Verdict;
+use answers::Walked;
 use breaks::Course;
 use breaks::Plan;
 use breaks::Reach;
-use findings::Break;
-use findings::Walked;
 use memory::Memory;
 use runs::Runs;
-use scenario::Layout;
-use scenario::Opened;
 use state::State;
-
-// The limit of a trace.
-pub struct Trace {}
-
-impl Trace {
-    pub const MOST_BYTES: usize = 128;
-}
-
-// What Search answers: a break, the list's length, or the budget.
-pub enum Searched {
-    Refused { number: usize, place: usize },
-    Broken(Break),
-    Held(usize),
-    Stopped(usize),
-}
 
 // How many events the runs have together.
 fn event_count(r: Runs) -> usize
@@ -90,38 +75,33 @@ fn walk_all(trace: &mut [u8], file: &[u8], l: Layout, left: usize) -> Walked
 }
 
 // The verdict on an accepted file. Without a budget no memory is cleared.
-fn judged(file: &[u8], l: Layout, trace: &mut [u8]) -> Searched
-    requires { ⌜ ((sc : Scenario) × (opened (now file) ≡ accepted sc) × (l ≡ layoutOf (now file) sc)) × (128 ≤ length (now trace)) ⌝ }
-    ensures { λ r. ⌜ ((sc : Scenario) → opened (now (file .entry)) ≡ accepted sc → l ≡ layoutOf (now (file .entry)) sc → (r ≡ verdictAs (verdict full sc)) × (now (trace .exit) ≡ written (now (trace .entry)) (accepted (verdict full sc)))) ⌝ }
+fn judged(file: &[u8], l: Layout, trace: &mut [u8]) -> Verdict
+    requires { ⌜ Accepts (now file) l × (128 ≤ length (now trace)) ⌝ }
+    ensures { λ r. ⌜ r ≡ verdictAs (verdict full (scenarioIn (now (file .entry)))) ⌝ }
+    ensures { λ r. ⌜ now (trace .exit) ≡ written (now (trace .entry)) (accepted (verdict full (scenarioIn (now (file .entry))))) ⌝ }
 {
     let budget = frame::budget(file);
     if budget == 0 {
-        return Searched::Stopped(0);
+        return answers::verdict_of(Walked::Cut, budget);
     }
     let walked = walk_all(trace, file, l, budget);
-    match walked {
-        Walked::Broken(b) => Searched::Broken(b),
-        Walked::Clean(m) => Searched::Held(m),
-        Walked::Cut => Searched::Stopped(budget),
-    }
+    answers::verdict_of(walked, budget)
 }
 
 // "Search refuses as Open, then 10 if the trace buffer is shorter than 128 bytes, place its length."
-pub fn search(file: &[u8], trace: &mut [u8]) -> Searched
+pub fn search(file: &[u8], trace: &mut [u8]) -> Verdict
     ensures { λ r. ⌜ r ≡ searchedAs (searched (now (file .entry)) (now (trace .entry))) ⌝ }
     ensures { λ r. ⌜ now (trace .exit) ≡ bufferAfter (now (file .entry)) (now (trace .entry)) ⌝ }
 {
     let opened = scenario::open(file);
     match opened {
-        Opened::Refused { number, place } => Searched::Refused { number, place },
+        Opened::Refused(r) => Verdict::Refused(r),
         Opened::Accepted(layout) => {
-            if trace.len() < Trace::MOST_BYTES {
-                return Searched::Refused {
-                    number: 10,
-                    place: trace.len(),
-                };
+            let checked = answers::check_buffer(&trace[..]);
+            match checked {
+                Checked::Refused(r) => Verdict::Refused(r),
+                Checked::Passed => judged(file, layout, trace),
             }
-            judged(file, layout, trace)
         }
     }
 }

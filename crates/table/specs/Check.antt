@@ -8,12 +8,13 @@ use lib.Dec.{eqb}
 use lib.ListN.{length, take, getD, getElem?}
 use Rattle.semantics.specs.Answer.{Answer, refused, accepted}
 use Rattle.semantics.specs.Table.{Row, decode, rowsFrom, fits, repeated}
+use Rattle.answers.specs.Answers.{refusalAs}
 use Rattle.table.specs.declared.Judged.{Judged}
 use Rattle.table.specs.declared.Judged.the-variants.{Refused, Rows}
 
 -- the answer of a table's check: 4 or 5 with its place, or how many rows there are
 abbrev pub judgedAs : Answer (List Row) → Judged
-judgedAs (refused r) = Refused (r .number) (r .place)
+judgedAs (refused r) = Refused (refusalAs r)
 judgedAs (accepted rows) = Rows (length rows)
 
 -- whether a decoded row fits the rows below it; bytes that are no row do not

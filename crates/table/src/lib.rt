@@ -7,6 +7,7 @@ ghost use Rattle.semantics.specs.Basic.{keep};
 ghost use Rattle.semantics.specs.Table.{rowsFrom, agentLike, noPair, variableRow, rowRefusal};
 ghost use Rattle.rows.specs.Rows.{IsTable, decodedAt, rowsOf};
 ghost use Rattle.table.specs.Check.{fitsDecoded, repeatsDecoded, sameBytes, numberOr, judgedAs};
+use answers::Refusal;
 
 // The limits of a table.
 pub struct Table {}
@@ -21,7 +22,7 @@ impl Table {
 
 // What a table's check answers.
 pub enum Judged {
-    Refused { number: usize, place: usize },
+    Refused(Refusal),
     Rows(usize),
 }
 
@@ -170,11 +171,11 @@ pub fn check(t: &[u8], at: usize) -> Judged
             return Judged::Rows(i);
         }
         if t.len() - start < 3 {
-            return Judged::Refused { number: 4, place };
+            return Judged::Refused(Refusal { number: 4, place });
         }
         let number = row_refusal(t, i, variables);
         if number != 0 {
-            return Judged::Refused { number, place };
+            return Judged::Refused(Refusal { number, place });
         }
         variables = with_variable(t, i, variables);
         i += 1;

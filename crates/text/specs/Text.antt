@@ -1,5 +1,5 @@
 -- The text that the programs print: the verdict on a file, and the limits (document 01, 'Scenarios worked out', 'Operations'). Assumes nothing.
-use Prim.Native.Nat.{ℕ, zero, suc, _+_, _/_, _%_}
+use Prim.Native.Nat.{ℕ, zero, suc, _+_, _/_, _%_, _≤_}
 use Prim.Native.Char.{code}
 use Prim.Native.String as strings
 use Prim.Native.String.{String}
@@ -13,7 +13,9 @@ use Rattle.semantics.specs.Limits.{mostRows, mostVariables, mostRoles, mostRuns
 use Rattle.semantics.specs.Answer.{Answer, refused, accepted}
 use Rattle.semantics.specs.State.{Value}
 use Rattle.semantics.specs.Moves.{Move}
-use Rattle.semantics.specs.Verdict.{Verdict, brokenAt, held, stopped}
+use Rattle.semantics.specs.Verdict.{Verdict, brokenAt, held, stopped, written}
+use Rattle.answers.specs.Answers.{searchedAs}
+use Rattle.answers.specs.declared.Verdict.{Verdict as CodeVerdict}
 use Rattle.text.specs.declared.Text.{Text}
 
 -- the bytes of a word, whose letters have one byte each
@@ -77,3 +79,10 @@ pub record Holds (t : Text) (bytes : List ℕ) : Type 0 where
 pub record Adds (t : Text) (bytes : List ℕ) (more : Text) : Type 0 where
   pub size : more .len ≡ t .len + length bytes
   pub same : take (more .len) (more .bytes) ≡ take (t .len) (t .bytes) ++ bytes
+
+-- an answer of Search, and the buffer that it left
+pub record Shown (a : Answer Verdict) (answer : CodeVerdict) (after : List ℕ) : Type 0 where
+  pub isAnswer : answer ≡ searchedAs a
+  pub buffer : List ℕ
+  pub isWritten : after ≡ written buffer a
+  pub small : length after ≤ 128

@@ -1,19 +1,22 @@
-// What the programs print, as bytes: the verdict on a scenario file, and the limits.
+// What the programs print, as bytes: Search's answer with its trace, and the limits.
 ghost use mathlib.Core.Path.{_≡_};
 ghost use mathlib.Core.List.{List, [], _∷_, _++_};
-ghost use Prim.Native.Nat.{ℕ, _+_, _*_, _<_, _≤_};
+ghost use Prim.Native.Nat.{_+_, _*_, _<_, _≤_};
 ghost use lib.ListN.{length};
 ghost use Rattle.semantics.specs.Basic.{joined};
+ghost use Rattle.semantics.specs.Answer.{Answer};
 ghost use Rattle.semantics.specs.State.{Value};
 ghost use Rattle.semantics.specs.Moves.{Move};
-ghost use Rattle.semantics.specs.Verdict.{valueBytes, traceBytes, searched};
-ghost use Rattle.text.specs.Text.{decimal, valueText, lineText, stepText, refusedText, brokenText, verdictText, limitsText, Holds, Adds};
-use findings::Break;
+ghost use Rattle.semantics.specs.Verdict as verdicts;
+ghost use Rattle.semantics.specs.Verdict.{valueBytes, traceBytes};
+ghost use Rattle.text.specs.Text.{decimal, valueText, lineText, stepText, refusedText, brokenText, verdictText, limitsText, Holds, Adds, Shown};
+use answers::Break;
+use answers::Refusal;
+use answers::Trace;
+use answers::Verdict;
 use frame::File;
-use records::Scenario;
+use records::Limits;
 use rows::wide;
-use search::Searched;
-use search::Trace;
 use table::Table;
 
 // Bytes, of which the first are the text.
@@ -89,7 +92,8 @@ fn put_line(t: Text, n: usize) -> Text
 // A text with the new values of a step more, each as row.run.
 fn put_values(t: Text, values: &[u8]) -> Text
     requires { ⌜ t .len + 4 * length (now values) ≤ 1000 ⌝ }
-    ensures { λ more. ⌜ (more .len ≤ t .len + 4 * length (now (values .entry))) × ((vs : List Value) → now (values .entry) ≡ valueBytes vs → Adds t (joined valueText vs) more) ⌝ }
+    ensures { λ more. ⌜ more .len ≤ t .len + 4 * length (now (values .entry)) ⌝ }
+    ensures { λ more. ⌜ ((vs : List Value) → now (values .entry) ≡ valueBytes vs → Adds t (joined valueText vs) more) ⌝ }
 {
     if values.len() < 2 {
         return t;
@@ -102,7 +106,8 @@ fn put_values(t: Text, values: &[u8]) -> Text
 // A text with a step more: a run and its new values, on a line.
 fn put_step(t: Text, run: usize, values: &[u8]) -> Text
     requires { ⌜ (run < 256) × (t .len + 9 + 4 * length (now values) ≤ 1000) ⌝ }
-    ensures { λ more. ⌜ (more .len ≤ t .len + 9 + 4 * length (now (values .entry))) × ((m : Move) → run ≡ m .run → now (values .entry) ≡ valueBytes (m .values) → Adds t (stepText m) more) ⌝ }
+    ensures { λ more. ⌜ more .len ≤ t .len + 9 + 4 * length (now (values .entry)) ⌝ }
+    ensures { λ more. ⌜ ((m : Move) → run ≡ m .run → now (values .entry) ≡ valueBytes (m .values) → Adds t (stepText m) more) ⌝ }
 {
     push(put_values(put_with(t, b"STEP ", run), values), b'\n')
 }
@@ -121,10 +126,10 @@ fn put_steps(t: Text, trace: &[u8]) -> Text
 }
 
 // The text of a refusal.
-fn refused(number: usize, place: usize) -> Text
-    ensures { λ t. ⌜ Holds t (refusedText number place) ⌝ }
+fn refused(r: Refusal) -> Text
+    ensures { λ t. ⌜ Holds t (refusedText (r .number) (r .place)) ⌝ }
 {
-    put_line(put(put_with(empty(), b"REFUSED ", number), b" "), place)
+    put_line(put(put_with(empty(), b"REFUSED ", r.number), b" "), r.place)
 }
 
 // The text of a break, with its trace.
@@ -137,20 +142,19 @@ fn broken(b: Break, trace: &[u8]) -> Text
     put_steps(push(put_with(run, b" EVENT ", b.event), b'\n'), trace)
 }
 
-// The text of the verdict on a scenario file.
-pub fn verdict_text(file: &[u8]) -> Text
-    ensures { λ t. ⌜ ((buffer : List ℕ) → 128 ≤ length buffer → Holds t (verdictText (searched (now (file .entry)) buffer))) ⌝ }
+// The text of Search's answer, whose trace, if it is BROKEN, stands at the front of a buffer.
+pub fn answer_text(answer: Verdict, trace: &[u8]) -> Text
+    requires { ⌜ ((a : Answer verdicts.Verdict) × Shown a answer (now trace)) ⌝ }
+    ensures { λ t. ⌜ ((a : Answer verdicts.Verdict) → Shown a answer (now (trace .entry)) → Holds t (verdictText a)) ⌝ }
 {
-    let mut trace = [0; 128];
-    let answer = search::search(file, &mut trace);
     match answer {
-        Searched::Refused { number, place } => refused(number, place),
-        Searched::Broken(b) => {
+        Verdict::Refused(r) => refused(r),
+        Verdict::Broken(b) => {
             let end = b.length;
             broken(b, &trace[..end])
         }
-        Searched::Held(n) => put_line(put(empty(), b"HELD "), n),
-        Searched::Stopped(n) => put_line(put(empty(), b"STOPPED "), n),
+        Verdict::Held(n) => put_line(put(empty(), b"HELD "), n),
+        Verdict::Stopped(n) => put_line(put(empty(), b"STOPPED "), n),
     }
 }
 
@@ -161,8 +165,8 @@ pub fn limits_text() -> Text
     let rows = put_line(empty(), Table::MOST_ROWS);
     let variables = put_line(rows, Table::MOST_VARIABLES);
     let roles = put_line(variables, Table::MOST_ROLES);
-    let runs = put_line(roles, Scenario::MOST_RUNS);
-    let events = put_line(runs, Scenario::MOST_EVENTS);
+    let runs = put_line(roles, Limits::MOST_RUNS);
+    let events = put_line(runs, Limits::MOST_EVENTS);
     let file = put_line(events, File::MOST_BYTES);
     put_line(file, Trace::MOST_BYTES)
 }

@@ -12,7 +12,7 @@ fn main() {
             return;
         }
     }
-    let text = text::verdict_text(&file[..n]);
+    let text = report::verdict_text(&file[..n]);
     let bytes = text.bytes;
     let len = text.len;
     io::write_all(1, &bytes[..len]);

@@ -2,12 +2,12 @@
 ghost use Prim.Native.Nat.{_<_};
 ghost use Rattle.breaks.specs.Walk.{stateOf, SomeState, SomeClear, SomeChoice, SomeGrown, SomeMove, SomeStep, FindsFrom, FindsRun, FindsChoice, FindsGrown, FindsMove, FindsStep};
 ghost use Rattle.same.specs.Memory.{Remembers, Room};
+use answers::Walked;
 use breaks::Choice;
 use breaks::Course;
 use breaks::Plan;
 use breaks::Reach;
 use breaks::Turn;
-use findings::Walked;
 use variables::NextValue;
 
 // Walks through the traces from a state on. How far the runs have come and the marks go by value; names and classes, which only a read changes, are lent. The

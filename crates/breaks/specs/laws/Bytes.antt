@@ -10,8 +10,8 @@ use lib.Seq.{take-suc, take-suc-set, take-set-le, drop-cons, length-take-le, set
 use Rattle.semantics.specs.State.{Value}
 use Rattle.semantics.specs.Verdict.{valueBytes}
 use Rattle.breaks.specs.declared.Values.{Values}
-use Rattle.findings.specs.declared.Walked.{Walked}
-use Rattle.findings.specs.declared.Walked.the-variants.{Broken, Clean, Cut}
+use Rattle.answers.specs.declared.Walked.{Walked}
+use Rattle.answers.specs.declared.Walked.the-variants.{Broken, Clean, Cut}
 use Rattle.findings.specs.Findings.{isBroken}
 use Rattle.breaks.specs.declared.Turn.{Turn}
 use Rattle.breaks.specs.Walk.{over, ValuesAre, stepBytes, stepBefore}

@@ -36,8 +36,8 @@ use Rattle.values.specs.laws.Values.{setting-more}
 use Rattle.values.specs.laws.Arrays.{part-more, part-ready}
 use Rattle.values.specs.laws.Next.{no-more, Another, another}
 use Rattle.breaks.specs.declared.Values.{Values}
-use Rattle.findings.specs.declared.Walked.{Walked}
-use Rattle.findings.specs.declared.Walked.the-variants.{Broken, Clean, Cut}
+use Rattle.answers.specs.declared.Walked.{Walked}
+use Rattle.answers.specs.declared.Walked.the-variants.{Broken, Clean, Cut}
 use Rattle.findings.specs.Findings.{behindAs, isClean, countOf, sizeOf}
 use Rattle.breaks.specs.declared.Choice.{Choice}
 use Rattle.breaks.specs.declared.Course.{Course}

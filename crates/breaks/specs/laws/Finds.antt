@@ -9,11 +9,12 @@ use Rattle.semantics.specs.State.{Claim}
 use Rattle.semantics.specs.Scenario.{Scenario}
 use Rattle.semantics.specs.Verdict.{Entry, Finding, found, nothing, cut, later, walked}
 use mathlib.Core.Bool.{Bool, true, false, true≢false}
-use Rattle.findings.specs.declared.Break.{Break}
-use Rattle.findings.specs.declared.Walked.{Walked}
-use Rattle.findings.specs.declared.Walked.the-variants.{Broken, Clean, Cut}
+use Rattle.answers.specs.declared.Break.{Break}
+use Rattle.answers.specs.declared.Walked.{Walked}
+use Rattle.answers.specs.declared.Walked.the-variants.{Broken, Clean, Cut}
 use Rattle.findings.specs.Findings.{placedLater, behindAs, isClean, countOf, sizeOf}
-use Rattle.breaks.specs.Walk.{judged, breakAs, walkedAs, bufferAs, Finds}
+use Rattle.answers.specs.Answers.{breakAs, walkedAs}
+use Rattle.breaks.specs.Walk.{judged, bufferAs, Finds}
 use Rattle.breaks.specs.laws.Walked.{laterBy, continued, walked-append, nothing-within, found-within}
 
 -- what a walk answered, the other way round
@@ -42,7 +43,7 @@ break-of d (Broken b) = b
 break-of d (Clean m) = d
 break-of d Cut = d
 
-pub answer-broken : (es : List Entry) (f : Finding) {b : Break} → Broken b ≡ walkedAs es f → (p : ℕ) × (e : Entry) × (c : Claim) × (f ≡ found p e c) × (b ≡ breakAs p e c)
+pub answer-broken : (es : List Entry) (f : Finding) {b : Break} → Broken b ≡ walkedAs es f → (p : ℕ) × (e : Entry) × (c : Claim) × (f ≡ found p e c) × (b ≡ breakAs p (e .0) c)
 answer-broken es (found p e c) {b} q = (p, e, c, refl, ap (break-of b) q)
 answer-broken es nothing q = let z : _≡_ {A = ℕ} 0 1 = ap which q in absurd (omega arith)
 answer-broken es cut q = let z : _≡_ {A = ℕ} 0 2 = ap which q in absurd (omega arith)

@@ -26,16 +26,16 @@ use Rattle.state.specs.declared.State.{State as CodeState}
 use Rattle.state.specs.declared.Moved.{Moved}
 use Rattle.cells.specs.Cells.{Shape}
 use Rattle.state.specs.State.{Due, IsState, NextMove, Ready, Performed, isAllowed, notAllowed}
-use Rattle.claims.specs.Claims.{kindAs}
-use Rattle.findings.specs.declared.Break.{Break}
-use Rattle.findings.specs.declared.Walked.{Walked}
-use Rattle.findings.specs.declared.Walked.the-variants.{Broken, Clean, Cut}
+use Rattle.answers.specs.Answers.{kindAs, breakAs, walkedAs}
+use Rattle.answers.specs.declared.Break.{Break}
+use Rattle.answers.specs.declared.Walked.{Walked}
+use Rattle.answers.specs.declared.Walked.the-variants.{Broken, Clean, Cut}
 use Rattle.findings.specs.Findings.{madeLonger, afterStep, isBroken, lengthOf}
 use Rattle.breaks.specs.declared.Course.{Course}
 use Rattle.breaks.specs.declared.Plan.{Plan}
 use Rattle.breaks.specs.declared.Reach.{Reach}
 use Rattle.breaks.specs.declared.Turn.{Turn}
-use Rattle.breaks.specs.Walk.{stateOf, judged, breakAs, walkedAs, over, bufferAs, Finds, nextIn, entriesFrom, afterMove, below, branches, stepBytes, stepSize, stepBefore, StepFits, Here, SomeState, SomeMove, SomeStep, moveBranches, FindsFrom, FindsAfter, FindsStep}
+use Rattle.breaks.specs.Walk.{stateOf, judged, over, bufferAs, Finds, nextIn, entriesFrom, afterMove, below, branches, stepBytes, stepSize, stepBefore, StepFits, Here, SomeState, SomeMove, SomeStep, moveBranches, FindsFrom, FindsAfter, FindsStep}
 use Rattle.breaks.specs.laws.Walked.{changed, walked-map, found-within}
 use Rattle.breaks.specs.laws.Finds.{answer-clean, answer-cut, answer-broken}
 use Rattle.breaks.specs.laws.Entries.{next-step, branches-allowed, branches-refused}
@@ -194,7 +194,7 @@ module _ {file t : List ℕ} {plan : Plan} {course : Course} {names classes : Li
       pub entry : Entry
       pub claim : Claim
       pub isFound : walked (judged sc) (reach .left) after ≡ found place entry claim
-      pub isBreak : x ≡ breakAs place entry claim
+      pub isBreak : x ≡ breakAs place (entry .0) claim
       pub fits : reach .at + stepSize turn + length (traceBytes (entry .0)) ≤ mostTraceBytes
       pub written : b′ ≡ over b (reach .at + stepSize turn) (traceBytes (entry .0))
 

@@ -26,8 +26,8 @@ use Rattle.values.specs.laws.Values.{setting-none, setting-all}
 use Rattle.values.specs.laws.Next.{nothing-set}
 use Rattle.values.specs.laws.Arrays.{part-none}
 use Rattle.breaks.specs.declared.Values.{Values}
-use Rattle.findings.specs.declared.Walked.{Walked}
-use Rattle.findings.specs.declared.Walked.the-variants.{Clean}
+use Rattle.answers.specs.declared.Walked.{Walked}
+use Rattle.answers.specs.declared.Walked.the-variants.{Clean}
 use Rattle.breaks.specs.declared.Choice.{Choice}
 use Rattle.breaks.specs.declared.Course.{Course}
 use Rattle.breaks.specs.declared.Plan.{Plan}

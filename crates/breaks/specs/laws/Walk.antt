@@ -16,13 +16,13 @@ use Rattle.semantics.specs.Tree.{listed}
 use Rattle.semantics.specs.Verdict.{Entry, Finding, found, nothing, cut, later, walked, broken, traceBytes}
 use Rattle.semantics.specs.State as states
 use Rattle.semantics.specs.laws.Tree.{listed-zero, listed-suc}
-use Rattle.claims.specs.Claims.{claimAs, claimedAs}
-use Rattle.claims.specs.declared.Claimed.{Claimed}
-use Rattle.findings.specs.declared.Walked.{Walked}
-use Rattle.findings.specs.declared.Walked.the-variants.{Broken, Clean, Cut}
+use Rattle.answers.specs.Answers.{claimAs, claimedAs, walkedAs}
+use Rattle.answers.specs.declared.Claimed.{Claimed}
+use Rattle.answers.specs.declared.Walked.{Walked}
+use Rattle.answers.specs.declared.Walked.the-variants.{Broken, Clean, Cut}
 use Rattle.findings.specs.Findings.{ownBreak, ownAs, goesOn, countOf}
 use Rattle.breaks.specs.declared.Plan.{Plan}
-use Rattle.breaks.specs.Walk.{judged, walkedAs, bufferAs, Finds, nextIn, entriesFrom, below, ofRun}
+use Rattle.breaks.specs.Walk.{judged, bufferAs, Finds, nextIn, entriesFrom, below, ofRun}
 use Rattle.breaks.specs.laws.Entries.{entries-of, runsFrom, runs-all, runs-next, runs-end}
 use Rattle.breaks.specs.laws.Finds.{Passed, passed-one, passed-all}
 use Rattle.breaks.specs.laws.Bytes.{over-none}

@@ -21,9 +21,9 @@ use Rattle.rows.specs.Rows.{Sized}
 use Rattle.cells.specs.Cells.{Shape}
 use Rattle.runs.specs.declared.Runs.{Runs}
 use Rattle.claims.specs.AtRun.{AtRun, claimAt, eventBreaks}
-use Rattle.claims.specs.Claims.{claimedAs}
-use Rattle.claims.specs.declared.ClaimKind.the-variants.{Secrecy}
-use Rattle.claims.specs.declared.Claimed.the-variants.{Broken, Nothing}
+use Rattle.answers.specs.Answers.{claimedAs}
+use Rattle.answers.specs.declared.ClaimKind.the-variants.{Secrecy}
+use Rattle.answers.specs.declared.Claimed.the-variants.{Broken, Nothing}
 use Rattle.claims.specs.laws.First.{first-found, first-none}
 use Rattle.claims.specs.laws.Event.{andThen-none}
 

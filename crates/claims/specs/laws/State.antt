@@ -21,10 +21,10 @@ use Rattle.state.specs.declared.State.{State as CodeState}
 use Rattle.state.specs.Readings.{setsOf, readings}
 use Rattle.state.specs.State.{Given, IsState}
 use Rattle.claims.specs.AtRun.{AtRun}
-use Rattle.claims.specs.Claims.{claimedAs}
-use Rattle.claims.specs.declared.Claim.{Claim}
-use Rattle.claims.specs.declared.Claimed.{Claimed}
-use Rattle.claims.specs.declared.Claimed.the-variants.{Broken, Nothing}
+use Rattle.answers.specs.Answers.{claimedAs}
+use Rattle.answers.specs.declared.Claim.{Claim}
+use Rattle.answers.specs.declared.Claimed.{Claimed}
+use Rattle.answers.specs.declared.Claimed.the-variants.{Broken, Nothing}
 use Rattle.claims.specs.laws.First.{first-found, first-none}
 
 -- what a state's marks and positions say

@@ -21,14 +21,16 @@ use Rattle.table.specs.laws.Table.{judged-sized, judged-refused, table-accepted
 use Rattle.cells.specs.Cells.{Shape}
 use Rattle.cells.specs.laws.Shape.{sized-shape}
 use Rattle.role_level.specs.RoleLevel.{ListedBelow}
-use Rattle.derive.specs.Answers.{derivedAs, AbsentAt}
-use Rattle.derive.specs.declared.Derived.the-variants.{Refused}
+use Rattle.answers.specs.Answers.{numbered, derivedAs}
+use Rattle.answers.specs.declared.Refusal.{Refusal}
+use Rattle.answers.specs.declared.Derived.the-variants.{Refused}
+use Rattle.derive.specs.Absent.{AbsentAt}
 
 module _ (table list : List ℕ) (target : ℕ) {j : Judged} (check : j ≡ judgedAs (rowsFrom 0 [] table)) where
   -- a refused table
-  pub derive-refused : {number place : ℕ} → j ≡ judged.Refused number place → Refused number place ≡ derivedAs (derived table list target)
+  pub derive-refused : {x : Refusal} → j ≡ judged.Refused x → Refused x ≡ derivedAs (derived table list target)
   unfolding derived
-  derive-refused {number} {place} e = rw (judged-refused (rowsFrom 0 [] table) number place (sym check ∙ e)) refl
+  derive-refused {x} e = rw (judged-refused (rowsFrom 0 [] table) x (sym check ∙ e)) refl
 
   module _ {n : ℕ} (rows : j ≡ judged.Rows n) where
     -- an accepted one
@@ -40,7 +42,7 @@ module _ (table list : List ℕ) (target : ℕ) {j : Judged} (check : j ≡ judg
       found = absent (rowsOf table) (derive-shape .count)
 
       -- an absent row
-      pub derive-absent : {at : ℕ} → p ≡ At at → Refused 11 at ≡ derivedAs (derived table list target)
+      pub derive-absent : {at : ℕ} → p ≡ At at → Refused (numbered 11 at) ≡ derivedAs (derived table list target)
       unfolding derived
       derive-absent {at} e =
           rw (table-accepted table (derive-shape .table) 0, at-some (absentFrom (rowsOf table) 0 list target) (sym e ∙ found)) refl

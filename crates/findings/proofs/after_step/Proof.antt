@@ -2,7 +2,7 @@
 use native.Mathlib.Omega.{arith}
 use borrow.Author.Needs.{needs}
 use mathlib.Core.Path.{refl, ap}
-use Rattle.findings.specs.declared.Walked.the-variants.{Broken}
+use Rattle.answers.specs.declared.Walked.the-variants.{Broken}
 use Rattle.findings.specs.Findings.{lengthOf}
 use Rattle.findings.proofs.after_step.Statement.{statement}
 use Rattle.findings.proofs.after_step.Tie as tie

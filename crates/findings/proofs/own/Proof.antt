@@ -1,7 +1,7 @@
 -- `own` answers by the budget, then by the claim. Assumes nothing.
 use borrow.Author.Needs.{needs}
 use mathlib.Core.Path.{_≡_, refl, sym, ap, _∙_}
-use Rattle.findings.specs.declared.Walked.the-variants.{Broken}
+use Rattle.answers.specs.declared.Walked.the-variants.{Broken}
 use Rattle.findings.specs.Findings.{ownOf}
 use Rattle.findings.specs.laws.Findings.{own-some}
 use Rattle.findings.proofs.own.Statement.{statement}

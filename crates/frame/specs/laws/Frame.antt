@@ -17,8 +17,10 @@ use Rattle.rows.specs.Rows.{placeAs}
 use Rattle.rows.specs.laws.Places.{at-some, nowhere-none}
 use Rattle.rows.specs.declared.Place.{Place}
 use Rattle.rows.specs.declared.Place.the-variants.{At, Nowhere}
-use Rattle.frame.specs.Framing.{framingOf, framingAs, IsFramed}
-use Rattle.frame.specs.declared.Framing.the-variants.{Refused, Framed}
+use Rattle.answers.specs.Answers.{numbered, checkedAs}
+use Rattle.answers.specs.declared.Refusal.{Refusal}
+use Rattle.answers.specs.declared.Checked.the-variants.{Refused, Passed}
+use Rattle.frame.specs.Framing.{framingOf, IsFramed}
 
 sub-suc : (n : ℕ) → suc n - 1 ≡ n
 sub-suc n = omega arith
@@ -156,7 +158,7 @@ module _ (file : List ℕ) where
 
   -- one condition after the other: the first that holds refuses
   module _ {v : Place} (version : v ≡ placeAs (unversioned file)) where
-    pub version-refused : {at : ℕ} → v ≡ At at → Refused 1 at ≡ framingAs (framingOf file)
+    pub version-refused : {at : ℕ} → v ≡ At at → Refused (numbered 1 at) ≡ checkedAs (framingOf file)
     version-refused e = rw (at-some (unversioned file) (sym e ∙ version)) refl
 
     module _ (versioned : v ≡ Nowhere) {l : Place} (size : l ≡ placeAs (tooLong file)) where
@@ -164,7 +166,7 @@ module _ (file : List ℕ) where
       passed-1 : unversioned file ≡ none
       passed-1 = nowhere-none (unversioned file) (sym versioned ∙ version)
 
-      pub size-refused : {at : ℕ} → l ≡ At at → Refused 2 at ≡ framingAs (framingOf file)
+      pub size-refused : {at : ℕ} → l ≡ At at → Refused (numbered 2 at) ≡ checkedAs (framingOf file)
       size-refused e = rw (passed-1, at-some (tooLong file) (sym e ∙ size)) refl
 
       module _ (few : l ≡ Nowhere) {m : Place} (blocks : m ≡ placeAs (misframed file)) where
@@ -172,24 +174,24 @@ module _ (file : List ℕ) where
         passed-2 : tooLong file ≡ none
         passed-2 = nowhere-none (tooLong file) (sym few ∙ size)
 
-        pub blocks-refused : {at : ℕ} → m ≡ At at → Refused 3 at ≡ framingAs (framingOf file)
+        pub blocks-refused : {at : ℕ} → m ≡ At at → Refused (numbered 3 at) ≡ checkedAs (framingOf file)
         blocks-refused e = rw (passed-1, passed-2, at-some (misframed file) (sym e ∙ blocks)) refl
 
-        pub none-refused : m ≡ Nowhere → Framed ≡ framingAs (framingOf file)
+        pub none-refused : m ≡ Nowhere → Passed ≡ checkedAs (framingOf file)
         none-refused e = rw (passed-1, passed-2, nowhere-none (misframed file) (sym e ∙ blocks)) refl
 
 -- none of three conditions holds
-refused-framed : {P : Type 0} {n at : ℕ} → Refused n at ≡ Framed → P
+refused-framed : {P : Type 0} {x : Refusal} → Refused x ≡ Passed → P
 refused-framed e = let z : _≡_ {A = ℕ} 0 1 = cc in absurd (omega arith)
 
-all-passed : (a b c : Option ℕ) → framingAs (_>>_ (checked 1 a) (_>>_ (checked 2 b) (checked 3 c))) ≡ Framed → (a ≡ none) × (b ≡ none) × (c ≡ none)
+all-passed : (a b c : Option ℕ) → checkedAs (_>>_ (checked 1 a) (_>>_ (checked 2 b) (checked 3 c))) ≡ Passed → (a ≡ none) × (b ≡ none) × (c ≡ none)
 all-passed none none none e = (refl, refl, refl)
 all-passed none none (some at) e = refused-framed e
 all-passed none (some at) c e = refused-framed e
 all-passed (some at) b c e = refused-framed e
 
 -- a file whose frame is not refused is framed
-pub framing-framed : (file : List ℕ) → framingAs (framingOf file) ≡ Framed → IsFramed file
+pub framing-framed : (file : List ℕ) → checkedAs (framingOf file) ≡ Passed → IsFramed file
 unfolding tooLong misframed
 framing-framed file e =
     let w = all-passed (unversioned file) (tooLong file) (misframed file) e in

@@ -17,17 +17,19 @@ use Rattle.semantics.specs.Moves.{Move}
 use Rattle.semantics.specs.Replay.{after, valuesIn, firstStep, replayedFrom, replayed}
 use Rattle.semantics.specs.State as states
 use Rattle.semantics.specs.Verdict.{broken}
-use Rattle.claims.specs.Claims.{claimedAs}
-use Rattle.claims.specs.declared.Claim.{Claim}
-use Rattle.claims.specs.declared.Claimed.the-variants as claimed
-use Rattle.scenario.specs.Opened.{openedAs}
-use Rattle.scenario.specs.declared.Opened.the-variants as opening
+use Rattle.answers.specs.Answers.{claimedAs}
+use Rattle.answers.specs.declared.Claim.{Claim}
+use Rattle.answers.specs.declared.Claimed.the-variants as claimed
+use Rattle.answers.specs.Answers.{openedAs, replayedAs}
+use Rattle.answers.specs.laws.Answers.{opened-refused}
+use Rattle.answers.specs.declared.Refusal.{Refusal}
+use Rattle.answers.specs.declared.Opened.the-variants as opening
 use Rattle.state.specs.State.{IsState}
 use Rattle.state.specs.declared.State.{State as CodeState}
 use Rattle.steps.specs.declared.Stepped.{Stepped}
 use Rattle.steps.specs.Steps.{stepAfter, StepDone, isStep, noStep}
-use Rattle.replay.specs.declared.Replayed.the-variants.{Refused, Broken, NoClaim}
-use Rattle.replay.specs.Replay.{followedOf, replayedAs}
+use Rattle.answers.specs.declared.Replayed.the-variants.{Refused, Broken, NoClaim}
+use Rattle.replay.specs.Replay.{followedOf}
 
 -- nothing is left
 at-end : (fuel : ℕ) (sc : Scenario) (at : ℕ) (d : State) (bytes : List ℕ) → length bytes ≡ 0 → replayedFrom fuel sc at d bytes ≡ accepted d
@@ -157,14 +159,9 @@ module _ (file trace : List ℕ) where
   replayed-accepted sc e = rw e refl
 
   -- a refused one
-  pub replayed-refused : {number place : ℕ} → opening.Refused number place ≡ openedAs file (opened file) → Refused number place ≡ replayedAs (replayed file trace)
+  pub replayed-refused : {x : Refusal} → opening.Refused x ≡ openedAs file (opened file) → Refused x ≡ replayedAs (replayed file trace)
   unfolding replayed
-  replayed-refused {number} {place} e = go (opened file) e
-    where
-      go : (a : Answer Scenario) → opening.Refused number place ≡ openedAs file a
-          → Refused number place ≡ replayedAs (_>>=_ a (λ sc. _>>=_ (replayedFrom (length trace) sc 0 (initial sc) trace) (λ d. accepted (broken sc d))))
-      go (refused r) q = cc
-      go (accepted sc) q = let z : _≡_ {A = ℕ} 0 1 = cc in absurd (omega arith)
+  replayed-refused e = rw (opened-refused file (opened file) e) refl
 
 -- the answer by the claim broken
 pub claim-broken : (sc : Scenario) (trace : List ℕ) (d : State) {c : Claim} → claimedAs (broken sc d) ≡ claimed.Broken c → followedOf sc trace ≡ accepted (broken sc d) → Broken c ≡ replayedAs (followedOf sc trace)

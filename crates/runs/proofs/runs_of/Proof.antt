@@ -5,7 +5,7 @@ use mathlib.Core.Path.{_≡_, ap}
 use borrow.Author.Needs.{needs}
 use Rattle.semantics.specs.Answer.{accepted}
 use Rattle.semantics.specs.Scenario.{Scenario, opened}
-use Rattle.scenario.specs.declared.Layout.{Layout}
+use Rattle.answers.specs.declared.Layout.{Layout}
 use Rattle.runs.specs.laws.Found.{SomeRun, start-inside}
 use Rattle.runs.specs.laws.Listed.{FoundTo, few-runs, few-roles, found-none, found-run, found-more, found-all}
 use Rattle.runs.proofs.runs_of.Statement.{statement}

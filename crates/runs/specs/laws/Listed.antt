@@ -15,8 +15,8 @@ use Rattle.semantics.specs.Scenario.{Scenario, runPart, opened}
 use Rattle.semantics.specs.laws.List.{getElem-below, getElem-there}
 use Rattle.semantics.specs.laws.Open.{opened-guarantee}
 use Rattle.semantics.specs.laws.Answer.{accepted-same}
-use Rattle.scenario.specs.Opened.{layoutOf}
-use Rattle.scenario.specs.declared.Layout.{Layout}
+use Rattle.answers.specs.Answers.{layoutOf}
+use Rattle.answers.specs.declared.Layout.{Layout}
 use Rattle.runs.specs.Runs.{RunAt, RunsAt, IsRun}
 
 -- the runs below k are found, and the next begins at `start`

@@ -16,9 +16,10 @@ use Rattle.semantics.specs.laws.List.{mem-getElem, getElem-below}
 use Rattle.semantics.specs.laws.Tree.{listed-first}
 use Rattle.semantics.specs.laws.Verdict as walks
 use Rattle.semantics.specs.laws.Verdict.{walkedFound, walkedAll, walkedCut, walked-view}
-use Rattle.findings.specs.declared.Walked.the-variants as answers
+use Rattle.answers.specs.declared.Walked.the-variants as answers
 use Rattle.breaks.specs.declared.Plan.{Plan}
-use Rattle.breaks.specs.Walk.{judged, walkedAs, bufferAs, Finds, nextIn, entriesFrom}
+use Rattle.answers.specs.Answers.{walkedAs}
+use Rattle.breaks.specs.Walk.{judged, bufferAs, Finds, nextIn, entriesFrom}
 use Rattle.breaks.specs.laws.Walked.{nothing-within}
 use Rattle.breaks.specs.laws.Finds.{answer-clean}
 use Rattle.semantics.specs.Same.{Each, cons, Same, SameEntry}

@@ -11,8 +11,8 @@ use lib.ListN.{length, getD, set}
 use Rattle.semantics.specs.Basic.{present}
 use Rattle.semantics.specs.laws.Test.{present-some, absent-none}
 use Rattle.memory.specs.Memory.{IsKey, LookedUp, Kept}
-use Rattle.findings.specs.declared.Walked.{Walked}
-use Rattle.findings.specs.declared.Walked.the-variants as answers
+use Rattle.answers.specs.declared.Walked.{Walked}
+use Rattle.answers.specs.declared.Walked.the-variants as answers
 use Rattle.findings.specs.Findings.{knownAs, countOf}
 use Rattle.findings.specs.laws.Findings.{known-beyond, known-within}
 use Rattle.breaks.specs.declared.Course.{Course}

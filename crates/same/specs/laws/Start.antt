@@ -15,7 +15,7 @@ use Rattle.semantics.specs.Verdict.{traceBytes}
 use Rattle.state.specs.State.{Given, IsState}
 use Rattle.state.specs.declared.State.{State}
 use Rattle.memory.specs.laws.Words.{zeros-read}
-use Rattle.findings.specs.declared.Walked.{Walked}
+use Rattle.answers.specs.declared.Walked.{Walked}
 use Rattle.breaks.specs.declared.Plan.{Plan}
 use Rattle.breaks.specs.declared.Reach.{Reach}
 use Rattle.breaks.specs.Walk.{stateOf, nextIn, Finds, SomeState, FindsFrom}

@@ -20,9 +20,7 @@ use Rattle.rows.specs.declared.Place.{Place}
 use Rattle.rows.specs.declared.Place.the-variants.{At, Nowhere}
 use Rattle.cells.specs.Cells.{Shape}
 use Rattle.cells.specs.laws.Shape.{sized-shape}
-use Rattle.frame.specs.Framing.{framingOf, framingAs}
-use Rattle.frame.specs.declared.Framing.{Framing}
-use Rattle.frame.specs.declared.Framing.the-variants as framing
+use Rattle.frame.specs.Framing.{framingOf}
 use Rattle.table.specs.Check.{judgedAs}
 use Rattle.table.specs.declared.Judged.{Judged}
 use Rattle.table.specs.declared.Judged.the-variants as judged
@@ -30,10 +28,14 @@ use Rattle.table.specs.laws.Table.{judged-refused, judged-sized, table-accepted
 use Rattle.records.specs.Records.{partAt}
 use Rattle.records.specs.laws.Records.{recordsLeft, left-cons, left-none, left-all}
 use Rattle.records.specs.laws.Runs.{run-bytes}
-use Rattle.scenario.specs.Opened.{layoutOf, openedAs, rolesRefusal, judgedRuns, judgedRows}
-use Rattle.scenario.specs.declared.Layout.{Layout}
-use Rattle.scenario.specs.declared.Opened.{Opened}
-use Rattle.scenario.specs.declared.Opened.the-variants.{Refused, Accepted}
+use Rattle.answers.specs.Answers.{numbered, checkedAs, layoutOf, openedAs}
+use Rattle.answers.specs.declared.Refusal.{Refusal}
+use Rattle.answers.specs.declared.Checked.{Checked}
+use Rattle.answers.specs.declared.Checked.the-variants as checking
+use Rattle.answers.specs.declared.Layout.{Layout}
+use Rattle.answers.specs.declared.Opened.{Opened}
+use Rattle.answers.specs.declared.Opened.the-variants.{Refused, Accepted}
+use Rattle.scenario.specs.Opened.{rolesRefusal, judgedRuns, judgedRows}
 
 -- two conditions with one number, one after the other
 six-cases : (a b : Option ℕ) (rest : Answer Scenario) → _>>_ (checked 6 a) (_>>_ (checked 6 b) rest) ≡ _>>_ (checked 6 (firstOf (a ∷ b ∷ []))) rest
@@ -43,14 +45,14 @@ six-cases (some at) b rest = refl
 
 module _ (file : List ℕ) where
   -- a refused frame
-  framing-cases : (a b c : Option ℕ) (rest : Answer Scenario) {number place : ℕ} → framingAs (_>>_ (checked 1 a) (_>>_ (checked 2 b) (checked 3 c))) ≡ framing.Refused number place
-      → _>>_ (checked 1 a) (_>>_ (checked 2 b) (_>>_ (checked 3 c) rest)) ≡ refuse number place
+  framing-cases : (a b c : Option ℕ) (rest : Answer Scenario) {x : Refusal} → checkedAs (_>>_ (checked 1 a) (_>>_ (checked 2 b) (checked 3 c))) ≡ checking.Refused x
+      → _>>_ (checked 1 a) (_>>_ (checked 2 b) (_>>_ (checked 3 c) rest)) ≡ refuse (x .number) (x .place)
   framing-cases none none none rest e = let z : _≡_ {A = ℕ} 0 1 = cc in absurd (omega arith)
   framing-cases none none (some at) rest e = cc
   framing-cases none (some at) c rest e = cc
   framing-cases (some at) b c rest e = cc
 
-  framed-cases : (a b c : Option ℕ) (rest : Answer Scenario) → framingAs (_>>_ (checked 1 a) (_>>_ (checked 2 b) (checked 3 c))) ≡ framing.Framed
+  framed-cases : (a b c : Option ℕ) (rest : Answer Scenario) → checkedAs (_>>_ (checked 1 a) (_>>_ (checked 2 b) (checked 3 c))) ≡ checking.Passed
       → _>>_ (checked 1 a) (_>>_ (checked 2 b) (_>>_ (checked 3 c) rest)) ≡ rest
   framed-cases none none none rest e = refl
   framed-cases none none (some at) rest e = let z : _≡_ {A = ℕ} 0 1 = cc in absurd (omega arith)
@@ -72,18 +74,18 @@ module _ (file : List ℕ) where
       ap (λ (f : List Row → Answer Scenario). _>>_ (checked 1 (unversioned file)) (_>>_ (checked 2 (tooLong file)) (_>>_ (checked 3 (misframed file)) (_>>=_ (rowsFrom (termPart file .start) [] (termPart file .bytes)) f))))
       (fun-ext after-same)
 
-  module _ {f : Framing} (check : f ≡ framingAs (framingOf file)) where
-    pub frame-refused : {number place : ℕ} → f ≡ framing.Refused number place → Refused number place ≡ openedAs file (opened file)
+  module _ {f : Checked} (check : f ≡ checkedAs (framingOf file)) where
+    pub frame-refused : {x : Refusal} → f ≡ checking.Refused x → Refused x ≡ openedAs file (opened file)
     frame-refused e = rw (opened-after, framing-cases (unversioned file) (tooLong file) (misframed file) afterFrame (sym check ∙ e)) refl
 
-    module _ (framed : f ≡ framing.Framed) where
+    module _ (framed : f ≡ checking.Passed) where
       pub opened-framed : opened file ≡ afterFrame
       opened-framed = opened-after ∙ framed-cases (unversioned file) (tooLong file) (misframed file) afterFrame (sym check ∙ framed)
 
       module _ {j : Judged} (table : j ≡ judgedAs (rowsFrom (termPart file .start) [] (termPart file .bytes))) where
-        pub table-refused : {number place : ℕ} → j ≡ judged.Refused number place → Refused number place ≡ openedAs file (opened file)
-        table-refused {number} {place} e =
-            rw (opened-framed, judged-refused (rowsFrom (termPart file .start) [] (termPart file .bytes)) number place (sym table ∙ e)) refl
+        pub table-refused : {x : Refusal} → j ≡ judged.Refused x → Refused x ≡ openedAs file (opened file)
+        table-refused {x} e =
+            rw (opened-framed, judged-refused (rowsFrom (termPart file .start) [] (termPart file .bytes)) x (sym table ∙ e)) refl
 
         module _ {n : ℕ} (rows : j ≡ judged.Rows n) where
           pub terms-shape : Shape (termPart file .bytes) n 0
@@ -109,7 +111,7 @@ module _ (file : List ℕ) (rows : List Row) where
 
   -- refusal 6, then 7, then the rest
   module _ {p : Place} (roles : p ≡ placeAs (rolesRefusal file rows)) where
-    pub roles-refused : {at : ℕ} → p ≡ At at → Refused 6 at ≡ openedAs file (judgedRows file rows)
+    pub roles-refused : {at : ℕ} → p ≡ At at → Refused (numbered 6 at) ≡ openedAs file (judgedRows file rows)
     unfolding judgedRows
     roles-refused e = rw (at-some (rolesRefusal file rows) (sym e ∙ roles)) refl
 
@@ -126,7 +128,7 @@ module _ (file : List ℕ) (rows : List Row) where
           first-none (some at) b e = e
 
       module _ {w : Place} (events : w ≡ placeAs (illFormed rows 0 (rolesFrom (roleParts file)))) where
-        pub events-refused : {at : ℕ} → w ≡ At at → Refused 7 at ≡ openedAs file (judgedRows file rows)
+        pub events-refused : {at : ℕ} → w ≡ At at → Refused (numbered 7 at) ≡ openedAs file (judgedRows file rows)
         unfolding judgedRows
         events-refused e = rw (no-refusal, at-some (illFormed rows 0 (rolesFrom (roleParts file))) (sym e ∙ events)) refl
 
@@ -136,7 +138,7 @@ module _ (file : List ℕ) (rows : List Row) where
 
   -- refusals 8 and 9, or accepted
   module _ {x : Place} (runs : x ≡ placeAs (badRun rows (roleCount file) (runParts file))) where
-    pub runs-refused : {at : ℕ} → x ≡ At at → Refused 8 at ≡ openedAs file (judgedRuns file rows)
+    pub runs-refused : {at : ℕ} → x ≡ At at → Refused (numbered 8 at) ≡ openedAs file (judgedRuns file rows)
     unfolding judgedRuns
     runs-refused e = rw (at-some (badRun rows (roleCount file) (runParts file)) (sym e ∙ runs)) refl
 
@@ -144,7 +146,7 @@ module _ (file : List ℕ) (rows : List Row) where
       no-bad-run : badRun rows (roleCount file) (runParts file) ≡ none
       no-bad-run = nowhere-none (badRun rows (roleCount file) (runParts file)) (sym fit ∙ runs)
 
-      pub known-refused : {at : ℕ} → y ≡ At at → Refused 9 at ≡ openedAs file (judgedRuns file rows)
+      pub known-refused : {at : ℕ} → y ≡ At at → Refused (numbered 9 at) ≡ openedAs file (judgedRuns file rows)
       unfolding judgedRuns
       known-refused e = rw (no-bad-run, at-some (badKnowledgeFrom rows (knowledgePart file .start) 0 (knowledgePart file .bytes)) (sym e ∙ known)) refl
 

@@ -10,8 +10,8 @@ use Rattle.semantics.specs.laws.Open.{opened-inverts, opened-guarantee}
 use Rattle.rows.specs.Rows.{rowsOf}
 use Rattle.rows.specs.laws.Table.{table-good, table-length}
 use Rattle.table.specs.laws.Table.{accepted-table}
-use Rattle.scenario.specs.Opened.{layoutOf}
-use Rattle.scenario.specs.declared.Layout.{Layout}
+use Rattle.answers.specs.Answers.{layoutOf}
+use Rattle.answers.specs.declared.Layout.{Layout}
 use Rattle.runs.specs.declared.Runs.{Runs}
 use Rattle.runs.specs.Runs.{RunsAt}
 use Rattle.runs.specs.laws.Blocks.{opened-framed}

@@ -12,6 +12,7 @@ use Rattle.semantics.specs.Basic.{keep}
 use Rattle.semantics.specs.Guarantee.{GoodTable}
 use Rattle.semantics.specs.Table.{Row, variableRow, admissible, repeated, rowRefusal, rowsFrom}
 use Rattle.semantics.specs.laws.Table.{rowRefusal-none, rowsFrom-then, rowsFrom-short}
+use Rattle.answers.specs.Answers.{numbered}
 use Rattle.table.specs.declared.Judged.the-variants.{Refused, Rows}
 use Rattle.rows.specs.Rows.{IsTable, decodedAt}
 use Rattle.table.specs.Check.{numberOr, judgedAs}
@@ -58,14 +59,14 @@ module _ (t : List ℕ) (i v : ℕ) (p : Passed t i v) where
   passed-all at e = rw (passed-rest at, drop-of-length-le t {i = 3 * i} (omega arith)) (ap Rows (sym (below-length t i (p .within) (p .table))))
 
   -- a row that is not complete is refused
-  pub passed-short : (at : ℕ) → ¬ (length t ≡ 3 * i) → length t - 3 * i < 3 → Refused 4 (at + 3 * i) ≡ judgedAs (rowsFrom at [] t)
+  pub passed-short : (at : ℕ) → ¬ (length t ≡ 3 * i) → length t - 3 * i < 3 → Refused (numbered 4 (at + 3 * i)) ≡ judgedAs (rowsFrom at [] t)
   passed-short at n l =
       let size = length-drop (3 * i) t in
       rw (passed-rest at, rowsFrom-short (at + 3 * i) (rowsBelow t i) (drop (3 * i) t) (omega (arith, p .within, n)) (omega arith))
 
   module _ (whole : 3 * i + 3 ≤ length t) where
     -- a row is refused by its number
-    pub passed-refused : (at n : ℕ) → n ≡ numberOr (rowRefusal (rowsBelow t i) (decodedAt t i)) → ¬ (n ≡ 0) → Refused n (at + 3 * i) ≡ judgedAs (rowsFrom at [] t)
+    pub passed-refused : (at n : ℕ) → n ≡ numberOr (rowRefusal (rowsBelow t i) (decodedAt t i)) → ¬ (n ≡ 0) → Refused (numbered n (at + 3 * i)) ≡ judgedAs (rowsFrom at [] t)
     unfolding decodedAt
     passed-refused at n e z =
         let below = rowsBelow t i in

@@ -12,6 +12,7 @@ use Rattle.semantics.specs.Table.{Row, decode, admissible, repeated, rowsFrom}
 use Rattle.semantics.specs.laws.Table.{rowsFrom-step, Reads, ends, reads, rowsFrom-reads}
 use Rattle.semantics.specs.laws.Encoding.{table-exactly}
 use Rattle.rows.specs.Rows.{IsTable, Sized, rowsOf, rowsOr}
+use Rattle.answers.specs.declared.Refusal.{Refusal}
 use Rattle.table.specs.Check.{judgedAs}
 use Rattle.table.specs.declared.Judged.the-variants.{Refused, Rows}
 use Rattle.rows.specs.laws.Table.{table-good, table-length}
@@ -39,12 +40,12 @@ judged-accepted (refused r) n e = let z : _≡_ {A = ℕ} 0 1 = cc in absurd (om
 judged-accepted (accepted rows) n e = (rows, refl, let z : length rows ≡ n = cc in sym z)
 
 -- or a refusal with its place
-pub judged-refused : (a : Answer (List Row)) (n place : ℕ) → judgedAs a ≡ Refused n place → a ≡ refuse n place
-judged-refused (refused r) n place e =
-    let p : r .number ≡ n = cc in
-    let q : r .place ≡ place = cc in
+pub judged-refused : (a : Answer (List Row)) (x : Refusal) → judgedAs a ≡ Refused x → a ≡ refuse (x .number) (x .place)
+judged-refused (refused r) x e =
+    let p : r .number ≡ x .number = cc in
+    let q : r .place ≡ x .place = cc in
     λ i. refused (record { number = p i; place = q i })
-judged-refused (accepted rows) n place e = let z : _≡_ {A = ℕ} 0 1 = cc in absurd (omega arith)
+judged-refused (accepted rows) x e = let z : _≡_ {A = ℕ} 0 1 = cc in absurd (omega arith)
 
 -- what a caller of the check knows of the bytes where it answers with a number of rows
 pub judged-table : (at : ℕ) (bytes : List ℕ) (n : ℕ) → judgedAs (rowsFrom at [] bytes) ≡ Rows n → IsTable bytes × (n ≡ length (rowsOf bytes))

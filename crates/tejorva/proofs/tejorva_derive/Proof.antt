@@ -1,26 +1,15 @@
-use native.Mathlib.Omega.{arith}
+-- `tejorva_derive` is the number of Derive's answer to a table, a list and a target. Assumes nothing.
 use borrow.Author.Needs.{needs}
 use mathlib.Core.Path.{ap, _∙_}
 use Rattle.semantics.specs.Derive.{derived}
-use Rattle.tejorva.specs.Packing.{packedOf, packed-derived}
+use Rattle.packing.specs.Packing.{packedDeriving, packed-derived}
 use Rattle.tejorva.proofs.tejorva_derive.Statement.{statement}
 use Rattle.tejorva.proofs.tejorva_derive.Tie as tie
-use Rattle.tejorva.proofs.tejorva_derive.Reads as reads
-use Rattle.tejorva.proofs.tejorva_derive.Lts as lts
-use Rattle.derive.proofs.derive.Reads as derive-reads
-use Rattle.tejorva.proofs.packed.Reads as packed-reads
 
--- src/lib.rt:38:12
-derive-requires : tie.Need-derive-requires
-derive-requires c κs = search needs
-
--- src/lib.rt:38:5
-packed-requires : tie.Need-packed-requires
-packed-requires c κs = search needs
-
--- src/lib.rt:34:1
 returns : tie.Need-returns
-returns c = c .packed .ensures ∙ ap packedOf (c .before .derive .ensures) ∙ packed-derived (derived (c .before .before .before .before .args .table .now) (c .before .before .before .before .args .list .now) (c .before .before .before .before .args .target))
+returns c =
+    let s = c .before .before .before .before in
+    c .derived .ensures ∙ ap packedDeriving (c .before .derive .ensures) ∙ packed-derived (derived (s .args .table .now) (s .args .list .now) (s .args .target))
 
 pub tejorva-derive-spec : {M : Type 1} → statement M
-tejorva-derive-spec = tie.close (tie.spec derive-requires packed-requires returns)
+tejorva-derive-spec = tie.close (tie.spec (λ c κs. search needs) (λ c κs. search needs) returns)

@@ -9,7 +9,7 @@ use Rattle.semantics.specs.Basic.{joined}
 use Rattle.semantics.specs.State.{Value}
 use Rattle.semantics.specs.Moves.{Move}
 use Rattle.semantics.specs.Verdict.{valueBytes, moveBytes, traceBytes}
-use Rattle.breaks.specs.laws.Move.{value-bytes}
+use Rattle.semantics.specs.laws.Bytes.{value-bytes}
 use Rattle.text.specs.Text.{valueText, stepText}
 
 -- no values

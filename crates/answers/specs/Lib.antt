@@ -1,0 +1,3 @@
+-- The definitions' answers as the code gives them, and the laws of that.
+pub mod Answers
+pub mod laws

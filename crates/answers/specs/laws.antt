@@ -1,0 +1,2 @@
+-- The laws of answers, with their proofs.
+pub mod Answers

@@ -1,0 +1,2 @@
+-- The laws of the verdict's text.
+pub mod laws

@@ -1,0 +1,2 @@
+-- The laws of the verdict's text, with their proofs.
+pub mod Verdict

@@ -1,2 +1,0 @@
--- How an answer is packed into 64 bits.
-pub mod Packing
