@@ -1,17 +1,15 @@
 // Open: a scenario file is accepted, with where its parts stand, or refused with number and place.
 ghost use mathlib.Core.Path.{_≡_};
-ghost use mathlib.Core.Option.{none};
 ghost use Prim.Native.Nat.{ℕ, _+_, _≤_};
 ghost use lib.ListN.{length};
-ghost use Rattle.semantics.specs.Roles.{badRole};
 ghost use Rattle.semantics.specs.Runs.{runRecords};
-ghost use Rattle.semantics.specs.Scenario.{termPart, roleParts, roleCount, scenarioOf, opened};
+ghost use Rattle.semantics.specs.Scenario.{termPart, roleCount, scenarioOf, opened};
 ghost use Rattle.rows.specs.Rows.{rowsOf, placeAs};
 ghost use Rattle.cells.specs.Cells.{Shape};
 ghost use Rattle.frame.specs.Framing.{IsFramed};
 ghost use Rattle.records.specs.Records.{partAt};
 ghost use Rattle.answers.specs.Answers.{layoutOf, openedAs};
-ghost use Rattle.scenario.specs.Opened.{rolesRefusal, judgedRuns, judgedRows};
+ghost use Rattle.scenario.specs.Opened.{GoodRoles, rolesRefusal, judgedRuns, judgedRows};
 use answers::Block;
 use answers::Checked;
 use answers::Layout;
@@ -54,7 +52,7 @@ fn judged_roles(file: &[u8], n: usize) -> Place
 
 // Where the parts of a framed file stand.
 fn parts_of(file: &[u8], n: usize, roles: usize) -> Layout
-    requires { ⌜ IsFramed (now file) × (Shape (termPart (now file) .bytes) n 0 × ((roles ≡ roleCount (now file)) × (badRole (rowsOf (termPart (now file) .bytes)) (roleParts (now file)) ≡ none))) ⌝ }
+    requires { ⌜ IsFramed (now file) × (Shape (termPart (now file) .bytes) n 0 × ((roles ≡ roleCount (now file)) × GoodRoles (now file))) ⌝ }
     ensures { λ r. ⌜ r ≡ layoutOf (now (file .entry)) (scenarioOf (now (file .entry)) (rowsOf (termPart (now (file .entry)) .bytes))) ⌝ }
 {
     let runs = frame::block_of(file, 2);
@@ -82,7 +80,7 @@ fn parts_of(file: &[u8], n: usize, roles: usize) -> Layout
 
 // Refusals 8 and 9, or accepted, of a file whose table, roles and events are good.
 fn judged_runs(file: &[u8], n: usize) -> Opened
-    requires { ⌜ IsFramed (now file) × (Shape (termPart (now file) .bytes) n 0 × (badRole (rowsOf (termPart (now file) .bytes)) (roleParts (now file)) ≡ none)) ⌝ }
+    requires { ⌜ IsFramed (now file) × (Shape (termPart (now file) .bytes) n 0 × GoodRoles (now file)) ⌝ }
     ensures { λ r. ⌜ r ≡ openedAs (now (file .entry)) (judgedRuns (now (file .entry)) (rowsOf (termPart (now (file .entry)) .bytes))) ⌝ }
 {
     let terms = frame::block_of(file, 0);

@@ -1,3 +1,4 @@
+-- `absent_at` is refusal 11: the rows before place i are there. The measure is what is left of the list. Assumes nothing.
 use native.Mathlib.Omega.{arith}
 use borrow.Author.Needs.{needs}
 use Prim.Native.Nat.{ℕ, _-_, _<_, _≤_}
@@ -6,9 +7,6 @@ use lib.ListN.{length}
 use Rattle.derive.specs.laws.Derive.{LeftAt, absent-here, absent-on, target-absent, none-absent}
 use Rattle.derive.proofs.absent_at.Statement.{statement}
 use Rattle.derive.proofs.absent_at.Tie as tie
-use Rattle.derive.proofs.absent_at.Reads as reads
-use Rattle.derive.proofs.absent_at.Lts as lts
-use Rattle.rows.proofs.wide.Reads as wide-reads
 
 abbrev Inv-loop : tie.InvT-loop
 Inv-loop list n target i₀ i = (i ≤ length list) × LeftAt list n target i
@@ -16,54 +14,20 @@ Inv-loop list n target i₀ i = (i ≤ length list) × LeftAt list n target i
 abbrev μ-loop : tie.MeasureT-loop
 μ-loop list n target i₀ i = length list - i
 
--- src/lib.rt:25:5
 loop-holds : tie.Need-loop-holds Inv-loop μ-loop
 loop-holds c = (omega arith, λ rows e. refl)
 
--- src/lib.rt:26:28
-shared-slice-read-wide : tie.Need-shared-slice-read-wide Inv-loop μ-loop
-shared-slice-read-wide c = search needs
-
--- src/lib.rt:26:17
-wide-requires : tie.Need-wide-requires Inv-loop μ-loop
-wide-requires c κs = search needs
-
--- src/lib.rt:27:13
 returns : tie.Need-returns Inv-loop μ-loop
 returns c = absent-here (c .before .before .before .before .before .before .args .list .now) (c .before .before .before .before .before .before .args .n) (c .before .before .before .before .before .before .args .target) (c .before .before .before .before .loop .i) (c .before .before .before .before .loop .inv .1) (c .before .before .before .loop-test .taken) (subst (λ (k : ℕ). c .before .before .before .before .before .before .args .n ≤ k) (c .before .wide .ensures .0) (c .if1 .taken))
 
--- src/lib.rt:29:9
-add-i : tie.Need-add-i Inv-loop μ-loop
-add-i c = search needs
-
--- src/lib.rt:25:5
-loop-less : tie.Need-loop-less Inv-loop μ-loop
-loop-less c = omega arith
-
--- src/lib.rt:25:5
 loop-again : tie.Need-loop-again Inv-loop μ-loop
 loop-again c = (omega arith, absent-on (c .before .before .before .before .before .before .args .list .now) (c .before .before .before .before .before .before .args .n) (c .before .before .before .before .before .before .args .target) (c .before .before .before .before .loop .i) (c .before .before .before .before .loop .inv .1) (c .before .before .before .loop-test .taken) (subst (λ (k : ℕ). k < c .before .before .before .before .before .before .args .n) (c .before .wide .ensures .0) (c .if1 .left)))
 
--- src/lib.rt:32:9
 returns-2 : tie.Need-returns-2 Inv-loop μ-loop
 returns-2 c = target-absent (c .before .before .before .before .args .list .now) (c .before .before .before .before .args .n) (c .before .before .before .before .args .target) (c .before .before .loop .i) (c .before .before .loop .inv .1) (c .before .loop-test .left) (c .if2 .taken)
 
--- src/lib.rt:21:1
 returns-3 : tie.Need-returns-3 Inv-loop μ-loop
 returns-3 c = none-absent (c .before .before .before .before .args .list .now) (c .before .before .before .before .args .n) (c .before .before .before .before .args .target) (c .before .before .loop .i) (c .before .before .loop .inv .1) (c .before .loop-test .left) (c .if2 .left)
 
 pub absent-at-spec : {M : Type 1} → statement M
-absent-at-spec =
-    tie.close
-    (tie.spec
-    Inv-loop
-    μ-loop
-    loop-holds
-    shared-slice-read-wide
-    wide-requires
-    returns
-    add-i
-    loop-less
-    loop-again
-    returns-2
-    returns-3)
+absent-at-spec = tie.close (tie.spec Inv-loop μ-loop loop-holds (λ c. search needs) (λ c κs. search needs) returns (λ c. search needs) (λ c. omega arith) loop-again returns-2 returns-3)

@@ -11,6 +11,4 @@ returns : tie.Need-returns
 returns c = let s = c .before .before .before in part-block (s .args .file .now) (s .args .k) (c .block-from .ensures)
 
 pub block-of-spec : {M : Type 1} → statement M
-block-of-spec =
-    tie.close
-    (tie.spec (λ c. search needs) (λ c. search needs) (λ c. search needs) block-from-requires returns)
+block-of-spec = tie.close (tie.spec (λ c. search needs) (λ c. search needs) (λ c. search needs) block-from-requires returns)

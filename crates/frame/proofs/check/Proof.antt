@@ -31,19 +31,4 @@ returns-4 c =
     none-refused (v .before .before .args .file .now) (v .unversioned .ensures) (l .before .enum-told .given .1) (l .too-long .ensures) (m .before .enum-told2 .given .1) (m .misframed .ensures) (c .enum-told3 .given .1)
 
 pub check-spec : {M : Type 1} → statement M
-check-spec =
-    tie.close
-    (tie.spec
-    (λ c κs. search needs)
-    (λ c. search needs)
-    returns
-    (λ c. search needs)
-    (λ c κs. search needs)
-    (λ c. search needs)
-    returns-2
-    (λ c. search needs)
-    (λ c κs. search needs)
-    (λ c. search needs)
-    returns-3
-    (λ c. search needs)
-    returns-4)
+check-spec = tie.close (tie.spec (λ c κs. search needs) (λ c. search needs) returns (λ c. search needs) (λ c κs. search needs) (λ c. search needs) returns-2 (λ c. search needs) (λ c κs. search needs) (λ c. search needs) returns-3 (λ c. search needs) returns-4)

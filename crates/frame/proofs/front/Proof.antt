@@ -8,6 +8,4 @@ returns : tie.Need-returns
 returns c = part-front (c .before .before .before .args .s .now) (c .before .length-of .ensures .0)
 
 pub front-spec : {M : Type 1} → statement M
-front-spec =
-    tie.close
-    (tie.spec (λ c κs. search needs) (λ c. search needs) (λ c. search needs) (λ c. search needs) (λ c. search needs) returns)
+front-spec = tie.close (tie.spec (λ c κs. search needs) (λ c. search needs) (λ c. search needs) (λ c. search needs) (λ c. search needs) returns)

@@ -8,13 +8,4 @@ returns : tie.Need-returns
 returns c = let s = c .before .before .before .before .before in length-read (s .args .s .now) (s .pre) (c .before .before .wide .ensures .0) (c .wide2 .ensures .0) (c .before .before .wide .ensures .1) (c .wide2 .ensures .1)
 
 pub length-of-spec : {M : Type 1} → statement M
-length-of-spec =
-    tie.close
-    (tie.spec
-    (λ c. search needs)
-    (λ c κs. search needs)
-    (λ c. search needs)
-    (λ c. search needs)
-    (λ c κs. search needs)
-    (λ c. search needs)
-    returns)
+length-of-spec = tie.close (tie.spec (λ c. search needs) (λ c κs. search needs) (λ c. search needs) (λ c. search needs) (λ c κs. search needs) (λ c. search needs) returns)

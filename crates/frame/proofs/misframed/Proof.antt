@@ -14,13 +14,4 @@ returns-3 : tie.Need-returns-3
 returns-3 c = let file = c .before .before .before .before .before .args .file .now in blocks-bad file (c .before .before .before .if1 .left) (part-decides file (c .before .is-framed .ensures)) (c .if2 .left)
 
 pub misframed-spec : {M : Type 1} → statement M
-misframed-spec =
-    tie.close
-    (tie.spec
-    returns
-    (λ c. search needs)
-    (λ c. search needs)
-    (λ c. search needs)
-    (λ c κs. search needs)
-    returns-2
-    returns-3)
+misframed-spec = tie.close (tie.spec returns (λ c. search needs) (λ c. search needs) (λ c. search needs) (λ c κs. search needs) returns-2 returns-3)

@@ -13,6 +13,4 @@ returns c =
     ∙ ap (λ (l : ℕ). drop (2 + l) (c .before .before .before .args .s .now)) (c .before .length-of .ensures .0)
 
 pub rest-spec : {M : Type 1} → statement M
-rest-spec =
-    tie.close
-    (tie.spec (λ c κs. search needs) (λ c. search needs) (λ c. search needs) (λ c. search needs) (λ c. search needs) returns)
+rest-spec = tie.close (tie.spec (λ c κs. search needs) (λ c. search needs) (λ c. search needs) (λ c. search needs) (λ c. search needs) returns)

@@ -11,12 +11,4 @@ returns : tie.Need-returns
 returns c = let s = c .before .before .before in part-start (s .args .file .now) (s .pre .0) (s .args .k) (c .start-from .ensures .0) (c .start-from .ensures .1)
 
 pub start-of-spec : {M : Type 1} → statement M
-start-of-spec =
-    tie.close
-    (tie.spec
-    (λ c. search needs)
-    (λ c. search needs)
-    (λ c. search needs)
-    start-from-requires
-    (λ c. search needs)
-    returns)
+start-of-spec = tie.close (tie.spec (λ c. search needs) (λ c. search needs) (λ c. search needs) start-from-requires (λ c. search needs) returns)

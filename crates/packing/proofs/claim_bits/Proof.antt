@@ -18,15 +18,4 @@ returns : tie.Need-returns
 returns c = let two = kind-two (c .before .before .before .args .kind) in (omega arith, omega arith)
 
 pub claim-bits-spec : {M : Type 1} → statement M
-claim-bits-spec =
-    tie.close
-    (tie.spec
-    (λ c κs. search needs)
-    mul-result
-    (λ c κs. search needs)
-    (λ c. search needs)
-    add-result
-    (λ c κs. search needs)
-    (λ c. search needs)
-    add-result-2
-    returns)
+claim-bits-spec = tie.close (tie.spec (λ c κs. search needs) mul-result (λ c κs. search needs) (λ c. search needs) add-result (λ c κs. search needs) (λ c. search needs) add-result-2 returns)

@@ -192,11 +192,3 @@ counted-all b roles i at l counted base =
     let none : length (recordsLeft (runLength roles) base b at) ≡ 0 = ap (λ (ps : List Part). length ps) (left-none (runLength roles) base b at l) in
     let all : length (records (runLength roles) (partAt base b)) ≡ length (recordsLeft (runLength roles) base b 0) = ap (λ (ps : List Part). length ps) (left-all (runLength roles) base b) in
     omega (arith, counted base, none, all)
-
--- where Open accepts, there is a scenario with that layout
-pub layout-accepted : (file : List ℕ) {l : Layout} → Accepted l ≡ openedAs file (opened file) → (sc : Scenario) × (opened file ≡ accepted sc) × (l ≡ layoutOf file sc)
-layout-accepted file {l} e = go (opened file) refl e
-  where
-    go : (a : Answer Scenario) → opened file ≡ a → Accepted l ≡ openedAs file a → (sc : Scenario) × (opened file ≡ accepted sc) × (l ≡ layoutOf file sc)
-    go (refused r) o q = let z : _≡_ {A = ℕ} 0 1 = cc in absurd (omega arith)
-    go (accepted sc) o q = (sc, o, cc)

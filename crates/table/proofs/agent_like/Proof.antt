@@ -40,14 +40,4 @@ returns-6 : tie.Need-returns-6
 returns-6 c = sym (here (c .before .before .before) ∙ agent-kinds (c .before .before .before .kind-of .result) (right (c .before .before .before)) (c .before .if2 .left) (c .if3 .taken))
 
 pub agent-like-spec : {M : Type 1} → statement M
-agent-like-spec =
-    tie.close
-    (tie.spec
-    returns
-    (λ c κs. search needs)
-    (λ c κs. search needs)
-    returns-2
-    returns-3
-    returns-4
-    returns-5
-    returns-6)
+agent-like-spec = tie.close (tie.spec returns (λ c κs. search needs) (λ c κs. search needs) returns-2 returns-3 returns-4 returns-5 returns-6)

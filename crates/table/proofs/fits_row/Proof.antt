@@ -103,27 +103,4 @@ returns-14 c = let b = c .before in
     sym (here b refl ∙ fits-plain (below (start b)) (kind b) (left b) (right b) (⊎-elim (λ w. inl (w .keys1)) (λ w. inr (w .1 .left, w .2 .taken)) (c .match .came)))
 
 pub fits-row-spec : {M : Type 1} → statement M
-fits-row-spec =
-    tie.close
-    (tie.spec
-    (λ c κs. search needs)
-    (λ c κs. search needs)
-    (λ c κs. search needs)
-    (λ c κs. search needs)
-    (λ c κs. search needs)
-    (λ c κs. search needs)
-    (λ c κs. search needs)
-    returns
-    returns-2
-    returns-3
-    returns-4
-    returns-5
-    returns-6
-    returns-7
-    returns-8
-    returns-9
-    returns-10
-    returns-11
-    returns-12
-    returns-13
-    returns-14)
+fits-row-spec = tie.close (tie.spec (λ c κs. search needs) (λ c κs. search needs) (λ c κs. search needs) (λ c κs. search needs) (λ c κs. search needs) (λ c κs. search needs) (λ c κs. search needs) returns returns-2 returns-3 returns-4 returns-5 returns-6 returns-7 returns-8 returns-9 returns-10 returns-11 returns-12 returns-13 returns-14)

@@ -31,15 +31,4 @@ returns-2 c = let s = c .before .before .before in
     sym (repeats-no (s .args .t .now) (s .args .i) (omega arith) (s .pre .1) (λ j l. c .before .loop .inv .1 j (omega arith)))
 
 pub repeats-spec : {M : Type 1} → statement M
-repeats-spec =
-    tie.close
-    (tie.spec
-    Inv-loop
-    μ-loop
-    loop-holds
-    (λ c κs. search needs)
-    returns
-    (λ c. search needs)
-    (λ c. search needs)
-    loop-again
-    returns-2)
+repeats-spec = tie.close (tie.spec Inv-loop μ-loop loop-holds (λ c κs. search needs) returns (λ c. search needs) (λ c. search needs) loop-again returns-2)

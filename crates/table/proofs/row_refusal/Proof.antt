@@ -35,14 +35,4 @@ returns-5 c = let f = c .before in
     refusal-unfit (s .args .t .now) (s .args .i) (omega arith) (s .pre .1 .0) (sym (f .fits-row .ensures) ∙ c .if3 .left)
 
 pub row-refusal-spec : {M : Type 1} → statement M
-row-refusal-spec =
-    tie.close
-    (tie.spec
-    returns
-    (λ c κs. search needs)
-    returns-2
-    (λ c κs. search needs)
-    (λ c κs. search needs)
-    returns-3
-    returns-4
-    returns-5)
+row-refusal-spec = tie.close (tie.spec returns (λ c κs. search needs) returns-2 (λ c κs. search needs) (λ c κs. search needs) returns-3 returns-4 returns-5)

@@ -27,16 +27,4 @@ returns c ms e =
     (adds-on (w .before .before .before .before .put-with .ensures .0) (adds-on (w .before .before .put-with2 .ensures .0) (adds-on (w .put-with3 .ensures .0) (adds-on (c .before .push .ensures) (c .put-steps .ensures ms e)))))
 
 pub broken-spec : {M : Type 1} → statement M
-broken-spec =
-    tie.close
-    (tie.spec
-    (λ c κs. search needs)
-    (λ c. search needs)
-    (λ c κs. search needs)
-    (λ c. search needs)
-    (λ c κs. search needs)
-    (λ c. search needs)
-    put-with-requires-3
-    push-requires
-    put-steps-requires
-    returns)
+broken-spec = tie.close (tie.spec (λ c κs. search needs) (λ c. search needs) (λ c κs. search needs) (λ c. search needs) (λ c κs. search needs) (λ c. search needs) put-with-requires-3 push-requires put-steps-requires returns)

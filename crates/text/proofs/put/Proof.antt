@@ -28,15 +28,4 @@ returns : tie.Need-returns Inv-loop μ-loop
 returns c = adds-whole _ _ (c .before .loop .inv .1) (c .loop-test .left)
 
 pub put-spec : {M : Type 1} → statement M
-put-spec =
-    tie.close
-    (tie.spec
-    Inv-loop
-    μ-loop
-    loop-holds
-    (λ c. search needs)
-    push-requires
-    (λ c. search needs)
-    (λ c. search needs)
-    loop-again
-    returns)
+put-spec = tie.close (tie.spec Inv-loop μ-loop loop-holds (λ c. search needs) push-requires (λ c. search needs) (λ c. search needs) loop-again returns)

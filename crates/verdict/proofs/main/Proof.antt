@@ -22,18 +22,4 @@ slice-aggregate-write-all : tie.Need-slice-aggregate-write-all
 slice-aggregate-write-all c = holds-count (c .before .before .verdict-text .ensures buffer long)
 
 pub main-spec : {M : Type 1} → statement M
-main-spec =
-    tie.close
-    (tie.spec
-    (λ c. search needs)
-    (λ c κs. search needs)
-    (λ c. search needs)
-    (λ c κs. search needs)
-    (λ c. search needs)
-    (λ c. search needs)
-    (λ c. search needs)
-    (λ c κs. search needs)
-    array-share-prefix-bytes
-    slice-aggregate-write-all
-    (λ c κs. search needs)
-    (λ c. search needs))
+main-spec = tie.close (tie.spec (λ c. search needs) (λ c κs. search needs) (λ c. search needs) (λ c κs. search needs) (λ c. search needs) (λ c. search needs) (λ c. search needs) (λ c κs. search needs) array-share-prefix-bytes slice-aggregate-write-all (λ c κs. search needs) (λ c. search needs))
