@@ -1,24 +1,18 @@
 // Which claim a state breaks: of the runs whose agents are all trusted, the first claim passed whose value is derivable.
 ghost use mathlib.Core.Path.{_≡_};
-ghost use mathlib.Core.Bool.{true};
 ghost use Prim.Native.Nat.{_<_};
 ghost use lib.ListN.{length};
-ghost use Rattle.semantics.specs.Basic.{provided};
-ghost use Rattle.semantics.specs.Runs.{Run, allTrusted};
 ghost use Rattle.semantics.specs.Scenario.{Scenario};
 ghost use Rattle.semantics.specs.Guarantee.{Guarantee};
 ghost use Rattle.semantics.specs.State as definitions;
-ghost use Rattle.semantics.specs.State.{Progress};
-ghost use Rattle.semantics.specs.Verdict.{broken, brokenInRun};
-ghost use Rattle.rows.specs.Rows.{rowsOf};
 ghost use Rattle.cells.specs.Cells.{cellCount};
 ghost use Rattle.runs.specs.Runs.{RunsAt};
 ghost use Rattle.state.specs.State.{Given, IsState};
-ghost use Rattle.claims.specs.AtRun.{AtRun, claimAt, eventBreaks};
-ghost use Rattle.answers.specs.Answers.{claimedAs};
+ghost use Rattle.claims.specs.AtRun.{Answers, AnswersRun, AnswersState};
 use answers::Claim;
 use answers::ClaimKind;
 use answers::Claimed;
+use cells::Cells;
 use cells::cell;
 use runs::Runs;
 use state::State;
@@ -26,7 +20,7 @@ use state::State;
 // Whether event j of run k, both from 0, is a claim whose value is derivable. Past the last event there is none.
 fn claims_derivable(file: &[u8], r: Runs, marks: &[bool], k: usize, j: usize) -> bool
     requires { ⌜ ((sc : Scenario) × (RunsAt (now file) sc r × (Guarantee sc × (k < r .count)))) × (length (now marks) ≡ cellCount) ⌝ }
-    ensures { λ b. ⌜ ((sc : Scenario) (d : definitions.State) (run : Run) (p : Progress) → AtRun (now (file .entry)) r sc d (now (marks .entry)) k run p → true ≡ allTrusted (sc .rows) run → eventBreaks sc d k run p j ≡ provided b (claimAt k j)) ⌝ }
+    ensures { λ b. ⌜ Answers (now (file .entry)) r (now (marks .entry)) k j b ⌝ }
 {
     let events = r.events;
     if events[k] <= j {
@@ -51,7 +45,7 @@ fn broken_in_run(
     k: usize,
 ) -> Claimed
     requires { ⌜ ((sc : Scenario) × Given (now file) (now t) n r sc) × ((length (now marks) ≡ cellCount) × (k < r .count)) ⌝ }
-    ensures { λ c. ⌜ ((sc : Scenario) (d : definitions.State) (run : Run) (p : Progress) → AtRun (now (file .entry)) r sc d (now (marks .entry)) k run p → sc .rows ≡ rowsOf (now (t .entry)) → done ≡ p .done → c ≡ claimedAs (brokenInRun sc d k)) ⌝ }
+    ensures { λ c. ⌜ AnswersRun (now (file .entry)) (now (t .entry)) r (now (marks .entry)) done k c ⌝ }
 {
     if runs::all_trusted(file, t, n, r, k) {
         let mut j = 0;
@@ -77,10 +71,10 @@ pub fn broken(
     n: usize,
     r: Runs,
     done: [usize; 4],
-    marks: [bool; 480],
+    marks: [bool; Cells::COUNT],
 ) -> Claimed
     requires { ⌜ ((sc : Scenario) × (d : definitions.State) × (s : State) × Given (now file) (now t) n r sc × IsState sc d s × (done ≡ s .done) × (marks ≡ s .marks)) ⌝ }
-    ensures { λ c. ⌜ ((sc : Scenario) (d : definitions.State) (s : State) → Given (now (file .entry)) (now (t .entry)) n r sc → IsState sc d s → done ≡ s .done → marks ≡ s .marks → c ≡ claimedAs (broken sc d)) ⌝ }
+    ensures { λ c. ⌜ AnswersState (now (file .entry)) (now (t .entry)) n r done marks c ⌝ }
 {
     let runs = r.count;
     let mut k = 0;

@@ -3,9 +3,9 @@ use Prim.Native.Nat.{ℕ}
 use mathlib.Core.Path.{_≡_}
 use mathlib.Core.Logic.{_↔_}
 use mathlib.Core.Bool.{Bool, true, false}
-use mathlib.Core.List.{List, List·Memᴰ}
+use mathlib.Core.List.{List, _∷_, List·Memᴰ}
 use mathlib.Core.Option.{Option, some}
-use lib.ListN.{getD}
+use lib.ListN.{getD, set}
 use Rattle.semantics.specs.Term.{Term}
 use Rattle.semantics.specs.Inference.{Derives}
 use Rattle.semantics.specs.Table.{Row}
@@ -43,3 +43,14 @@ abbrev pub Settled : List Row → ℕ → List ℕ → List Bool → List Bool �
 Settled rows runs classes start marks =
     (readings : Readings) (known : List Term) → Classes rows runs (cellValue readings rows) classes → Covers rows runs readings known start
     → Exact rows runs readings known marks
+
+-- marks with the value of a row in a run known too, whatever the readings and whatever is known
+abbrev pub LearnsCell : List Row → ℕ → List ℕ → ℕ → ℕ → List Bool → List Bool → Type 0
+LearnsCell rows runs classes r u marks more =
+    (readings : Readings) (known : List Term) (t : Term) → Classes rows runs (cellValue readings rows) classes → Celled rows runs readings known
+    → Exact rows runs readings known marks → cellValue readings rows r u ≡ some t → Celled rows runs readings (t ∷ known) × Exact rows runs readings (t ∷ known) more
+
+-- how they are found: they are the same if the row is marked in that run, and else worked on with that mark
+pub data Learnt (rows : List Row) (runs : ℕ) (classes : List ℕ) (r u : ℕ) (marks : List Bool) : List Bool → Type 0 where
+  wasMarked : Marked marks r u → Learnt rows runs classes r u marks marks
+  isWorked : {more : List Bool} → Settled rows runs classes (set marks (cellOf r u) true) more → Learnt rows runs classes r u marks more

@@ -4,3 +4,4 @@ pub mod Values
 pub mod Sound
 pub mod Exact
 pub mod Steps
+pub mod Learn

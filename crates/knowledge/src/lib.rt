@@ -5,7 +5,7 @@ ghost use Prim.Native.Nat.{_+_, _*_, _<_, _≤_};
 ghost use lib.ListN.{length, getD};
 ghost use Rattle.rows.specs.Rows.{rowsOf};
 ghost use Rattle.cells.specs.Cells.{cellCount, Shape};
-ghost use Rattle.knowledge.specs.Marks.{Settled};
+ghost use Rattle.knowledge.specs.Marks.{Settled, LearnsCell, Learnt};
 ghost use Rattle.knowledge.specs.Steps.{classAt, Gathered, Spread, Opening, Gained, GainedAt, RowGained, Reaches, Finished};
 use cells::Cells;
 use cells::cell;
@@ -19,7 +19,7 @@ pub fn class_at(classes: &[u16], r: usize, u: usize) -> u16
 }
 
 // Marks of classes from marks of cells: a class is marked if one of its cells is.
-fn gathered(start: &[bool], n: usize, runs: usize, classes: &[u16]) -> [bool; 480]
+fn gathered(start: &[bool], n: usize, runs: usize, classes: &[u16]) -> [bool; Cells::COUNT]
     requires { ⌜ (length (now start) ≡ cellCount) × ((length (now classes) ≡ cellCount) × ((n ≤ 96) × (runs ≤ 4))) ⌝ }
     ensures { λ marks. ⌜ Gathered n runs (now (classes .entry)) (now (start .entry)) marks ⌝ }
 {
@@ -42,7 +42,7 @@ fn gathered(start: &[bool], n: usize, runs: usize, classes: &[u16]) -> [bool; 48
 }
 
 // Marks of cells from marks of classes.
-fn spread(marks: &[bool], n: usize, runs: usize, classes: &[u16]) -> [bool; 480]
+fn spread(marks: &[bool], n: usize, runs: usize, classes: &[u16]) -> [bool; Cells::COUNT]
     requires { ⌜ (length (now marks) ≡ cellCount) × ((length (now classes) ≡ cellCount) × ((n ≤ 96) × (runs ≤ 4))) ⌝ }
     ensures { λ out. ⌜ Spread n runs (now (classes .entry)) (now (marks .entry)) out ⌝ }
 {
@@ -217,7 +217,13 @@ fn row_gain(marks: &[bool], t: &[u8], n: usize, runs: usize, classes: &[u16], x:
 }
 
 // The marks of classes when nothing can be built or taken apart any more.
-fn rounds(start: [bool; 480], t: &[u8], n: usize, runs: usize, classes: &[u16]) -> [bool; 480]
+fn rounds(
+    start: [bool; Cells::COUNT],
+    t: &[u8],
+    n: usize,
+    runs: usize,
+    classes: &[u16],
+) -> [bool; Cells::COUNT]
     requires { ⌜ Shape (now t) n runs × (length (now classes) ≡ cellCount) ⌝ }
     ensures { λ marks. ⌜ Finished (now (t .entry)) n runs (now (classes .entry)) start marks ⌝ }
 {
@@ -238,11 +244,40 @@ fn rounds(start: [bool; 480], t: &[u8], n: usize, runs: usize, classes: &[u16]) 
 }
 
 // Marks worked on until they are exact, from marks that are sound and cover what is known.
-pub fn settle(start: [bool; 480], t: &[u8], n: usize, runs: usize, classes: &[u16]) -> [bool; 480]
+pub fn settle(
+    start: [bool; Cells::COUNT],
+    t: &[u8],
+    n: usize,
+    runs: usize,
+    classes: &[u16],
+) -> [bool; Cells::COUNT]
     requires { ⌜ Shape (now t) n runs × (length (now classes) ≡ cellCount) ⌝ }
     ensures { λ marks. ⌜ Settled (rowsOf (now (t .entry))) runs (now (classes .entry)) start marks ⌝ }
 {
     let gathered_marks = gathered(&start, n, runs, classes);
     let done = rounds(gathered_marks, t, n, runs, classes);
     spread(&done, n, runs, classes)
+}
+
+// The marks when the value of row r in run u is known too.
+pub fn learn(
+    marks: [bool; Cells::COUNT],
+    t: &[u8],
+    n: usize,
+    runs: usize,
+    classes: &[u16],
+    r: usize,
+    u: usize,
+) -> [bool; Cells::COUNT]
+    requires { ⌜ Shape (now t) n runs × ((length (now classes) ≡ cellCount) × ((r < n) × (u ≤ runs))) ⌝ }
+    ensures { λ more. ⌜ Learnt (rowsOf (now (t .entry))) runs (now (classes .entry)) r u marks more ⌝ }
+    ensures { λ more. ⌜ LearnsCell (rowsOf (now (t .entry))) runs (now (classes .entry)) r u marks more ⌝ }
+{
+    let c = cell(r, u);
+    if marks[c] {
+        return marks;
+    }
+    let mut more = marks;
+    more[c] = true;
+    settle(more, t, n, runs, classes)
 }

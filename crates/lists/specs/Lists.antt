@@ -7,19 +7,14 @@ use mathlib.Core.Option.{Option, none, some}
 use lib.Dec.{ltb, leb}
 use lib.ListN.{length, getD}
 use Rattle.semantics.specs.Basic.{present}
-use Rattle.semantics.specs.Term.{Atom, trusted, untrusted, global, intruder, role, variable, local}
+use Rattle.semantics.specs.Term.{Atom}
 use Rattle.semantics.specs.Table.{Row}
 use Rattle.semantics.specs.Value.{Reading, valueOf}
+use Rattle.rows.specs.laws.Decode.{bytesOfAtom}
 
 -- the kind byte of an atom's row
 abbrev pub atomKind : Atom → ℕ
-atomKind (trusted n) = 1
-atomKind (untrusted n) = 2
-atomKind (global n) = 3
-atomKind (intruder n) = 4
-atomKind (role i) = 5
-atomKind (variable n t) = 6
-atomKind (local n u) = 7
+atomKind a = bytesOfAtom a .0
 
 -- a reading in which just the atoms with kinds from low to high stand for nothing
 abbrev pub Bars : ℕ → ℕ → Reading → Type 0

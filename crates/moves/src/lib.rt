@@ -17,7 +17,7 @@ use state::State;
 
 // Whether the next event of run k is allowed: a claim always, a send if its term has a value, a read if sender, receiver and pattern are derivable. Classes
 // and marks are those with the new values of a read.
-pub fn is_allowed(classes: &[u16], marks: &[bool; 480], k: usize, e: RunEvent) -> bool
+pub fn is_allowed(classes: &[u16], marks: &[bool; Cells::COUNT], k: usize, e: RunEvent) -> bool
     requires { ⌜ (length (now classes) ≡ cellCount) × ((k < 4) × ((e .own < 96) × ((e .peer < 96) × (e .row < 96)))) ⌝ }
     ensures { λ b. ⌜ ((t : List ℕ) (n runs : ℕ) (sc : Scenario) (d : definitions.State) (s : State) (a : Active) (vs : List Value) (names : List ℕ) → Shape t n runs → Due n runs k (e .own) (e .peer) (e .row) → NextMove t runs k e sc d s a → length (s .done) ≡ 4 → Ready sc d a vs names (now (classes .entry)) (now (marks .entry)) → ((e .kind ≡ 1 → ⊥) → vs ≡ []) → b ≡ present (performed sc d a vs)) ⌝ }
 {

@@ -4,14 +4,15 @@ ghost use Rattle.rows.specs.Rows.{rowsOf};
 ghost use Rattle.cells.specs.Cells.{Shape};
 ghost use Rattle.role_level.specs.RoleLevel.{RoleClasses};
 ghost use Rattle.role_marks.specs.Sure.{SureRows, Notes, Answers};
+use cells::Cells;
 
 // Whether the term of row x is readable: derivable, a variable, a pair of which each part is readable with the other known,
 // or an encryption whose key's inverse is derivable and whose content is readable. A row is sure if it is readable with these
 // marks or more. Before a pair is read, what is beneath its parts is tried with what both ways have in common: where that is
 // readable, it is not read twice. A quick answer, which only tries, may be no though the term is readable.
 pub fn is_readable(
-    marks: [bool; 480],
-    sure: [bool; 480],
+    marks: [bool; Cells::COUNT],
+    sure: [bool; Cells::COUNT],
     t: &[u8],
     n: usize,
     classes: &[u16],

@@ -4,3 +4,4 @@ pub mod Roles
 pub mod Events
 pub mod Absent
 pub mod Runs
+pub mod Begins

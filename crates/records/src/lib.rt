@@ -10,7 +10,7 @@ ghost use Rattle.semantics.specs.Roles.{roleLength, roleRecords, rolesPresent, 
 ghost use Rattle.semantics.specs.Runs.{runLength, runRecords, atomAt, isAgent, goodRun, badRun};
 ghost use Rattle.rows.specs.Rows.{placeAs, rowsOf, Sized};
 ghost use Rattle.lists.specs.Lists.{Valued};
-ghost use Rattle.records.specs.Records.{partAt, recordAt, eventAt, agentsIn};
+ghost use Rattle.records.specs.Records.{partAt, recordAt, eventAt, agentsIn, RoleAt, TellsGood};
 use rows::Place;
 use table::Table;
 
@@ -50,6 +50,21 @@ pub fn roles_present(b: &[u8]) -> usize
         i += 1;
     }
     i
+}
+
+// Where role record i begins in a block.
+pub fn role_at(b: &[u8], i: usize) -> usize
+    requires { ⌜ ((base : ℕ) × (i < length (roleRecords (partAt base (now b))))) ⌝ }
+    ensures { λ r. ⌜ r < length (now (b .entry)) ⌝ }
+    ensures { λ r. ⌜ RoleAt (now (b .entry)) i r ⌝ }
+{
+    let mut j = 0;
+    let mut at = 0;
+    while j < i {
+        at += role_length(&b[at..]);
+        j += 1;
+    }
+    at
 }
 
 // Whether the knowledge rows of a role record are rising, present and have no variable beneath.
@@ -102,7 +117,7 @@ fn events_fit(s: &[u8], n: usize, roles: usize) -> bool
 // Whether role record i, which begins at the front, is within the rules.
 fn good_role(s: &[u8], n: usize, clear: &[bool], roles: usize, i: usize) -> bool
     requires { ⌜ (1 ≤ length (now s)) × ((n ≤ 96) × (length (now clear) ≡ 96)) ⌝ }
-    ensures { λ r. ⌜ ((rows : List Row) (start : ℕ) → n ≡ length rows → Valued rows withoutVariables (now (clear .entry)) → r ≡ goodRole rows roles i (recordAt roleLength start (now (s .entry)))) ⌝ }
+    ensures { λ r. ⌜ TellsGood n (now (clear .entry)) roles i (now (s .entry)) r ⌝ }
 {
     if s.len() < role_length(s) {
         return false;
@@ -156,17 +171,6 @@ pub fn absent_role(t: &[u8], n: usize, roles: usize, base: usize) -> Place
     Place::Nowhere
 }
 
-// Whether a row is an agent's.
-fn is_agent(t: &[u8], n: usize, r: usize) -> bool
-    requires { ⌜ Sized (now t) n ⌝ }
-    ensures { λ b. ⌜ b ≡ isAgent (atomAt (rowsOf (now (t .entry))) r) ⌝ }
-{
-    if n <= r {
-        return false;
-    }
-    rows::kind_of(t, r) <= 2
-}
-
 // Whether the agent bytes of a run record are agents' rows.
 fn agents_fit(s: &[u8], t: &[u8], n: usize, roles: usize) -> bool
     requires { ⌜ Sized (now t) n × ((1 + roles ≤ length (now s)) × (roles ≤ 4)) ⌝ }
@@ -174,7 +178,7 @@ fn agents_fit(s: &[u8], t: &[u8], n: usize, roles: usize) -> bool
 {
     let mut i = 0;
     while i < roles {
-        if !is_agent(t, n, rows::wide(s[1 + i])) {
+        if !rows::is_agent(t, n, rows::wide(s[1 + i])) {
             return false;
         }
         i += 1;

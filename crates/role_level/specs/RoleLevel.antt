@@ -12,7 +12,7 @@ use Rattle.semantics.specs.Table.{Row}
 use Rattle.semantics.specs.Value.{asAtoms, valueOf}
 use Rattle.cells.specs.Cells.{cellCount, absent, Readings, cellValue}
 use Rattle.classes.specs.Classes.{Classes}
-use Rattle.knowledge.specs.Marks.{Exact}
+use Rattle.knowledge.specs.Marks.{Exact, Celled}
 
 -- "Run 0 serves the rows that have a value without a run (in Derive, every row)."
 abbrev pub roleReadings : Readings
@@ -34,6 +34,10 @@ RoleClasses rows classes = Classes rows 0 (cellValue roleReadings rows) classes
 -- marks that are exact at role level, for what is known
 abbrev pub RoleExact : List Row → List Term → List Bool → Type 0
 RoleExact rows known marks = Exact rows 0 roleReadings known marks
+
+-- every known term is the term of a row
+abbrev pub RoleCelled : List Row → List Term → Type 0
+RoleCelled rows known = Celled rows 0 roleReadings known
 
 -- at role level every row that is an atom names itself
 pub record OwnNames (n : ℕ) (names : List ℕ) : Type 0 where

@@ -8,13 +8,14 @@ ghost use Rattle.semantics.specs.Value.{asAtoms};
 ghost use Rattle.rows.specs.Rows.{rowsOf};
 ghost use Rattle.cells.specs.Cells.{cellCount, Shape};
 ghost use Rattle.role_level.specs.RoleLevel.{listedTerms, RoleClasses, RoleExact, OwnNames, ListedMarks, ListedBelow};
+use cells::Cells;
 
 // The names at role level: each row names itself.
-fn own_names(n: usize) -> [u16; 480]
+fn own_names(n: usize) -> [u16; Cells::COUNT]
     requires { ⌜ n ≤ 96 ⌝ }
     ensures { λ names. ⌜ OwnNames n names ⌝ }
 {
-    let mut names = [480u16; 480];
+    let mut names = [Cells::ABSENT; Cells::COUNT];
     let mut r = 0;
     while r < n {
         names[r] = r as u16;
@@ -24,7 +25,7 @@ fn own_names(n: usize) -> [u16; 480]
 }
 
 // The marks of the listed rows.
-fn listed_marks(list: &[u8], n: usize) -> [bool; 480]
+fn listed_marks(list: &[u8], n: usize) -> [bool; Cells::COUNT]
     requires { ⌜ (n ≤ 96) × ListedBelow n (now list) ⌝ }
     ensures { λ marks. ⌜ ListedMarks n (now (list .entry)) marks ⌝ }
 {
@@ -38,18 +39,18 @@ fn listed_marks(list: &[u8], n: usize) -> [bool; 480]
 }
 
 // The classes of a table's rows.
-pub fn classes_of(t: &[u8], n: usize) -> [u16; 480]
+pub fn classes_of(t: &[u8], n: usize) -> [u16; Cells::COUNT]
     requires { ⌜ Shape (now t) n 0 ⌝ }
     ensures { λ classes. ⌜ RoleClasses (rowsOf (now (t .entry))) classes ⌝ }
 {
     let names = own_names(n);
-    let mut classes = [480u16; 480];
+    let mut classes = [Cells::ABSENT; Cells::COUNT];
     classes::refill(&mut classes, t, n, 0, &names, 0);
     classes
 }
 
 // The marks of all that is derivable from listed rows.
-pub fn marks_of(t: &[u8], n: usize, classes: &[u16], list: &[u8]) -> [bool; 480]
+pub fn marks_of(t: &[u8], n: usize, classes: &[u16], list: &[u8]) -> [bool; Cells::COUNT]
     requires { ⌜ Shape (now t) n 0 × (RoleClasses (rowsOf (now t)) (now classes) × ListedBelow n (now list)) ⌝ }
     ensures { λ marks. ⌜ RoleExact (rowsOf (now (t .entry))) (listedTerms (rowsOf (now (t .entry))) (now (list .entry))) marks ⌝ }
 {

@@ -48,6 +48,10 @@ pub record Shared (n : ℕ) (one other both : List Bool) : Type 0 where
 abbrev pub Added : ℕ → Bool → List Bool → List Bool → Type 0
 Added x found marks more = (y : ℕ) → On more y → On marks y ⊎ ((y ≡ x) × (found ≡ true))
 
+-- how many notes there are: 96 hints and 128 owners, with room behind them, and 128 slots of 96 rows
+abbrev pub noteCount : ℕ
+noteCount = 12544
+
 -- the note of a row in a slot
 abbrev pub noteAt : List ℕ → ℕ → ℕ → ℕ
 noteAt notes slot x = getD notes (256 + slot * 96 + x) 0
@@ -82,7 +86,7 @@ pub record Stored (n : ℕ) (marks : List Bool) (x : ℕ) (notes after : List �
 
 -- What is noted while a term is read: for each row a hint, which promises nothing; 128 slots, and in each that is not row 0's marks with which its row is readable.
 pub record Notes (rows : List Row) (notes : List ℕ) : Type 0 where
-  pub size : length notes ≡ 12544
+  pub size : length notes ≡ noteCount
   pub kept : (slot : ℕ) → slot < 128 → (ownerOf notes slot ≡ 0 → ⊥) → (marks : List Bool) → SlotStands (length rows) marks notes slot → Sure rows marks (ownerOf notes slot)
 
 -- What `is_readable` answers: yes only if it is sure of the row, and no, unless the answer is quick, only of a term that is not readable.

@@ -7,7 +7,15 @@ ghost use Rattle.rows.specs.Rows.{rowsOf};
 ghost use Rattle.cells.specs.Cells.{cellCount, Shape};
 ghost use Rattle.role_level.specs.RoleLevel.{RoleClasses};
 ghost use Rattle.role_marks.specs.Marks.{RowMarked, NameKnown, InverseKnown, Learns};
-ghost use Rattle.role_marks.specs.Sure.{Gains, Opens, InBoth, Shared, Added, SlotStands, KeptFor, SlotFilled, Stored};
+ghost use Rattle.role_marks.specs.Sure.{noteCount, Gains, Opens, InBoth, Shared, Added, SlotStands, KeptFor, SlotFilled, Stored};
+use cells::Cells;
+
+// Notes: a hint for each row, the row of each of 128 slots, and each slot's marks.
+pub struct Notes {}
+
+impl Notes {
+    pub const COUNT: usize = 12544;
+}
 
 // Whether there is a row with the given kind and left byte that is marked.
 fn row_marked(marks: &[bool], t: &[u8], n: usize, kind: usize, left: usize) -> bool
@@ -52,21 +60,22 @@ pub fn inverse_known(marks: &[bool], t: &[u8], n: usize, k: usize) -> bool
 }
 
 // The marks when the term of row x is known too.
-pub fn learned(marks: [bool; 480], t: &[u8], n: usize, classes: &[u16], x: usize) -> [bool; 480]
+pub fn learned(
+    marks: [bool; Cells::COUNT],
+    t: &[u8],
+    n: usize,
+    classes: &[u16],
+    x: usize,
+) -> [bool; Cells::COUNT]
     requires { ⌜ Shape (now t) n 0 × (RoleClasses (rowsOf (now t)) (now classes) × (x < n)) ⌝ }
     ensures { λ r. ⌜ Learns (rowsOf (now (t .entry))) x marks r × Gains (rowsOf (now (t .entry))) x marks r ⌝ }
 {
-    if marks[x] {
-        return marks;
-    }
-    let mut more = marks;
-    more[x] = true;
-    knowledge::settle(more, t, n, 0, classes)
+    knowledge::learn(marks, t, n, 0, classes, x, 0)
 }
 
 // Whether row x is marked in both.
 fn in_both(one: &[bool], other: &[bool], x: usize) -> bool
-    requires { ⌜ (x < 480) × ((length (now one) ≡ cellCount) × (length (now other) ≡ cellCount)) ⌝ }
+    requires { ⌜ (x < cellCount) × ((length (now one) ≡ cellCount) × (length (now other) ≡ cellCount)) ⌝ }
     ensures { λ r. ⌜ InBoth (now (one .entry)) (now (other .entry)) x r ⌝ }
 {
     if one[x] {
@@ -76,7 +85,7 @@ fn in_both(one: &[bool], other: &[bool], x: usize) -> bool
 }
 
 // The rows that are marked in both.
-pub fn shared(one: &[bool], other: &[bool], n: usize) -> [bool; 480]
+pub fn shared(one: &[bool], other: &[bool], n: usize) -> [bool; Cells::COUNT]
     requires { ⌜ (n ≤ 96) × ((length (now one) ≡ cellCount) × (length (now other) ≡ cellCount)) ⌝ }
     ensures { λ both. ⌜ Shared n (now (one .entry)) (now (other .entry)) both ⌝ }
 {
@@ -90,7 +99,7 @@ pub fn shared(one: &[bool], other: &[bool], n: usize) -> [bool; 480]
 }
 
 // Marks with one more, if it was found.
-pub fn added(marks: [bool; 480], x: usize, found: bool) -> [bool; 480]
+pub fn added(marks: [bool; Cells::COUNT], x: usize, found: bool) -> [bool; Cells::COUNT]
     requires { ⌜ x < 96 ⌝ }
     ensures { λ more. ⌜ Added x found marks more ⌝ }
 {
@@ -146,7 +155,7 @@ fn follow(
     notes: &[u8],
     x: usize,
 ) -> usize
-    requires { ⌜ (length (now more) ≡ cellCount) × ((length (now way) ≡ cellCount) × (Shape (now t) n 0 × ((length (now sure) ≡ cellCount) × ((length (now notes) ≡ 12544) × (x < n))))) ⌝ }
+    requires { ⌜ (length (now more) ≡ cellCount) × ((length (now way) ≡ cellCount) × (Shape (now t) n 0 × ((length (now sure) ≡ cellCount) × ((length (now notes) ≡ noteCount) × (x < n))))) ⌝ }
 {
     if more[x] {
         return 96;
@@ -187,7 +196,7 @@ fn follow(
 
 // Whether a quick try is given up: the way that the notes remember as not readable still is not, by the marks that now stand.
 pub fn gives_up(
-    marks: [bool; 480],
+    marks: [bool; Cells::COUNT],
     sure: &[bool],
     t: &[u8],
     n: usize,
@@ -196,7 +205,7 @@ pub fn gives_up(
     quick: bool,
     x: usize,
 ) -> bool
-    requires { ⌜ Shape (now t) n 0 × (RoleClasses (rowsOf (now t)) (now classes) × ((length (now sure) ≡ cellCount) × ((length (now notes) ≡ 12544) × (x < n)))) ⌝ }
+    requires { ⌜ Shape (now t) n 0 × (RoleClasses (rowsOf (now t)) (now classes) × ((length (now sure) ≡ cellCount) × ((length (now notes) ≡ noteCount) × (x < n)))) ⌝ }
     ensures { λ r. ⌜ (r ≡ true → quick ≡ true) ⌝ }
 {
     if quick {
@@ -220,7 +229,7 @@ pub fn gives_up(
 
 // Whether all marks that are kept in a slot stand.
 fn covers(marks: &[bool], notes: &[u8], n: usize, slot: usize) -> bool
-    requires { ⌜ (n ≤ 96) × ((slot < 128) × ((length (now marks) ≡ cellCount) × (length (now notes) ≡ 12544))) ⌝ }
+    requires { ⌜ (n ≤ 96) × ((slot < 128) × ((length (now marks) ≡ cellCount) × (length (now notes) ≡ noteCount))) ⌝ }
     ensures { λ r. ⌜ (r ≡ true → SlotStands n (now (marks .entry)) (now (notes .entry)) slot) ⌝ }
 {
     let mut x = 0;
@@ -237,7 +246,7 @@ fn covers(marks: &[bool], notes: &[u8], n: usize, slot: usize) -> bool
 
 // Whether row x was found readable with marks that stand.
 pub fn is_kept(marks: &[bool], notes: &[u8], n: usize, x: usize) -> bool
-    requires { ⌜ (n ≤ 96) × ((length (now marks) ≡ cellCount) × (length (now notes) ≡ 12544)) ⌝ }
+    requires { ⌜ (n ≤ 96) × ((length (now marks) ≡ cellCount) × (length (now notes) ≡ noteCount)) ⌝ }
     ensures { λ r. ⌜ (r ≡ true → KeptFor n (now (marks .entry)) (now (notes .entry)) x) ⌝ }
 {
     let mut slot = 0;
@@ -264,7 +273,7 @@ fn byte_of(mark: bool) -> u8
 
 // Puts marks into a slot.
 fn fill_slot(marks: &[bool], notes: &mut [u8], n: usize, slot: usize)
-    requires { ⌜ (n ≤ 96) × ((slot < 128) × ((length (now marks) ≡ cellCount) × (length (now notes) ≡ 12544))) ⌝ }
+    requires { ⌜ (n ≤ 96) × ((slot < 128) × ((length (now marks) ≡ cellCount) × (length (now notes) ≡ noteCount))) ⌝ }
     ensures { λ _. ⌜ SlotFilled n (now (marks .entry)) slot (now (notes .entry)) (now (notes .exit)) ⌝ }
 {
     let mut x = 0;
@@ -276,7 +285,7 @@ fn fill_slot(marks: &[bool], notes: &mut [u8], n: usize, slot: usize)
 
 // Keeps the marks with which row x is readable, in place of the oldest that are kept.
 pub fn keep(marks: &[bool], notes: &mut [u8], n: usize, x: usize)
-    requires { ⌜ (n ≤ 96) × ((x < n) × ((length (now marks) ≡ cellCount) × (length (now notes) ≡ 12544))) ⌝ }
+    requires { ⌜ (n ≤ 96) × ((x < n) × ((length (now marks) ≡ cellCount) × (length (now notes) ≡ noteCount))) ⌝ }
     ensures { λ _. ⌜ Stored n (now (marks .entry)) x (now (notes .entry)) (now (notes .exit)) ⌝ }
 {
     let slot = rows::wide(notes[224]) % 128;

@@ -2,3 +2,4 @@
 pub mod Decode
 pub mod Table
 pub mod Places
+pub mod Agents

@@ -1,7 +1,9 @@
-// Access to the rows of a table, three bytes each: kind, left, right; and a place that may be missing.
+// Access to the rows of a table, three bytes each: kind, left, right; whether a row is an agent's; and a place that may be missing.
 ghost use mathlib.Core.Path.{_≡_};
 ghost use Prim.Native.Nat.{_+_, _*_, _<_};
 ghost use lib.ListN.{length, getD};
+ghost use Rattle.semantics.specs.Runs.{atomAt, isAgent, isTrusted};
+ghost use Rattle.rows.specs.Rows.{rowsOf, Sized};
 
 // A place, if there is one.
 pub enum Place {
@@ -38,4 +40,26 @@ pub fn right_of(t: &[u8], r: usize) -> usize
     ensures { λ k. ⌜ (k ≡ getD (now (t .entry)) (3 * r + 2) 0) × (k < 256) ⌝ }
 {
     wide(t[3 * r + 2])
+}
+
+// Whether a row is an agent's.
+pub fn is_agent(t: &[u8], n: usize, r: usize) -> bool
+    requires { ⌜ Sized (now t) n ⌝ }
+    ensures { λ b. ⌜ b ≡ isAgent (atomAt (rowsOf (now (t .entry))) r) ⌝ }
+{
+    if n <= r {
+        return false;
+    }
+    kind_of(t, r) <= 2
+}
+
+// Whether a row is a trusted agent's.
+pub fn is_trusted(t: &[u8], n: usize, r: usize) -> bool
+    requires { ⌜ Sized (now t) n ⌝ }
+    ensures { λ b. ⌜ b ≡ isTrusted (atomAt (rowsOf (now (t .entry))) r) ⌝ }
+{
+    if n <= r {
+        return false;
+    }
+    kind_of(t, r) == 1
 }

@@ -1,17 +1,21 @@
 -- Where the runs of an accepted file stand: their records, and the events of their roles. Assumes nothing.
 use Prim.Native.Nat.{ℕ, _+_, _*_, _<_, _≤_}
 use mathlib.Core.Path.{_≡_}
+use mathlib.Core.Bool.{Bool}
 use mathlib.Core.List.{List}
 use mathlib.Core.Option.{some}
 use lib.Dec.{T}
 use lib.ListN.{length, getD, getElem?}
 use Rattle.semantics.specs.Roles.{Event, eventKinds}
-use Rattle.semantics.specs.Runs.{Run, atomAt, isAgent}
+use Rattle.semantics.specs.Runs.{Run, atomAt, isAgent, allTrusted}
 use Rattle.semantics.specs.Answer.{accepted}
 use Rattle.semantics.specs.Scenario.{Scenario, runPart, opened}
+use Rattle.semantics.specs.Guarantee.{Guarantee}
 use Rattle.semantics.specs.State.{eventsOf}
+use Rattle.rows.specs.Rows.{rowsOf}
 use Rattle.records.specs.Records.{eventAt}
 use Rattle.runs.specs.declared.Runs.{Runs}
+use Rattle.runs.specs.declared.RunEvent.{RunEvent}
 
 -- A run whose record begins at `start`, and whose role's events, so many, begin at `first`.
 pub record RunAt (file : List ℕ) (sc : Scenario) (run : Run) (start first events : ℕ) : Type 0 where
@@ -52,3 +56,18 @@ pub record IsRun (file : List ℕ) (sc : Scenario) (k start : ℕ) : Type 0 wher
 pub record AgentsAt (file : List ℕ) (start roles : ℕ) (agents : List ℕ) : Type 0 where
   pub count : length agents ≡ roles
   pub each : (i : ℕ) → i < roles → getElem? agents i ≡ some (getD file (start + 1 + i) 0)
+
+-- where the events of the run stand whose record begins at `start`
+abbrev pub FindsEvents : List ℕ → ℕ → ℕ → ℕ → Type 0
+FindsEvents file start first count = (sc : Scenario) (k : ℕ) (run : Run) → IsRun file sc k start → getElem? (sc .runs) k ≡ some run → RunAt file sc run start first count
+
+-- what is read of event j of run k
+abbrev pub Reads : List ℕ → Runs → ℕ → ℕ → RunEvent → Type 0
+Reads file r k j e =
+    (sc : Scenario) (run : Run) (ev : Event) → RunsAt file sc r → Guarantee sc → getElem? (sc .runs) k ≡ some run → getElem? (eventsOf sc run) j ≡ some ev
+    → EventRead sc run ev (e .kind) (e .own) (e .peer) (e .row)
+
+-- whether all agents of run k are trusted
+abbrev pub TellsTrusted : List ℕ → List ℕ → Runs → ℕ → Bool → Type 0
+TellsTrusted file t r k b =
+    (sc : Scenario) (run : Run) → sc .rows ≡ rowsOf t → RunsAt file sc r → Guarantee sc → getElem? (sc .runs) k ≡ some run → b ≡ allTrusted (sc .rows) run

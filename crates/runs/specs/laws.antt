@@ -1,6 +1,5 @@
 -- The laws of runs in a file, with their proofs.
 pub mod Blocks
-pub mod Begins
 pub mod Events
 pub mod Found
 pub mod Listed

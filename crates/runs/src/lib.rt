@@ -1,20 +1,16 @@
 // The runs of an accepted file: where their records stand, and the events and agents that they have.
 ghost use mathlib.Core.Path.{_≡_};
 ghost use mathlib.Core.List.{List};
-ghost use mathlib.Core.Option.{some};
 ghost use Prim.Native.Nat.{ℕ, _+_, _<_};
-ghost use lib.ListN.{length, getD, getElem?, drop};
+ghost use lib.ListN.{length, getD};
 ghost use Rattle.semantics.specs.Answer.{accepted};
-ghost use Rattle.semantics.specs.Roles.{Event, roleLength, roleRecords};
 ghost use Rattle.semantics.specs.Basic.{every};
-ghost use Rattle.semantics.specs.Runs.{Run, atomAt, isTrusted, allTrusted};
+ghost use Rattle.semantics.specs.Runs.{atomAt, isTrusted};
 ghost use Rattle.semantics.specs.Guarantee.{Guarantee};
 ghost use Rattle.semantics.specs.Scenario.{Scenario, opened};
-ghost use Rattle.semantics.specs.State.{eventsOf};
 ghost use Rattle.rows.specs.Rows.{rowsOf, Sized};
-ghost use Rattle.records.specs.Records.{partAt, recordAt};
 ghost use Rattle.answers.specs.Answers.{layoutOf};
-ghost use Rattle.runs.specs.Runs.{RunAt, RunsAt, EventRead, IsRun, AgentsAt};
+ghost use Rattle.runs.specs.Runs.{RunsAt, IsRun, AgentsAt, FindsEvents, Reads, TellsTrusted};
 use answers::Layout;
 
 // Where the runs stand: how many, how many agents each names; for each the offset of its record, that of its role's first event, and how many events it has.
@@ -40,28 +36,14 @@ struct Events {
     count: usize,
 }
 
-// Where role record i begins in a block.
-fn role_at(b: &[u8], i: usize) -> usize
-    requires { ⌜ ((base : ℕ) × (i < length (roleRecords (partAt base (now b))))) ⌝ }
-    ensures { λ r. ⌜ (r < length (now (b .entry))) × ((base : ℕ) → getElem? (roleRecords (partAt base (now (b .entry)))) i ≡ some (recordAt roleLength (base + r) (drop r (now (b .entry))))) ⌝ }
-{
-    let mut j = 0;
-    let mut at = 0;
-    while j < i {
-        at += records::role_length(&b[at..]);
-        j += 1;
-    }
-    at
-}
-
 // The events of the run whose record begins at an offset.
 fn events_from(file: &[u8], start: usize) -> Events
     requires { ⌜ ((sc : Scenario) × (k : ℕ) × IsRun (now file) sc k start) ⌝ }
-    ensures { λ e. ⌜ ((sc : Scenario) (k : ℕ) (run : Run) → IsRun (now (file .entry)) sc k start → getElem? (sc .runs) k ≡ some run → RunAt (now (file .entry)) sc run start (e .first) (e .count)) ⌝ }
+    ensures { λ e. ⌜ FindsEvents (now (file .entry)) start (e .first) (e .count) ⌝ }
 {
     let b = frame::block_of(file, 1);
     let base = frame::start_of(file, 1);
-    let at = role_at(b, rows::wide(file[start]));
+    let at = records::role_at(b, rows::wide(file[start]));
     let first = at + 2 + rows::wide(b[at]);
     Events {
         first: base + first,
@@ -109,7 +91,7 @@ fn agent_of(file: &[u8], start: usize, role: usize) -> usize
 // Event j of run k.
 pub fn event_of(file: &[u8], r: Runs, k: usize, j: usize) -> RunEvent
     requires { ⌜ ((sc : Scenario) × RunsAt (now file) sc r × Guarantee sc × (k < r .count) × (j < getD (r .events) k 0)) ⌝ }
-    ensures { λ e. ⌜ ((sc : Scenario) (run : Run) (ev : Event) → RunsAt (now (file .entry)) sc r → Guarantee sc → getElem? (sc .runs) k ≡ some run → getElem? (eventsOf sc run) j ≡ some ev → EventRead sc run ev (e .kind) (e .own) (e .peer) (e .row)) ⌝ }
+    ensures { λ e. ⌜ Reads (now (file .entry)) r k j e ⌝ }
 {
     let start = r.starts[k];
     let at = r.firsts[k] + 4 * j;
@@ -121,17 +103,6 @@ pub fn event_of(file: &[u8], r: Runs, k: usize, j: usize) -> RunEvent
     }
 }
 
-// Whether a row is a trusted agent's.
-fn is_trusted(t: &[u8], n: usize, r: usize) -> bool
-    requires { ⌜ Sized (now t) n ⌝ }
-    ensures { λ b. ⌜ b ≡ isTrusted (atomAt (rowsOf (now (t .entry))) r) ⌝ }
-{
-    if n <= r {
-        return false;
-    }
-    rows::kind_of(t, r) == 1
-}
-
 // Whether all agents of the run whose record begins at an offset are trusted.
 fn trusted_from(file: &[u8], t: &[u8], n: usize, start: usize, roles: usize) -> bool
     requires { ⌜ Sized (now t) n × (start + roles < length (now file)) ⌝ }
@@ -139,7 +110,7 @@ fn trusted_from(file: &[u8], t: &[u8], n: usize, start: usize, roles: usize) -> 
 {
     let mut i = 0;
     while i < roles {
-        if !is_trusted(t, n, agent_of(file, start, i)) {
+        if !rows::is_trusted(t, n, agent_of(file, start, i)) {
             return false;
         }
         i += 1;
@@ -150,7 +121,7 @@ fn trusted_from(file: &[u8], t: &[u8], n: usize, start: usize, roles: usize) -> 
 // Whether all agents of run k are trusted.
 pub fn all_trusted(file: &[u8], t: &[u8], n: usize, r: Runs, k: usize) -> bool
     requires { ⌜ Sized (now t) n × ((sc : Scenario) × RunsAt (now file) sc r × Guarantee sc × (k < r .count)) ⌝ }
-    ensures { λ b. ⌜ ((sc : Scenario) (run : Run) → sc .rows ≡ rowsOf (now (t .entry)) → RunsAt (now (file .entry)) sc r → Guarantee sc → getElem? (sc .runs) k ≡ some run → b ≡ allTrusted (sc .rows) run) ⌝ }
+    ensures { λ b. ⌜ TellsTrusted (now (file .entry)) (now (t .entry)) r k b ⌝ }
 {
     let start = r.starts[k];
     trusted_from(file, t, n, start, r.roles)

@@ -34,7 +34,13 @@ fn name_of(t: &[u8], n: usize, r: usize, u: usize, agents: &[u8]) -> u16
 }
 
 // The names with those of run u filled in.
-pub fn entered(names: [u16; 480], t: &[u8], n: usize, u: usize, agents: &[u8]) -> [u16; 480]
+pub fn entered(
+    names: [u16; Cells::COUNT],
+    t: &[u8],
+    n: usize,
+    u: usize,
+    agents: &[u8],
+) -> [u16; Cells::COUNT]
     requires { ⌜ Shape (now t) n 0 × ((u ≤ 4) × AreAgents (rowsOf (now t)) (now agents)) ⌝ }
     ensures { λ more. ⌜ Entered (rowsOf (now (t .entry))) u (now (agents .entry)) names more ⌝ }
 {
@@ -49,7 +55,7 @@ pub fn entered(names: [u16; 480], t: &[u8], n: usize, u: usize, agents: &[u8]) -
 }
 
 // The marks of the intruder constants.
-fn intruder_marks(t: &[u8], n: usize) -> [bool; 480]
+fn intruder_marks(t: &[u8], n: usize) -> [bool; Cells::COUNT]
     requires { ⌜ Shape (now t) n 0 ⌝ }
     ensures { λ marks. ⌜ StartMarks (now (t .entry)) n [] marks ⌝ }
 {
@@ -65,7 +71,7 @@ fn intruder_marks(t: &[u8], n: usize) -> [bool; 480]
 }
 
 // The marks of the intruder constants and of the listed rows.
-pub fn start_marks(t: &[u8], n: usize, list: &[u8]) -> [bool; 480]
+pub fn start_marks(t: &[u8], n: usize, list: &[u8]) -> [bool; Cells::COUNT]
     requires { ⌜ Shape (now t) n 0 × ListedBelow n (now list) ⌝ }
     ensures { λ marks. ⌜ StartMarks (now (t .entry)) n (now (list .entry)) marks ⌝ }
 {

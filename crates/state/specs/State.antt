@@ -31,12 +31,6 @@ pub record Given (file t : List ℕ) (n : ℕ) (r : Runs) (sc : Scenario) : Type
   pub rows : sc .rows ≡ rowsOf t
   pub good : Guarantee sc
 
--- marks with the value of a row in a run known too, whatever the readings and whatever is known
-abbrev pub LearnsCell : List Row → ℕ → List ℕ → ℕ → ℕ → List Bool → List Bool → Type 0
-LearnsCell rows runs classes r u marks more =
-    (readings : Readings) (known : List Term) (t : Term) → Classes rows runs (cellValue readings rows) classes → Celled rows runs readings known
-    → Exact rows runs readings known marks → cellValue readings rows r u ≡ some t → Celled rows runs readings (t ∷ known) × Exact rows runs readings (t ∷ known) more
-
 -- a run, counted from 0, and rows of the table for an event's agents and term
 pub record Due (n runs k own peer row : ℕ) : Type 0 where
   pub isRun : k < runs

@@ -1,6 +1,5 @@
 -- The laws of states and moves, with their proofs.
 pub mod Readings
-pub mod Learn
 pub mod Grown
 pub mod Moves
 pub mod Performed

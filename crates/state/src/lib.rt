@@ -13,7 +13,7 @@ ghost use Rattle.classes.specs.Classes.{Refilled};
 ghost use Rattle.knowledge.specs.Marks.{Settled};
 ghost use Rattle.runs.specs.Runs.{RunsAt};
 ghost use Rattle.state.specs.Start.{Agents};
-ghost use Rattle.state.specs.State.{Given, IsState, LearnsCell, Due, NextMove, Ready, Performed};
+ghost use Rattle.state.specs.State.{Given, IsState, Due, NextMove, Ready, Performed};
 use cells::Cells;
 use cells::cell;
 use runs::RunEvent;
@@ -22,37 +22,15 @@ use runs::Runs;
 // How far each run has come, what its atoms stand for, the classes of values, and the marks, taken apart.
 pub struct State {
     pub done: [usize; 4],
-    pub names: [u16; 480],
-    pub classes: [u16; 480],
-    pub marks: [bool; 480],
+    pub names: [u16; Cells::COUNT],
+    pub classes: [u16; Cells::COUNT],
+    pub marks: [bool; Cells::COUNT],
 }
 
 // What a move answers: whether it is allowed, and the marks after it. Names and classes stay as they are given.
 pub struct Moved {
     pub allowed: bool,
-    pub marks: [bool; 480],
-}
-
-// The marks when the value of row r in run u is known too.
-fn learn(
-    marks: [bool; 480],
-    t: &[u8],
-    n: usize,
-    runs: usize,
-    classes: &[u16],
-    r: usize,
-    u: usize,
-) -> [bool; 480]
-    requires { ⌜ Shape (now t) n runs × ((length (now classes) ≡ cellCount) × ((r < n) × (u ≤ runs))) ⌝ }
-    ensures { λ more. ⌜ LearnsCell (rowsOf (now (t .entry))) runs (now (classes .entry)) r u marks more ⌝ }
-{
-    let c = cell(r, u);
-    if marks[c] {
-        return marks;
-    }
-    let mut more = marks;
-    more[c] = true;
-    knowledge::settle(more, t, n, runs, classes)
+    pub marks: [bool; Cells::COUNT],
 }
 
 // How far each run has come once run k, from 0, has made one more event.
@@ -66,11 +44,11 @@ pub fn advance(done: [usize; 4], k: usize) -> [usize; 4]
 }
 
 // Numbers of cells as an array of their own.
-pub fn copied(cells: &[u16]) -> [u16; 480]
+pub fn copied(cells: &[u16]) -> [u16; Cells::COUNT]
     requires { ⌜ length (now cells) ≡ cellCount ⌝ }
     ensures { λ r. ⌜ r ≡ now (cells .entry) ⌝ }
 {
-    let mut own = [0; 480];
+    let mut own = [0; Cells::COUNT];
     let mut i = 0;
     while i < Cells::COUNT {
         own[i] = cells[i];
@@ -82,13 +60,13 @@ pub fn copied(cells: &[u16]) -> [u16; 480]
 // The marks once the names of run u have grown; the classes are filled anew.
 pub fn with_names(
     classes: &mut [u16],
-    marks: [bool; 480],
+    marks: [bool; Cells::COUNT],
     names: &[u16],
     t: &[u8],
     n: usize,
     runs: usize,
     u: usize,
-) -> [bool; 480]
+) -> [bool; Cells::COUNT]
     requires { ⌜ Shape (now t) n runs × ((length (now classes) ≡ cellCount) × ((length (now names) ≡ cellCount) × (u ≤ runs))) ⌝ }
     ensures { λ more. ⌜ Refilled (rowsOf (now (t .entry))) runs u (now (names .entry)) (now (classes .entry)) (now (classes .exit)) × Settled (rowsOf (now (t .entry))) runs (now (classes .exit)) marks more ⌝ }
 {
@@ -99,7 +77,7 @@ pub fn with_names(
 // The marks after a send of run k: sender, receiver and term are known. A term without a value is not sent.
 fn sent(
     classes: &[u16],
-    marks: [bool; 480],
+    marks: [bool; Cells::COUNT],
     t: &[u8],
     n: usize,
     runs: usize,
@@ -116,9 +94,9 @@ fn sent(
             marks,
         };
     }
-    let term = learn(marks, t, n, runs, classes, e.row, k + 1);
-    let receiver = learn(term, t, n, runs, classes, e.peer, 0);
-    let sender = learn(receiver, t, n, runs, classes, e.own, 0);
+    let term = knowledge::learn(marks, t, n, runs, classes, e.row, k + 1);
+    let receiver = knowledge::learn(term, t, n, runs, classes, e.peer, 0);
+    let sender = knowledge::learn(receiver, t, n, runs, classes, e.own, 0);
     Moved {
         allowed: true,
         marks: sender,
@@ -126,7 +104,7 @@ fn sent(
 }
 
 // A read of run k is allowed if sender, receiver and pattern are derivable with the new values.
-fn was_read(marks: [bool; 480], k: usize, e: RunEvent) -> Moved
+fn was_read(marks: [bool; Cells::COUNT], k: usize, e: RunEvent) -> Moved
     requires { ⌜ (k < 4) × ((e .own < 96) × ((e .peer < 96) × (e .row < 96))) ⌝ }
     ensures { λ moved. ⌜ ((t : List ℕ) (n runs : ℕ) (sc : Scenario) (d : definitions.State) (s : State) (a : Active) (vs : List Value) (names classes : List ℕ) → Shape t n runs → Due n runs k (e .own) (e .peer) (e .row) → NextMove t runs k e sc d s a → length (s .done) ≡ 4 → Ready sc d a vs names classes marks → e .kind ≡ 1 → Performed sc d a vs (s .done) k names classes moved) ⌝ }
 {
@@ -154,7 +132,7 @@ fn was_read(marks: [bool; 480], k: usize, e: RunEvent) -> Moved
 // Whether the next event of run k is allowed, and the marks after it. Classes and marks are those with the new values of a read.
 pub fn perform(
     classes: &[u16],
-    marks: [bool; 480],
+    marks: [bool; Cells::COUNT],
     t: &[u8],
     n: usize,
     runs: usize,
@@ -194,8 +172,6 @@ fn agents_of(file: &[u8], r: Runs, u: usize) -> &[u8]
 impl State {
     // how many events a run has made before any move
     pub const NONE_DONE: usize = 0;
-    // as a name or a class before any move: no value
-    pub const NO_VALUE: u16 = 480;
 
     // The state before any move: what is known is the file's list and all intruder constants.
     pub fn initial(file: &[u8], t: &[u8], n: usize, r: Runs, list: &[u8]) -> State
@@ -203,8 +179,8 @@ impl State {
         ensures { λ s. ⌜ ((sc : Scenario) → Given (now (file .entry)) (now (t .entry)) n r sc → now (list .entry) ≡ sc .knowledge → IsState sc (definitions.initial sc) s) ⌝ }
     {
         let runs = r.count;
-        let mut names = [State::NO_VALUE; 480];
-        let mut classes = [State::NO_VALUE; 480];
+        let mut names = [Cells::ABSENT; Cells::COUNT];
+        let mut classes = [Cells::ABSENT; Cells::COUNT];
         let mut u = 0;
         while u <= runs {
             let agents = agents_of(file, r, u);

@@ -8,6 +8,7 @@ ghost use Rattle.rows.specs.Rows.{rowsOf};
 ghost use Rattle.cells.specs.Cells.{Shape, cellCount};
 ghost use Rattle.state.specs.State.{Given, IsState};
 ghost use Rattle.steps.specs.Steps.{StepDone, Worked};
+use cells::Cells;
 use runs::RunEvent;
 use runs::Runs;
 use state::State;
@@ -22,14 +23,14 @@ pub struct Stepped {
 // The marks for the event of run k with its new values, and its classes: worked on for a read, which alone has new values.
 fn worked(
     classes: &mut [u16],
-    marks: [bool; 480],
+    marks: [bool; Cells::COUNT],
     names: &[u16],
     t: &[u8],
     n: usize,
     runs: usize,
     k: usize,
     e: RunEvent,
-) -> [bool; 480]
+) -> [bool; Cells::COUNT]
     requires { ⌜ Shape (now t) n runs × ((length (now classes) ≡ cellCount) × ((length (now names) ≡ cellCount) × (k < runs))) ⌝ }
     ensures { λ more. ⌜ Worked (rowsOf (now (t .entry))) runs k (e .kind) (now (names .entry)) (now (classes .entry)) marks (now (classes .exit)) more ⌝ }
 {

@@ -14,21 +14,20 @@ use Rattle.semantics.specs.WellFormed.{wellFormed, learned, illFormedFrom}
 use Rattle.rows.specs.Rows.{placeAs}
 use Rattle.rows.specs.declared.Place.{Place}
 use Rattle.rows.specs.declared.Place.the-variants.{At, Nowhere}
-use Rattle.role_level.specs.RoleLevel.{listedTerms, RoleExact, ListedBelow}
-use Rattle.role_marks.specs.Marks.{Covered}
+use Rattle.role_level.specs.RoleLevel.{RoleCelled, listedTerms, RoleExact, ListedBelow}
 use Rattle.records.specs.Records.{partAt}
 
 -- whether an event is well formed
 abbrev pub WellFormedEvent : List Row → List Bool → ℕ → ℕ → ℕ → ℕ → Bool → Type 0
 WellFormedEvent rows marks own kind peer x r =
-    (known : List Term) (e : EventKind) (t : Term) → Covered rows known → RoleExact rows known marks → getElem? eventKinds kind ≡ some e
+    (known : List Term) (e : EventKind) (t : Term) → RoleCelled rows known → RoleExact rows known marks → getElem? eventKinds kind ≡ some e
     → valueOf asAtoms rows x ≡ some t → r ≡ wellFormed own known e peer t
 
 -- marks with what an event makes known
 abbrev pub EventLearns : List Row → ℕ → ℕ → List Bool → List Bool → Type 0
 EventLearns rows kind x marks more =
-    (known : List Term) (e : EventKind) (t : Term) → Covered rows known → RoleExact rows known marks → getElem? eventKinds kind ≡ some e
-    → valueOf asAtoms rows x ≡ some t → Covered rows (learned known e t) × RoleExact rows (learned known e t) more
+    (known : List Term) (e : EventKind) (t : Term) → RoleCelled rows known → RoleExact rows known marks → getElem? eventKinds kind ≡ some e
+    → valueOf asAtoms rows x ≡ some t → RoleCelled rows (learned known e t) × RoleExact rows (learned known e t) more
 
 -- four bytes are an event of a kind, with a row of the table
 abbrev pub IsEvent : List Row → List ℕ → ℕ → Type 0

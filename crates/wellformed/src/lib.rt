@@ -9,11 +9,13 @@ ghost use Rattle.cells.specs.Cells.{Shape};
 ghost use Rattle.role_level.specs.RoleLevel.{RoleClasses};
 ghost use Rattle.wellformed.specs.WellFormed.{WellFormedEvent, EventLearns, GoodRecord, IllRole};
 ghost use Rattle.records.specs.Records.{partAt};
+use cells::Cells;
+use role_marks::Notes;
 use rows::Place;
 
 // Whether an event of role `own` is well formed.
 fn is_well_formed(
-    marks: [bool; 480],
+    marks: [bool; Cells::COUNT],
     t: &[u8],
     n: usize,
     classes: &[u16],
@@ -34,7 +36,7 @@ fn is_well_formed(
         }
     }
     if kind == 1 {
-        let mut notes = [0u8; 12544];
+        let mut notes = [0u8; Notes::COUNT];
         return readable::is_readable(marks, [false; 480], t, n, classes, &mut notes, false, x);
     }
     marks[x]
@@ -42,13 +44,13 @@ fn is_well_formed(
 
 // The marks after an event of a kind with the term of row x: a read makes the term known.
 fn event_learned(
-    marks: [bool; 480],
+    marks: [bool; Cells::COUNT],
     t: &[u8],
     n: usize,
     classes: &[u16],
     event: usize,
     x: usize,
-) -> [bool; 480]
+) -> [bool; Cells::COUNT]
     requires { ⌜ Shape (now t) n 0 × (RoleClasses (rowsOf (now t)) (now classes) × (x < n)) ⌝ }
     ensures { λ r. ⌜ EventLearns (rowsOf (now (t .entry))) event x marks r ⌝ }
 {

@@ -22,7 +22,7 @@ use Rattle.semantics.specs.laws.Inference.{derivable-exact}
 use Rattle.cells.specs.Cells.{cellOf, Within, cellValue}
 use Rattle.runs.specs.declared.Runs.{Runs}
 use Rattle.runs.specs.declared.RunEvent.{RunEvent}
-use Rattle.runs.specs.Runs.{RunsAt, EventRead}
+use Rattle.runs.specs.Runs.{Reads, RunsAt, EventRead}
 use Rattle.state.specs.Readings.{setsIn, setsOf, readings}
 use Rattle.state.specs.laws.Readings.{reading-run}
 use Rattle.claims.specs.AtRun.{AtRun, claimAt, eventBreaks}
@@ -66,12 +66,6 @@ kind-other (suc (suc (suc b))) (claim x) h n = absurd (Option·none-ne-some (cla
 pub andThen-none : {A B : Type 0} (o : Option A) (f : A → Option B) → ((x : A) → f x ≡ none) → andThen o f ≡ none
 andThen-none none f h = refl
 andThen-none (some x) f h = h x
-
--- what is read of event j of run k
-abbrev pub Reads : List ℕ → Runs → ℕ → ℕ → RunEvent → Type 0
-Reads file r k j e =
-    (sc : Scenario) (run : Run) (ev : Event) → RunsAt file sc r → Guarantee sc → getElem? (sc .runs) k ≡ some run → getElem? (eventsOf sc run) j ≡ some ev
-    → EventRead sc run ev (e .kind) (e .own) (e .peer) (e .row)
 
 -- the event, where there is one
 event-there : {file : List ℕ} {r : Runs} {sc : Scenario} (k j : ℕ) {run : Run} → RunsAt file sc r → getElem? (sc .runs) k ≡ some run → j < getD (r .events) k 0

@@ -20,7 +20,7 @@ use Rattle.semantics.specs.Verdict.{isAgainst, brokenEvent, brokenInRun}
 use Rattle.rows.specs.Rows.{Sized}
 use Rattle.cells.specs.Cells.{Shape}
 use Rattle.runs.specs.declared.Runs.{Runs}
-use Rattle.claims.specs.AtRun.{AtRun, claimAt, eventBreaks}
+use Rattle.claims.specs.AtRun.{AtRun, eventBreaks, Answers}
 use Rattle.answers.specs.Answers.{claimedAs}
 use Rattle.answers.specs.declared.ClaimKind.the-variants.{Secrecy}
 use Rattle.answers.specs.declared.Claimed.the-variants.{Broken, Nothing}
@@ -31,14 +31,9 @@ use Rattle.claims.specs.laws.Event.{andThen-none}
 pub sized-table : {t : List ℕ} {n runs : ℕ} → Shape t n runs → Sized t n
 sized-table shape = record { table = shape .table; count = shape .count; size = shape .size; few = shape .few }
 
-module _ (file : List ℕ) (r : Runs) (marks : List Bool) (k j : ℕ) where
-  -- whether event j of a run is a broken claim
-  abbrev pub Answers : Bool → Type 0
-  Answers b = (sc : Scenario) (d : State) (run : Run) (p : Progress) → AtRun file r sc d marks k run p → true ≡ allTrusted (sc .rows) run → eventBreaks sc d k run p j ≡ provided b (claimAt k j)
-
-  -- none of its first j events is
-  abbrev pub NoneTo : Type 0
-  NoneTo = (sc : Scenario) (d : State) (run : Run) (p : Progress) → AtRun file r sc d marks k run p → true ≡ allTrusted (sc .rows) run → (i : ℕ) → i < j → eventBreaks sc d k run p i ≡ none
+-- none of the first j events of a run is a broken claim
+abbrev pub NoneTo : List ℕ → Runs → List Bool → ℕ → ℕ → Type 0
+NoneTo file r marks k j = (sc : Scenario) (d : State) (run : Run) (p : Progress) → AtRun file r sc d marks k run p → true ≡ allTrusted (sc .rows) run → (i : ℕ) → i < j → eventBreaks sc d k run p i ≡ none
 
 -- one more that is none
 pub none-more : (file : List ℕ) (r : Runs) (marks : List Bool) (k j : ℕ) → NoneTo file r marks k j → Answers file r marks k j false → NoneTo file r marks k (j + 1)

@@ -20,7 +20,7 @@ use Rattle.runs.specs.declared.Runs.{Runs}
 use Rattle.state.specs.declared.State.{State as CodeState}
 use Rattle.state.specs.Readings.{setsOf, readings}
 use Rattle.state.specs.State.{Given, IsState}
-use Rattle.claims.specs.AtRun.{AtRun}
+use Rattle.claims.specs.AtRun.{AnswersRun}
 use Rattle.answers.specs.Answers.{claimedAs}
 use Rattle.answers.specs.declared.Claim.{Claim}
 use Rattle.answers.specs.declared.Claimed.{Claimed}
@@ -40,7 +40,7 @@ stands given is = record { given = given; progress = is .progress; made = is .do
 module _ (file t : List ℕ) (n : ℕ) (r : Runs) (marks : List Bool) (done : List ℕ) (k : ℕ) where
   -- what is found in run k
   abbrev pub FoundIn : Claimed → Type 0
-  FoundIn found = (sc : Scenario) (d : State) (run : Run) (p : Progress) → AtRun file r sc d marks k run p → sc .rows ≡ rowsOf t → getD done k 0 ≡ p .done → found ≡ claimedAs (brokenInRun sc d k)
+  FoundIn found = AnswersRun file t r marks (getD done k 0) k found
 
   -- none of the first k runs breaks a claim
   abbrev pub NoneBelow : Type 0

@@ -49,29 +49,22 @@ decodes-sort pairBytes = sortPair
 decodes-sort encryptedBytes = sortEncrypted
 
 -- the kind of a term, 0 of an atom, and its parts
+abbrev pub shapeOf : Term → ℕ × Term × Term
+shapeOf (atom a) = (0, atom a, atom a)
+shapeOf (pk t) = (8, t, t)
+shapeOf (sk t) = (9, t, t)
+shapeOf (shared t u) = (10, t, u)
+shapeOf (pair t u) = (11, t, u)
+shapeOf (encrypted t k) = (12, t, k)
+
 abbrev pub kindOf : Term → ℕ
-kindOf (atom a) = 0
-kindOf (pk t) = 8
-kindOf (sk t) = 9
-kindOf (shared t u) = 10
-kindOf (pair t u) = 11
-kindOf (encrypted t k) = 12
+kindOf t = shapeOf t .0
 
 abbrev pub firstPart : Term → Term
-firstPart (atom a) = atom a
-firstPart (pk t) = t
-firstPart (sk t) = t
-firstPart (shared t u) = t
-firstPart (pair t u) = t
-firstPart (encrypted t k) = t
+firstPart t = shapeOf t .1
 
 abbrev pub secondPart : Term → Term
-secondPart (atom a) = atom a
-secondPart (pk t) = t
-secondPart (sk t) = t
-secondPart (shared t u) = u
-secondPart (pair t u) = u
-secondPart (encrypted t k) = k
+secondPart t = shapeOf t .2
 
 -- a term of a kind whose parts are the given ones
 pub record Made (k : ℕ) (o p : Option Term) (t : Term) : Type 0 where

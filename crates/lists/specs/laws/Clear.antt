@@ -11,14 +11,14 @@ use lib.ListN.{length, getD, set}
 use lib.Seq.{getD-set-same, getD-set-other}
 use borrow.Author.Tests.{ltb-false, leb-true, leb-false, lt-ltb, le-ltb, lt-leb, le-leb}
 use Rattle.semantics.specs.Basic.{present, mapped, mapped₂}
-use Rattle.semantics.specs.Term.{Term, trusted, untrusted, global, intruder, role, variable, local, agentType, freshType, pk, sk, pair, encrypted, sharedKey}
+use Rattle.semantics.specs.Term.{Atom, Term, trusted, untrusted, global, intruder, role, variable, local, agentType, freshType, pk, sk, pair, encrypted, sharedKey}
 use Rattle.semantics.specs.Table.{Row}
 use Rattle.semantics.specs.Value.{Reading, valueOf, withoutVariables, withoutRun}
 use Rattle.semantics.specs.Encoding.{RowBytes, trustedBytes, untrustedBytes, globalBytes, intruderBytes, roleBytes, agentVariableBytes, freshVariableBytes, localBytes, publicBytes, secretBytes, sharedBytes, pairBytes, encryptedBytes}
 use Rattle.semantics.specs.laws.Value.{rowValue, value-unfolds}
 use Rattle.rows.specs.Rows.{rowsOf, Sized}
 use Rattle.rows.specs.laws.Table.{table-good, row-here, left-lower, right-lower}
-use Rattle.lists.specs.Lists.{Bars, Valued, clearBy, clearAt}
+use Rattle.lists.specs.Lists.{atomKind, Bars, Valued, clearBy, clearAt}
 
 -- a number is not up to another exactly if it is above it
 not-leb : (a b : ℕ) → not (leb a b) ≡ ltb b a
@@ -129,20 +129,17 @@ cleared-all t n low high clear r s l size cleared reading bars = record {
 }
 
 -- without variables just kind 6 stands for nothing, without a run kinds 5 to 7
+bars : (a : Atom) → (present (withoutVariables a) ≡ not (leb 6 (atomKind a) && leb (atomKind a) 6)) × (present (withoutRun a) ≡ not (leb 5 (atomKind a) && leb (atomKind a) 7))
+bars (trusted n) = (refl, refl)
+bars (untrusted n) = (refl, refl)
+bars (global n) = (refl, refl)
+bars (intruder n) = (refl, refl)
+bars (role i) = (refl, refl)
+bars (variable n t) = (refl, refl)
+bars (local n u) = (refl, refl)
+
 pub bars-variables : Bars 6 6 withoutVariables
-bars-variables (trusted n) = refl
-bars-variables (untrusted n) = refl
-bars-variables (global n) = refl
-bars-variables (intruder n) = refl
-bars-variables (role i) = refl
-bars-variables (variable n t) = refl
-bars-variables (local n u) = refl
+bars-variables a = bars a .0
 
 pub bars-run : Bars 5 7 withoutRun
-bars-run (trusted n) = refl
-bars-run (untrusted n) = refl
-bars-run (global n) = refl
-bars-run (intruder n) = refl
-bars-run (role i) = refl
-bars-run (variable n t) = refl
-bars-run (local n u) = refl
+bars-run a = bars a .1

@@ -13,23 +13,13 @@ use Rattle.semantics.specs.Limits.{mostRuns}
 use Rattle.semantics.specs.Table.{Row}
 use Rattle.semantics.specs.Frame.{firstBad}
 use Rattle.semantics.specs.Runs.{runLength, runIn, runRecords, atomAt, isAgent, goodRun, badRun}
-use Rattle.rows.specs.Rows.{rowsOf, Sized}
-use Rattle.rows.specs.laws.Decode.{decodes-agent-name}
-use Rattle.rows.specs.laws.Table.{atom-absent, atom-kind}
+use Rattle.rows.specs.Rows.{rowsOf}
 use Rattle.records.specs.Records.{partAt, recordAt, agentsIn}
 use Rattle.records.specs.laws.Records.{leb-taken, recordsLeft, left-all}
 
 -- every run record has bytes
 pub run-bytes : (roles : ℕ) (s : List ℕ) → 0 < runLength roles s
 run-bytes roles s = omega arith
-
-module _ (t : List ℕ) (n : ℕ) (sized : Sized t n) (r : ℕ) where
-  -- a row that is absent is no agent's, one that is present is by its kind
-  pub agent-absent : n ≤ r → false ≡ isAgent (atomAt (rowsOf t) r)
-  agent-absent = atom-absent t n sized isAgent r refl
-
-  pub agent-kind : r < n → leb (getD t (3 * r) 0) 2 ≡ isAgent (atomAt (rowsOf t) r)
-  agent-kind = atom-kind t n sized isAgent r (λ k. leb k 2) (λ k a b row. decodes-agent-name)
 
 module _ (p : ℕ → Bool) (roles : ℕ) (s : List ℕ) where
   -- the agent bytes all pass a test exactly if those from one on do

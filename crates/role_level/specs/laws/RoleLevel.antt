@@ -1,5 +1,5 @@
 -- At role level, in run 0 alone: names, marks to start from, and what exact marks answer. Assumes nothing.
-use Prim.Native.Nat.{ℕ, zero, suc, _<_}
+use Prim.Native.Nat.{ℕ, zero, suc, _<_, _≤_}
 use native.Mathlib.Nat.{zero-add}
 use native.Mathlib.Omega.{arith}
 use mathlib.Core.Path.{_≡_, refl, sym, ap, _∙_}
@@ -18,14 +18,14 @@ use Rattle.semantics.specs.Encoding.{RowBytes, trustedBytes, untrustedBytes, gl
 use Rattle.semantics.specs.laws.Test.{same-test}
 use Rattle.semantics.specs.laws.List.{mem-map, mem-present, getElem-below}
 use Rattle.semantics.specs.laws.Inference.{derivable-exact}
-use Rattle.semantics.specs.laws.Value.{asAtoms-value}
+use Rattle.semantics.specs.laws.Value.{asAtoms-value, value-within}
 use Rattle.rows.specs.Rows.{rowsOf}
 use Rattle.rows.specs.laws.Table.{table-good, table-row}
 use Rattle.cells.specs.Cells.{Shape, Within, cellValue, Canonical}
 use Rattle.classes.specs.Classes.{named, NamesRight, Grows, Refilled}
 use Rattle.classes.specs.laws.Classes.{no-values}
 use Rattle.knowledge.specs.Marks.{Marked, Derivable, Covers, Exact}
-use Rattle.role_level.specs.RoleLevel.{roleReadings, noReadings, listedTerms, RoleClasses, OwnNames, ListedMarks, ListedBelow}
+use Rattle.role_level.specs.RoleLevel.{roleReadings, noReadings, listedTerms, RoleClasses, RoleCelled, OwnNames, ListedMarks, ListedBelow}
 
 pub role-grows : Grows 0 noReadings roleReadings
 role-grows = record { elsewhere = elsewhere; more = λ a t e. absurd (Option·none-ne-some t e) }
@@ -119,3 +119,15 @@ module _ (bytes : List ℕ) (n : ℕ) (shape : Shape bytes n 0) where
         go : (b : Bool) → getD marks target false ≡ b → (t : Term) → valueOf asAtoms table target ≡ some t → derivable (listedTerms table list) t ≡ getD marks target false
         go true e t v = let d = exact target 0 here .0 (rw zero-add e) in same-test (derivable (listedTerms table list) t) _ (rw e (λ x. tt, λ x. derivable-exact (listedTerms table list) t .1 (rw (Option·some-injective (d .0) t (sym (d .1) ∙ v)) at (d .2))))
         go false e t v = same-test (derivable (listedTerms table list) t) _ (rw e (λ x. true≢false (sym (rw zero-add at (exact target 0 here .1 (t, v, derivable-exact (listedTerms table list) t .0 x))) ∙ e), λ x. absurd x))
+
+-- a known term is that of a row
+pub celled-row : {rows : List Row} {known : List Term} → RoleCelled rows known → (t : Term) → List·Memᴰ t known → (r : ℕ) × (valueOf asAtoms rows r ≡ some t)
+celled-row {rows} celled t m = let w = celled t m in go (w .0) (w .1) (w .2 .run) (w .3)
+  where
+    go : (r u : ℕ) → u ≤ 0 → cellValue roleReadings rows r u ≡ some t → (r : ℕ) × (valueOf asAtoms rows r ≡ some t)
+    go r zero l e = (r, e)
+    go r (suc u) l e = absurd (omega arith)
+
+-- and a row with a term is in run 0
+pub row-cell : {rows : List Row} (r : ℕ) {t : Term} → valueOf asAtoms rows r ≡ some t → (x : ℕ) × (u : ℕ) × Within rows 0 x u × (cellValue roleReadings rows x u ≡ some t)
+row-cell {rows} r {t} e = (r, 0, record { row = value-within asAtoms rows r (t, e); run = omega arith }, e)

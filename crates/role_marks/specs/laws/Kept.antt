@@ -13,15 +13,15 @@ use lib.Seq.{getD-set-same, getD-set-other}
 use Rattle.rows.specs.Rows.{rowsOf}
 use Rattle.cells.specs.Cells.{Shape}
 use Rattle.knowledge.specs.Steps.{On}
-use Rattle.role_marks.specs.Sure.{Sure, noteAt, ownerOf, SlotStands, KeptFor, SlotFilled, Stored, Notes}
+use Rattle.role_marks.specs.Sure.{noteCount, Sure, noteAt, ownerOf, SlotStands, KeptFor, SlotFilled, Stored, Notes}
 use Rattle.role_marks.specs.laws.Rows.{term-below}
 use Rattle.role_marks.specs.laws.Sure.{sure-more}
 
 -- at first no slot is a row's
-pub notes-none : (rows : List Row) → Notes rows (replicate 12544 0)
+pub notes-none : (rows : List Row) → Notes rows (replicate noteCount 0)
 notes-none rows = record {
-  size = length-replicate {A = ℕ} 12544 0;
-  kept = λ slot l u. absurd (u (getD-replicate {A = ℕ} 12544 (96 + slot) 0 0 (omega arith)));
+  size = length-replicate {A = ℕ} noteCount 0;
+  kept = λ slot l u. absurd (u (getD-replicate {A = ℕ} noteCount (96 + slot) 0 0 (omega arith)));
 }
 
 -- a hint changes nothing else
@@ -86,7 +86,7 @@ pub filled-less : (n : ℕ) (marks : List Bool) (slot x : ℕ) (notes after : Li
 filled-less n marks slot x notes after l to = record { size = to .size; filled = λ y m. to .filled y (omega arith); others = to .others; front = to .front }
 
 -- marks kept in a slot that is made a row's
-pub stored : (n : ℕ) (marks : List Bool) (x slot next : ℕ) (notes after : List ℕ) → slot < 128 → length notes ≡ 12544 → SlotFilled n marks slot notes after
+pub stored : (n : ℕ) (marks : List Bool) (x slot next : ℕ) (notes after : List ℕ) → slot < 128 → length notes ≡ noteCount → SlotFilled n marks slot notes after
     → Stored n marks x notes (set (set after (96 + slot) x) 224 next)
 stored n marks x slot next notes after l size filled = record {
   slot = slot;

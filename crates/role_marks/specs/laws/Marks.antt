@@ -9,22 +9,21 @@ use mathlib.Core.List.{List, _∷_, List·Memᴰ, List·Memᴰ·head as here, Li
 use mathlib.Core.Option.{some, Option·some-injective}
 use lib.Dec.{T}
 use lib.ListN.{length, getD, getElem?, set}
-use lib.Seq.{getD-set-same}
 use Rattle.semantics.specs.Term.{role, Atom, Term, atom, inverse}
 use Rattle.semantics.specs.Inference.{Derives, member, derivable}
 use Rattle.semantics.specs.Table.{atomic}
 use Rattle.semantics.specs.laws.Test.{same-test}
-use Rattle.semantics.specs.laws.Inference.{derivable-exact, derives-cut, derives-monotone}
+use Rattle.semantics.specs.laws.Inference.{derivable-exact}
 use Rattle.semantics.specs.laws.Value.{asAtoms-value}
 use Rattle.rows.specs.Rows.{rowsOf}
 use Rattle.rows.specs.laws.Table.{table-good}
 use Rattle.cells.specs.Cells.{Shape, Within, cellValue}
-use Rattle.knowledge.specs.Marks.{Marked, Derivable, Settled}
+use Rattle.knowledge.specs.Marks.{LearnsCell}
 use Rattle.knowledge.specs.Steps.{On, kindAt, leftAt, InverseKinds}
-use Rattle.knowledge.specs.laws.Filled.{set-on, set-keeps}
+use Rattle.knowledge.specs.laws.Learn.{marked-derives as cell-derives}
 use Rattle.knowledge.specs.laws.Sound.{KeyOf, inverse-keys}
 use Rattle.role_level.specs.RoleLevel.{roleReadings, RoleClasses, RoleExact}
-use Rattle.role_marks.specs.Marks.{RowMarked, isMarked, noneMarked, Covered, NameKnown, InverseKnown, Learns}
+use Rattle.role_marks.specs.Marks.{RowMarked, isMarked, noneMarked, NameKnown, InverseKnown, Learns}
 use Rattle.role_marks.specs.laws.Rows.{HasTerm, from-atom, from-key, role-term, role-row, key-term, key-row, own-inverse, term-below, row-term, derives-rows}
 
 -- a test that is passed exactly where a mark stands
@@ -46,10 +45,9 @@ module _ (bytes : List ℕ) (n : ℕ) (shape : Shape bytes n 0) where
   module _ (marks : List Bool) {known : List Term} (exact : RoleExact (rowsOf bytes) known marks) where
     -- a row is marked exactly if its term derives
     pub marked-derives : (x : ℕ) {t : Term} → HasTerm bytes x t → On marks x ↔ Derives known t
-    marked-derives x {t} e = (
-      λ o. let d = exact x 0 (in-run x e) .0 (rw zero-add o) in rw (Option·some-injective (d .0) t (sym (d .1) ∙ e)) at (d .2),
-      λ d. rw zero-add at (exact x 0 (in-run x e) .1 (t, e, d)),
-    )
+    marked-derives x {t} e =
+        let m = cell-derives (rowsOf bytes) (omega (arith, shape .few, shape .count)) 0 x 0 (in-run x e) roleReadings known marks exact e in
+        (λ o. m .0 (rw zero-add o), λ d. rw zero-add at (m .1 d))
 
     -- so a mark answers whether a row's term is derivable
     pub mark-answers : (x : ℕ) {t : Term} → HasTerm bytes x t → getD marks x false ≡ derivable known t
@@ -74,14 +72,14 @@ module _ (bytes : List ℕ) (n : ℕ) (shape : Shape bytes n 0) where
 
   -- the name of a role is derivable exactly if a row of kind 5 with that number is marked
   pub name-known : {marks : List Bool} {i : ℕ} {r : Bool} → RowMarked bytes n marks 5 i r → NameKnown (rowsOf bytes) marks i r
-  name-known {marks} {i} found known covered exact = row-answers marks exact (atom (role i)) only row found
+  name-known {marks} {i} found known celled exact = row-answers marks exact (atom (role i)) only row found
     where
       only : (x : ℕ) (t : Term) → kindAt bytes x ≡ 5 → leftAt bytes x ≡ i → HasTerm bytes x t → t ≡ atom (role i)
       only x t k e h = let s = role-term (rw k at (row-term bytes n shape x h)) in rw e at s
 
       row : Derives known (atom (role i)) → (x : ℕ) × HasTerm bytes x (atom (role i)) × (kindAt bytes x ≡ 5) × (leftAt bytes x ≡ i)
       row d =
-          let w = from-atom (derives-rows bytes n shape covered d) in
+          let w = from-atom (derives-rows bytes n shape celled d) in
           let s = role-row (row-term bytes n shape (w .0) (w .1)) in
           (w .0, w .1, s .0, s .1)
 
@@ -99,7 +97,7 @@ module _ (bytes : List ℕ) (n : ℕ) (shape : Shape bytes n 0) where
   -- the inverse of a key is derivable exactly if the other key of its agent is marked
   pub other-known : {marks : List Bool} (k : ℕ) {kind other left : ℕ} {r : Bool} → InverseKinds kind other → kindAt bytes k ≡ kind → left ≡ leftAt bytes k
       → RowMarked bytes n marks other left r → InverseKnown (rowsOf bytes) marks k r
-  other-known {marks} k {kind} {other} kinds e el found known t covered exact h =
+  other-known {marks} k {kind} {other} kinds e el found known t celled exact h =
       rw (key .1, keys .4 (atom (key .0))) (row-answers marks exact (keys .1 (atom (key .0))) only row (rw el at found))
     where
       keys : (mk : Term → Term) × (mk′ : Term → Term) × KeyOf kind mk × KeyOf other mk′ × ((a : Term) → inverse (mk a) ≡ mk′ a)
@@ -113,44 +111,14 @@ module _ (bytes : List ℕ) (n : ℕ) (shape : Shape bytes n 0) where
 
       row : Derives known (keys .1 (atom (key .0))) → (x : ℕ) × HasTerm bytes x (keys .1 (atom (key .0))) × (kindAt bytes x ≡ other) × (leftAt bytes x ≡ leftAt bytes k)
       row d =
-          let w = from-key (atom (key .0)) (keys .3) (derives-rows bytes n shape covered d) in
+          let w = from-key (atom (key .0)) (keys .3) (derives-rows bytes n shape celled d) in
           let s = key-row (key .0) (keys .3) (row-term bytes n shape (w .0) (w .1)) in
           (w .0, w .1, s .0, table-good bytes (shape .table) .distinct (leftAt bytes (w .0)) (leftAt bytes k) (atomic (key .0)) (s .1) (key .2))
 
   -- every other term is its own inverse
   pub itself-known : (marks : List Bool) (k : ℕ) {r : Bool} → (kindAt bytes k ≡ 8 → ⊥) → (kindAt bytes k ≡ 9 → ⊥) → r ≡ getD marks k false → InverseKnown (rowsOf bytes) marks k r
-  itself-known marks k p s e known t covered exact h = rw (own-inverse (row-term bytes n shape k h) p s) (e ∙ mark-answers marks exact k h)
+  itself-known marks k p s e known t celled exact h = rw (own-inverse (row-term bytes n shape k h) p s) (e ∙ mark-answers marks exact k h)
 
-  -- with a row's term known too, each known term is still that of a row
-  covered-more : (x : ℕ) {known : List Term} {t : Term} → HasTerm bytes x t → Covered (rowsOf bytes) known → Covered (rowsOf bytes) (t ∷ known)
-  covered-more x h covered u m = ⊎-elim (λ e. (x, rw e h)) (covered u) (List·Memᴰ·cases-cons m)
-
-  -- what derives still derives
-  derivable-more : {known : List Term} (t : Term) (r u : ℕ) → Derivable (rowsOf bytes) roleReadings known r u → Derivable (rowsOf bytes) roleReadings (t ∷ known) r u
-  derivable-more t r u d = (d .0, d .1, derives-monotone (λ y m. later m) (d .2))
-
-  -- a row that is marked adds nothing
-  pub learns-marked : (marks : List Bool) (x : ℕ) → On marks x → Learns (rowsOf bytes) x marks marks
-  learns-marked marks x o known t covered exact h = (
-    covered-more x h covered,
-    λ r u w. (λ m. derivable-more t r u (exact r u w .0 m), λ d. exact r u w .1 (d .0, d .1, derives-cut known-before (d .2))),
-  )
-    where
-      known-before : (y : Term) → List·Memᴰ y (t ∷ known) → Derives known y
-      known-before y m = ⊎-elim (λ e. rw e (marked-derives marks exact x h .0 o)) member (List·Memᴰ·cases-cons m)
-
-  -- marks worked on after one more was set
-  pub learns-settled : (marks : List Bool) (x : ℕ) {classes : List ℕ} (more : List Bool) → x < length marks → RoleClasses (rowsOf bytes) classes
-      → Settled (rowsOf bytes) 0 classes (set marks x true) more → Learns (rowsOf bytes) x marks more
-  learns-settled marks x more l right settled known t covered exact h = (covered-more x h covered, settled roleReadings (t ∷ known) right (record { sound = sound; covers = covers }))
-    where
-      sound : (r u : ℕ) → Within (rowsOf bytes) 0 r u → Marked (set marks x true) r u → Derivable (rowsOf bytes) roleReadings (t ∷ known) r u
-      sound r zero w m =
-          ⊎-elim (λ e. (t, rw e h, member (here refl))) (λ o. derivable-more t r 0 (exact r 0 w .0 (rw zero-add o))) (set-on marks x r (rw zero-add at m))
-      sound r (suc u) w m = absurd (omega (arith, w .run))
-
-      covers : (s : Term) → List·Memᴰ s (t ∷ known) → (r : ℕ) × (u : ℕ) × Within (rowsOf bytes) 0 r u × (cellValue roleReadings (rowsOf bytes) r u ≡ some s) × Marked (set marks x true) r u
-      covers s m = ⊎-elim
-          (λ e. (x, 0, in-run x h, rw e h, rw zero-add (getD-set-same marks x true false l)))
-          (λ k. let c = covered s k in (c .0, 0, in-run (c .0) (c .1), c .1, rw zero-add (set-keeps marks x (c .0) (marked-derives marks exact (c .0) (c .1) .1 (member k)))))
-          (List·Memᴰ·cases-cons m)
+  -- marks with one more value known are so at role level
+  pub learns-role : (classes : List ℕ) (x : ℕ) (marks more : List Bool) → RoleClasses (rowsOf bytes) classes → LearnsCell (rowsOf bytes) 0 classes x 0 marks more → Learns (rowsOf bytes) x marks more
+  learns-role classes x marks more right learns known t celled exact h = learns roleReadings known t right celled exact h

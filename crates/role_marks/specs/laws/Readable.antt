@@ -12,8 +12,8 @@ use Rattle.semantics.specs.laws.Inference.{derives-monotone}
 use Rattle.rows.specs.Rows.{rowsOf}
 use Rattle.cells.specs.Cells.{Shape}
 use Rattle.knowledge.specs.Steps.{kindAt, leftAt, rightAt}
-use Rattle.role_level.specs.RoleLevel.{RoleExact}
-use Rattle.role_marks.specs.Marks.{Covered, InverseKnown, Learns, ReadableRow}
+use Rattle.role_level.specs.RoleLevel.{RoleCelled, RoleExact}
+use Rattle.role_marks.specs.Marks.{InverseKnown, Learns, ReadableRow}
 use Rattle.role_marks.specs.laws.Rows.{HasTerm, RowTerm, aTrusted, aUntrusted, aGlobal, anIntruder, aRole, aVariable, aLocal, aPk, aSk, aShared, aPair, anEncryption, row-term}
 use Rattle.role_marks.specs.laws.Marks.{mark-answers}
 
@@ -73,49 +73,49 @@ encrypted-read known a b d e = rw (d, e)
 module _ (bytes : List ℕ) (n : ℕ) (shape : Shape bytes n 0) (marks : List Bool) (x : ℕ) where
   -- a row that is not marked is not readable, if it is no variable, no pair and no encryption
   pub unreadable : getD marks x false ≡ false → (kindAt bytes x ≡ 6 → ⊥) → (kindAt bytes x ≡ 11 → ⊥) → (kindAt bytes x ≡ 12 → ⊥) → ReadableRow (rowsOf bytes) marks x false
-  unreadable o v p e known t covered exact h = sym o ∙ mark-answers bytes n shape marks exact x h ∙ plain-readable known (row-term bytes n shape x h) v p e
+  unreadable o v p e known t celled exact h = sym o ∙ mark-answers bytes n shape marks exact x h ∙ plain-readable known (row-term bytes n shape x h) v p e
 
   module _ {l s : ℕ} (left : l ≡ leftAt bytes x) (right : s ≡ rightAt bytes x) where
     module _ (pairs : kindAt bytes x ≡ 11) (more : List Bool) (learns : Learns (rowsOf bytes) s marks more) {p : Bool} (reads : ReadableRow (rowsOf bytes) more l p) where
       -- the first part of a pair is read with the second known
-      first-read : {known : List Term} {t : Term} → Covered (rowsOf bytes) known → RoleExact (rowsOf bytes) known marks → HasTerm bytes x t
+      first-read : {known : List Term} {t : Term} → RoleCelled (rowsOf bytes) known → RoleExact (rowsOf bytes) known marks → HasTerm bytes x t
           → (a : Term) × (b : Term) × (t ≡ pair a b) × HasTerm bytes l a × HasTerm bytes s b × (p ≡ readable (b ∷ known) a)
-      first-read {known} covered exact h =
+      first-read {known} celled exact h =
           let w = pair-term (rw pairs at (row-term bytes n shape x h)) in
           let a = w .3 in
           let b = w .4 in
-          let m = learns known (w .1) covered exact (rw right b) in
+          let m = learns known (w .1) celled exact (rw right b) in
           (w .0, w .1, w .2, rw left a, rw right b, reads (w .1 ∷ known) (w .0) (m .0) (m .1) (rw left a))
 
       -- a pair whose first part is not readable is not
       pub unreadable-first : p ≡ false → ReadableRow (rowsOf bytes) marks x false
-      unreadable-first e known t covered exact h = let w = first-read covered exact h in rw (w .2) (pair-unread known (w .0) (w .1) (sym (w .5) ∙ e))
+      unreadable-first e known t celled exact h = let w = first-read celled exact h in rw (w .2) (pair-unread known (w .0) (w .1) (sym (w .5) ∙ e))
 
       -- otherwise it is if the second part is, with the first known
       pub readable-second : p ≡ true → (more′ : List Bool) → Learns (rowsOf bytes) l marks more′ → {q : Bool} → ReadableRow (rowsOf bytes) more′ s q
           → ReadableRow (rowsOf bytes) marks x q
-      readable-second e more′ learns′ reads′ known t covered exact h =
-          let w = first-read covered exact h in
-          let m = learns′ known (w .0) covered exact (w .3) in
+      readable-second e more′ learns′ reads′ known t celled exact h =
+          let w = first-read celled exact h in
+          let m = learns′ known (w .0) celled exact (w .3) in
           rw (w .2) (reads′ (w .0 ∷ known) (w .1) (m .0) (m .1) (w .4) ∙ pair-read known (w .0) (w .1) (sym (w .5) ∙ e))
 
     module _ (encrypts : kindAt bytes x ≡ 12) (off : getD marks x false ≡ false) {p : Bool} (opens : InverseKnown (rowsOf bytes) marks s p) where
       -- an encryption that is not marked opens only by the inverse of its key
-      opened : {known : List Term} {t : Term} → Covered (rowsOf bytes) known → RoleExact (rowsOf bytes) known marks → HasTerm bytes x t
+      opened : {known : List Term} {t : Term} → RoleCelled (rowsOf bytes) known → RoleExact (rowsOf bytes) known marks → HasTerm bytes x t
           → (a : Term) × (b : Term) × (t ≡ encrypted a b) × HasTerm bytes l a × (derivable known (encrypted a b) ≡ false) × (p ≡ derivable known (inverse b))
-      opened {known} covered exact h =
+      opened {known} celled exact h =
           let w = encrypted-term (rw encrypts at (row-term bytes n shape x h)) in
           let a = w .3 in
           let b = w .4 in
           let d = sym (mark-answers bytes n shape marks exact x h) ∙ off in
-          (w .0, w .1, w .2, rw left a, rw (w .2) at d, opens known (w .1) covered exact (rw right b))
+          (w .0, w .1, w .2, rw left a, rw (w .2) at d, opens known (w .1) celled exact (rw right b))
 
       -- where that is not derivable, it is not readable
       pub unreadable-closed : p ≡ false → ReadableRow (rowsOf bytes) marks x false
-      unreadable-closed e known t covered exact h = let w = opened covered exact h in rw (w .2) (encrypted-unread known (w .0) (w .1) (w .4) (sym (w .5) ∙ e))
+      unreadable-closed e known t celled exact h = let w = opened celled exact h in rw (w .2) (encrypted-unread known (w .0) (w .1) (w .4) (sym (w .5) ∙ e))
 
       -- otherwise it is if its content is
       pub readable-content : p ≡ true → {q : Bool} → ReadableRow (rowsOf bytes) marks l q → ReadableRow (rowsOf bytes) marks x q
-      readable-content e reads known t covered exact h =
-          let w = opened covered exact h in
-          rw (w .2) (reads known (w .0) covered exact (w .3) ∙ encrypted-read known (w .0) (w .1) (w .4) (sym (w .5) ∙ e))
+      readable-content e reads known t celled exact h =
+          let w = opened celled exact h in
+          rw (w .2) (reads known (w .0) celled exact (w .3) ∙ encrypted-read known (w .0) (w .1) (w .4) (sym (w .5) ∙ e))

@@ -23,7 +23,8 @@ use Rattle.cells.specs.laws.Cells.{row-there, row-decodes, left-lower, second-l
 use Rattle.semantics.specs.laws.Test.{mapped₂-some}
 use Rattle.knowledge.specs.Steps.{kindAt, leftAt, rightAt}
 use Rattle.knowledge.specs.laws.Sound.{KeyOf, pkKey, skKey}
-use Rattle.role_marks.specs.Marks.{Covered}
+use Rattle.role_level.specs.RoleLevel.{RoleCelled}
+use Rattle.role_level.specs.laws.RoleLevel.{celled-row}
 
 -- a row has a term
 abbrev pub HasTerm : List ℕ → ℕ → Term → Type 0
@@ -199,8 +200,8 @@ module _ (bytes : List ℕ) (n : ℕ) (shape : Shape bytes n 0) where
   content-part t k (ofEncryption d e) = d
 
   -- so all that derives from terms of rows is made of them
-  pub derives-rows : {known : List Term} → Covered (rowsOf bytes) known → {t : Term} → Derives known t → FromRows bytes t
-  derives-rows covered d = derives-keeps carried (λ t m. let w = covered t m in ofRow (w .0) (w .1)) d
+  pub derives-rows : {known : List Term} → RoleCelled (rowsOf bytes) known → {t : Term} → Derives known t → FromRows bytes t
+  derives-rows celled d = derives-keeps carried (λ t m. let w = celled-row celled t m in ofRow (w .0) (w .1)) d
     where
       carried : Carried (FromRows bytes)
       carried = record {

@@ -1,6 +1,6 @@
 -- The laws of sure rows: readable wherever marks hold, by a row's kind; marks that gain a row; and what an answer says. Assumes nothing.
 use Prim.Native.Nat.{ℕ, zero, suc, _+_, _<_, _≤_}
-use native.Mathlib.Nat.{eq-or-lt-of-le}
+use native.Mathlib.Nat.{eq-or-lt-of-le, zero-add}
 use native.Mathlib.Omega.{arith}
 use mathlib.Core.Path.{_≡_, refl, sym, _∙_}
 use mathlib.Core.Logic.{_⊎_, inl, inr, ⊎-elim}
@@ -22,7 +22,7 @@ use Rattle.semantics.specs.laws.Inference.{derives-cut, derives-monotone}
 use Rattle.semantics.specs.laws.WellFormed.{readable-exact}
 use Rattle.rows.specs.Rows.{rowsOf}
 use Rattle.cells.specs.Cells.{Shape}
-use Rattle.knowledge.specs.Marks.{Settled}
+use Rattle.knowledge.specs.Marks.{Settled, Learnt, wasMarked, isWorked}
 use Rattle.knowledge.specs.Steps.{On, kindAt, leftAt, rightAt, InverseKinds}
 use Rattle.knowledge.specs.laws.Filled.{none-on, set-on, set-keeps}
 use Rattle.role_level.specs.RoleLevel.{roleReadings, listedTerms, RoleClasses, RoleExact}
@@ -67,12 +67,12 @@ pub sure-more : (rows : List Row) (marks more : List Bool) → ((known : List Te
 sure-more rows marks more f x s known t h = s known t (f known h)
 
 -- marks that nothing was added to
-pub gains-none : (rows : List Row) (x : ℕ) (marks : List Bool) → Gains rows x marks marks
+gains-none : (rows : List Row) (x : ℕ) (marks : List Bool) → Gains rows x marks marks
 gains-none rows x marks = record { holds = λ known t h e d. h; keeps = λ y u o v. o }
 
 module _ (bytes : List ℕ) (n : ℕ) (shape : Shape bytes n 0) where
   -- marks worked on after one more was set
-  pub gains-settled : (marks : List Bool) (x : ℕ) {classes : List ℕ} (more : List Bool) → RoleClasses (rowsOf bytes) classes
+  gains-settled : (marks : List Bool) (x : ℕ) {classes : List ℕ} (more : List Bool) → RoleClasses (rowsOf bytes) classes
       → Settled (rowsOf bytes) 0 classes (set marks x true) more → Gains (rowsOf bytes) x marks more
   gains-settled marks x more right settled = record { holds = holds; keeps = keeps }
     where
@@ -98,6 +98,11 @@ module _ (bytes : List ℕ) (n : ℕ) (shape : Shape bytes n 0) where
           let m = on-listed n (set marks x true) y (term-below bytes n shape y v) (set-keeps marks x y o) in
           marked-derives bytes n shape more exact y v .1 (member (mem-present (map (valueOf asAtoms (rowsOf bytes)) list) .1 (mem-map (valueOf asAtoms (rowsOf bytes)) list .1 (y, m, sym v))))
 
+  -- marks with a row's term known too gain it
+  pub gains-learnt : (classes : List ℕ) (x : ℕ) (marks more : List Bool) → RoleClasses (rowsOf bytes) classes → Learnt (rowsOf bytes) 0 classes x 0 marks more → Gains (rowsOf bytes) x marks more
+  gains-learnt classes x marks more right (wasMarked o) = gains-none (rowsOf bytes) x marks
+  gains-learnt classes x marks more right (isWorked settled) = gains-settled marks x more right (rw zero-add at settled)
+
   -- the inverse of a key derives if the other key of its agent is marked
   pub opens-other : {marks : List Bool} (k : ℕ) {kind other left : ℕ} {r : Bool} → InverseKinds kind other → kindAt bytes k ≡ kind → left ≡ leftAt bytes k
       → RowMarked bytes n marks other left r → Opens (rowsOf bytes) marks k r
@@ -113,7 +118,7 @@ module _ (bytes : List ℕ) (n : ℕ) (shape : Shape bytes n 0) where
   module _ (marks : List Bool) (x : ℕ) where
     -- exact marks hold, so a sure row is readable
     pub sure-readable : Sure (rowsOf bytes) marks x → ReadableRow (rowsOf bytes) marks x true
-    sure-readable s known t covered exact h =
+    sure-readable s known t celled exact h =
         same-test true (readable known t) (λ u. readable-exact known t .1 (s known t (λ y z o v. marked-derives bytes n shape marks exact y v .0 o) h), λ u. tt)
 
     -- a row that is marked is sure

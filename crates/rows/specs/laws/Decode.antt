@@ -7,61 +7,44 @@ use mathlib.Core.List.{List, List·Memᴰ, List·Memᴰ·head as here, List·Mem
 use mathlib.Core.Option.{some, Option·none-ne-some, Option·some-injective}
 use lib.Dec.{T, leb, eqb, eqb→eq}
 use borrow.Author.Tests.{ne-eqb}
-use Rattle.semantics.specs.Term.{Atom, agentType, freshType, trusted, untrusted, global, intruder, role, variable, local}
+use Rattle.semantics.specs.Term.{Atom, VariableType, agentType, freshType, trusted, untrusted, global, intruder, role, variable, local}
 use Rattle.semantics.specs.Table.{Row, atomic, pkOf, skOf, sharedOf, pairOf, encryptedOf, agentLike, noPair, variableAtom, variableRow}
 use Rattle.semantics.specs.Guarantee.{refersTo}
 use Rattle.semantics.specs.Runs.{atomOf, isTrusted, isAgent}
 use Rattle.semantics.specs.Encoding.{RowBytes, trustedBytes, untrustedBytes, globalBytes, intruderBytes, roleBytes, agentVariableBytes, freshVariableBytes, localBytes, publicBytes, secretBytes, sharedBytes, pairBytes, encryptedBytes}
 
--- the kind byte of a row
+-- the right byte of a variable's row
+abbrev pub typeByte : VariableType → ℕ
+typeByte agentType = 0
+typeByte freshType = 1
+
+-- the bytes of an atom's row: kind, left and right
+abbrev pub bytesOfAtom : Atom → ℕ × ℕ × ℕ
+bytesOfAtom (trusted n) = (1, n, 0)
+bytesOfAtom (untrusted n) = (2, n, 0)
+bytesOfAtom (global n) = (3, n, 0)
+bytesOfAtom (intruder n) = (4, n, 0)
+bytesOfAtom (role n) = (5, n, 0)
+bytesOfAtom (variable n type) = (6, n, typeByte type)
+bytesOfAtom (local n u) = (7, n, 0)
+
+-- the bytes of a row
+abbrev pub bytesOf : Row → ℕ × ℕ × ℕ
+bytesOf (atomic a) = bytesOfAtom a
+bytesOf (pkOf a) = (8, a, 0)
+bytesOf (skOf a) = (9, a, 0)
+bytesOf (sharedOf a b) = (10, a, b)
+bytesOf (pairOf l r) = (11, l, r)
+bytesOf (encryptedOf l r) = (12, l, r)
+
 abbrev pub kindOf : Row → ℕ
-kindOf (atomic (trusted n)) = 1
-kindOf (atomic (untrusted n)) = 2
-kindOf (atomic (global n)) = 3
-kindOf (atomic (intruder n)) = 4
-kindOf (atomic (role n)) = 5
-kindOf (atomic (variable n t)) = 6
-kindOf (atomic (local n u)) = 7
-kindOf (pkOf a) = 8
-kindOf (skOf a) = 9
-kindOf (sharedOf a b) = 10
-kindOf (pairOf l r) = 11
-kindOf (encryptedOf l r) = 12
+kindOf row = bytesOf row .0
 
--- the left byte of a row
 abbrev pub leftOf : Row → ℕ
-leftOf (atomic (trusted n)) = n
-leftOf (atomic (untrusted n)) = n
-leftOf (atomic (global n)) = n
-leftOf (atomic (intruder n)) = n
-leftOf (atomic (role n)) = n
-leftOf (atomic (variable n t)) = n
-leftOf (atomic (local n u)) = n
-leftOf (pkOf a) = a
-leftOf (skOf a) = a
-leftOf (sharedOf a b) = a
-leftOf (pairOf l r) = l
-leftOf (encryptedOf l r) = l
+leftOf row = bytesOf row .1
 
--- the right byte of an atom's row
-abbrev pub rightOfAtom : Atom → ℕ
-rightOfAtom (trusted n) = 0
-rightOfAtom (untrusted n) = 0
-rightOfAtom (global n) = 0
-rightOfAtom (intruder n) = 0
-rightOfAtom (role n) = 0
-rightOfAtom (variable n agentType) = 0
-rightOfAtom (variable n freshType) = 1
-rightOfAtom (local n u) = 0
-
--- the right byte of a row
 abbrev pub rightOf : Row → ℕ
-rightOf (atomic a) = rightOfAtom a
-rightOf (pkOf a) = 0
-rightOf (skOf a) = 0
-rightOf (sharedOf a b) = b
-rightOf (pairOf l r) = r
-rightOf (encryptedOf l r) = r
+rightOf row = bytesOf row .2
 
 -- whether a kind and a right byte are those of an agent-like row
 abbrev pub agentKind : ℕ → ℕ → Bool

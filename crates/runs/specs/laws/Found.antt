@@ -26,7 +26,7 @@ use Rattle.records.specs.laws.Roles.{role-good, own-eventsIn}
 use Rattle.records.specs.laws.Runs.{run-bytes}
 use Rattle.runs.specs.Runs.{RunAt, IsRun}
 use Rattle.runs.specs.laws.Blocks.{Stands, block-stands, opened-framed}
-use Rattle.runs.specs.laws.Begins.{begins-record, begins-each}
+use Rattle.records.specs.laws.Begins.{begins-record, begins-each}
 use Rattle.runs.specs.laws.Events.{record-count, record-each}
 
 -- the element at a place, and the image of one

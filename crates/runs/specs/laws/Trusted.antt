@@ -1,4 +1,4 @@
--- Whether the agents of a run are trusted, by the kinds of their rows. Assumes nothing.
+-- Whether the agents of a run are all trusted. Assumes nothing.
 use Prim.Native.Nat.{ℕ, zero, suc, _+_, _*_, _<_, _≤_}
 use native.Mathlib.Omega.{arith}
 use native.Mathlib.Numerals.{add-one}
@@ -6,26 +6,15 @@ use mathlib.Core.Path.{_≡_, refl, sym, ap, _∙_}
 use mathlib.Core.Bool.{Bool, true, false, _&&_}
 use mathlib.Core.List.{List, [], _∷_}
 use mathlib.Core.Option.{some, Option·none-ne-some, Option·some-injective}
-use lib.Dec.{eqb}
 use lib.ListN.{length, getElem?, getD, drop, drop-of-length-le}
 use Rattle.semantics.specs.Basic.{every}
 use Rattle.semantics.specs.Runs.{Run, atomAt, isTrusted, allTrusted}
 use Rattle.semantics.specs.Scenario.{Scenario}
 use Rattle.semantics.specs.Guarantee.{Guarantee}
 use Rattle.semantics.specs.laws.List.{mem-getElem, getElem-there}
-use Rattle.rows.specs.Rows.{rowsOf, Sized}
-use Rattle.rows.specs.laws.Decode.{decodes-trusted}
-use Rattle.rows.specs.laws.Table.{atom-absent, atom-kind}
+use Rattle.rows.specs.Rows.{rowsOf}
 use Rattle.runs.specs.Runs.{RunsAt, AgentsAt}
 use Rattle.runs.specs.declared.Runs.{Runs}
-
-module _ (t : List ℕ) (n : ℕ) (sized : Sized t n) (r : ℕ) where
-  -- a row that is absent is no trusted agent's, one that is present is by its kind
-  pub trusted-absent : n ≤ r → false ≡ isTrusted (atomAt (rowsOf t) r)
-  trusted-absent = atom-absent t n sized isTrusted r refl
-
-  pub trusted-kind : r < n → eqb (getD t (3 * r) 0) 1 ≡ isTrusted (atomAt (rowsOf t) r)
-  trusted-kind = atom-kind t n sized isTrusted r (λ k. eqb k 1) (λ k a b row. decodes-trusted)
 
 -- a test of all elements from one on is that of the element and of those behind it
 every-from : {A : Type 0} (p : A → Bool) (xs : List A) (i : ℕ) {x : A} → getElem? xs i ≡ some x → every p (drop i xs) ≡ (p x && every p (drop (suc i) xs))

@@ -37,7 +37,7 @@ use Rattle.state.specs.Readings.{SetsOf, setsOf, withSets, readings}
 use Rattle.state.specs.State.{Arrays, IsState}
 use Rattle.semantics.specs.laws.List.{set-same, set-other}
 use Rattle.state.specs.laws.Readings.{with-same, with-other, sets-advanced, reading-run}
-use Rattle.state.specs.laws.Learn.{marked-derives}
+use Rattle.knowledge.specs.laws.Learn.{marked-derives}
 
 -- an agent's row has its agent without a run, and so has a role name for which it stands
 pub agent-value : (rows : List Row) → GoodTable rows → (u : ℕ) (run : Run) (sets : List (Atom × Value)) (i r : ℕ) → getElem? (run .agents) i ≡ some r → T (isAgent (atomAt rows r))

@@ -20,13 +20,13 @@ use Rattle.cells.specs.Cells.{cellOf, cellCount, absent, Shape, Within, Reading
 use Rattle.cells.specs.laws.Cells.{getD-any}
 use Rattle.classes.specs.Classes.{Grows, Refilled}
 use Rattle.classes.specs.laws.Classes.{classes-none, classes-there}
-use Rattle.knowledge.specs.Marks.{Marked, Settled}
+use Rattle.knowledge.specs.Marks.{Marked, Settled, LearnsCell}
 use Rattle.runs.specs.declared.RunEvent.{RunEvent}
 use Rattle.runs.specs.Runs.{EventRead}
 use Rattle.state.specs.declared.State.{State as CodeState}
 use Rattle.state.specs.declared.Moved.{Moved}
 use Rattle.state.specs.Readings.{SetsOf, setsIn, setsOf, withSets, readings}
-use Rattle.state.specs.State.{Arrays, Due, LearnsCell, IsState, NextMove, Sets, Ready, Performed, isAllowed, notAllowed}
+use Rattle.state.specs.State.{Arrays, Due, IsState, NextMove, Sets, Ready, Performed, isAllowed, notAllowed}
 use Rattle.state.specs.laws.Readings.{with-itself, readings-grow-from}
 use Rattle.state.specs.laws.Grown.{grown-arrays}
 use Rattle.state.specs.laws.Moves.{newReadings, mine, paired-none, sent-known, unsent, claimed, read-allowed, read-refused, advanced-state}

@@ -23,13 +23,14 @@ use Rattle.rows.specs.Rows.{rowsOf, placeAs}
 use Rattle.rows.specs.declared.Place.{Place}
 use Rattle.rows.specs.declared.Place.the-variants.{At, Nowhere}
 use Rattle.cells.specs.Cells.{Shape}
-use Rattle.role_level.specs.RoleLevel.{listedTerms, RoleExact}
+use Rattle.role_level.specs.laws.RoleLevel.{row-cell}
+use Rattle.role_level.specs.RoleLevel.{RoleCelled, listedTerms, RoleExact}
 use Rattle.records.specs.Records.{partAt, recordAt, eventAt}
 use Rattle.records.specs.laws.Events.{eventsLeft, left-events-all, left-events-cons, left-events-none}
 use Rattle.records.specs.laws.Records.{recordsLeft, left-none, left-all, left-cons}
 use Rattle.records.specs.laws.Roles.{role-bytes, own-rows, own-eventsIn, role-good, roles-all}
 use Rattle.wellformed.specs.WellFormed.{WellFormedEvent, EventLearns, IsEvent, GoodRecord, illRole, IllRole}
-use Rattle.role_marks.specs.Marks.{Covered, Learns}
+use Rattle.role_marks.specs.Marks.{Learns}
 use Rattle.role_marks.specs.laws.Marks.{has-term}
 use Rattle.wellformed.specs.laws.WellFormed.{EventIs, isSend, isRead, isClaim, event-is}
 
@@ -47,17 +48,17 @@ other-adds isClaim k known t = refl
 module _ (rows : List Row) (kind x : ℕ) (marks : List Bool) where
   -- so the marks after a read are those with its term known
   pub read-learns : kind ≡ 1 → (more : List Bool) → Learns rows x marks more → EventLearns rows kind x marks more
-  read-learns c more learns known e t covered exact k h = rw (read-adds (event-is kind e k) c known t) (learns known t covered exact h)
+  read-learns c more learns known e t celled exact k h = rw (read-adds (event-is kind e k) c known t) (learns known t celled exact h)
 
   -- and after another event they stay
   pub other-learns : (kind ≡ 1 → ⊥) → EventLearns rows kind x marks marks
-  other-learns c known e t covered exact k h = rw (other-adds (event-is kind e k) c known t) (covered, exact)
+  other-learns c known e t celled exact k h = rw (other-adds (event-is kind e k) c known t) (celled, exact)
 
 -- each term of listed rows is that of a row
-listed-covered : (rows : List Row) (list : List ℕ) → Covered rows (listedTerms rows list)
-listed-covered rows list t m =
+listed-celled : (rows : List Row) (list : List ℕ) → RoleCelled rows (listedTerms rows list)
+listed-celled rows list t m =
     let w = mem-map (valueOf asAtoms rows) list .0 (mem-present (map (valueOf asAtoms rows) list) .0 m) in
-    (w .0, sym (w .2))
+    row-cell (w .0) (sym (w .2))
 
 -- the rows listed in a role record, as the code reads them
 pub listed-rows : (s : List ℕ) (k : ℕ) → k ≡ getD s 0 0 → take (1 + k - 1) (drop 1 s) ≡ knowledgeIn s
@@ -86,7 +87,7 @@ events-are s first count good e f j l = rw e (good .events j (omega arith))
 -- What is known before event j of a role record: the first event that is not well formed is that of the events left.
 pub record RoleLeft (rows : List Row) (own : ℕ) (s : List ℕ) (first count j : ℕ) (marks : List Bool) : Type 0 where
   pub known : List Term
-  pub covered : Covered rows known
+  pub celled : RoleCelled rows known
   pub exact : RoleExact rows known marks
   pub left : (start : ℕ) → illRole rows own s start ≡ illFormedFrom rows own known (presentOnes (eventsLeft start s first count j))
 
@@ -95,7 +96,7 @@ module _ (rows : List Row) (own : ℕ) (s : List ℕ) (first count : ℕ) where
   pub role-start : first ≡ 2 + knowledgeCount s → count ≡ eventCount s → {marks : List Bool} → RoleExact rows (listedTerms rows (knowledgeIn s)) marks → RoleLeft rows own s first count 0 marks
   role-start e f exact = record {
     known = listedTerms rows (knowledgeIn s);
-    covered = listed-covered rows (knowledgeIn s);
+    celled = listed-celled rows (knowledgeIn s);
     exact = exact;
     left = λ start. ap (λ (es : List (Option Event)). illFormedFrom rows own (listedTerms rows (knowledgeIn s)) (presentOnes es)) (left-events-all start s first count e f);
   }
@@ -130,7 +131,7 @@ module _ (bytes : List ℕ) (n : ℕ) (shape : Shape bytes n 0) (own : ℕ) (s :
 
   -- whether it is well formed
   judged : r ≡ wellFormed own (left .known) (is .0) peer (value .0)
-  judged = formed (left .known) (is .0) (value .0) (left .covered) (left .exact) has-kind (value .1)
+  judged = formed (left .known) (is .0) (value .0) (left .celled) (left .exact) has-kind (value .1)
 
   -- one that is not is found
   pub role-ill : r ≡ false → first + 4 * j ≤ 1277 → IllRole (rowsOf bytes) own s (At (first + 4 * j))
@@ -145,10 +146,10 @@ module _ (bytes : List ℕ) (n : ℕ) (shape : Shape bytes n 0) (own : ℕ) (s :
   pub role-more : r ≡ true → (more : List Bool) → EventLearns (rowsOf bytes) kind x marks more → RoleLeft (rowsOf bytes) own s first count (j + 1) more
   unfolding eventTerm
   role-more f more learns =
-      let m = learns (left .known) (is .0) (value .0) (left .covered) (left .exact) has-kind (value .1) in
+      let m = learns (left .known) (is .0) (value .0) (left .celled) (left .exact) has-kind (value .1) in
       record {
         known = learned (left .known) (is .0) (value .0);
-        covered = m .0;
+        celled = m .0;
         exact = m .1;
         left = λ start. left .left start ∙ ap (illFormedFrom (rowsOf bytes) own (left .known)) (event-next start)
             ∙ ill-later (rowsOf bytes) own (left .known) (event start) (presentOnes (eventsLeft start s first count (j + 1))) (value .1) (sym judged ∙ f);

@@ -66,28 +66,28 @@ PeerKnown rows marks kind peer = (kind ≡ 2) ⊎ NameKnown rows marks peer true
 
 -- a peer whose name is known
 pub peer-found : (rows : List Row) (marks : List Bool) (kind peer : ℕ) {q : Bool} → NameKnown rows marks peer q → q ≡ true → PeerKnown rows marks kind peer
-peer-found rows marks kind peer named e = inr (λ known covered exact. sym e ∙ named known covered exact)
+peer-found rows marks kind peer named e = inr (λ known celled exact. sym e ∙ named known celled exact)
 
 module _ (bytes : List ℕ) (n : ℕ) (shape : Shape bytes n 0) (marks : List Bool) (own kind peer x : ℕ) {p : Bool} (named : NameKnown (rowsOf bytes) marks own p) where
   -- an event of a role whose name is not known
   pub own-unknown : p ≡ false → WellFormedEvent (rowsOf bytes) marks own kind peer x false
-  own-unknown f known e t covered exact k h = nameless own known peer t (sym (named known covered exact) ∙ f) e
+  own-unknown f known e t celled exact k h = nameless own known peer t (sym (named known celled exact) ∙ f) e
 
   module _ (own-known : p ≡ true) where
     -- an event that is no claim, with a peer whose name is not known
     pub peer-unknown : (kind ≡ 2 → ⊥) → {q : Bool} → NameKnown (rowsOf bytes) marks peer q → q ≡ false → WellFormedEvent (rowsOf bytes) marks own kind peer x false
-    peer-unknown c peer-named f known e t covered exact k h =
-        peerless own known peer t (sym (named known covered exact) ∙ own-known) (event-is kind e k) c (sym (peer-named known covered exact) ∙ f)
+    peer-unknown c peer-named f known e t celled exact k h =
+        peerless own known peer t (sym (named known celled exact) ∙ own-known) (event-is kind e k) c (sym (peer-named known celled exact) ∙ f)
 
     module _ (peer-known : PeerKnown (rowsOf bytes) marks kind peer) where
       -- a read
       pub was-read : kind ≡ 1 → {r : Bool} → ReadableRow (rowsOf bytes) marks x r → WellFormedEvent (rowsOf bytes) marks own kind peer x r
-      was-read c r known e t covered exact k h =
-          r known t covered exact h
-          ∙ read-formed own known peer t (sym (named known covered exact) ∙ own-known) (event-is kind e k) (⊎-map (λ m. m) (λ d. sym (d known covered exact)) peer-known) c
+      was-read c r known e t celled exact k h =
+          r known t celled exact h
+          ∙ read-formed own known peer t (sym (named known celled exact) ∙ own-known) (event-is kind e k) (⊎-map (λ m. m) (λ d. sym (d known celled exact)) peer-known) c
 
       -- a send or a claim
       pub was-other : (kind ≡ 1 → ⊥) → {r : Bool} → r ≡ getD marks x false → WellFormedEvent (rowsOf bytes) marks own kind peer x r
-      was-other c r known e t covered exact k h =
+      was-other c r known e t celled exact k h =
           r ∙ mark-answers bytes n shape marks exact x h
-          ∙ other-formed own known peer t (sym (named known covered exact) ∙ own-known) (event-is kind e k) (⊎-map (λ m. m) (λ d. sym (d known covered exact)) peer-known) c
+          ∙ other-formed own known peer t (sym (named known celled exact) ∙ own-known) (event-is kind e k) (⊎-map (λ m. m) (λ d. sym (d known celled exact)) peer-known) c

@@ -11,9 +11,9 @@ use lib.ListN.{length, getElem?, drop}
 use Rattle.semantics.specs.Frame.{Part, records}
 use Rattle.semantics.specs.Roles.{roleLength, roleRecords}
 use Rattle.semantics.specs.laws.List.{getElem-there}
-use Rattle.records.specs.Records.{partAt, recordAt}
+use Rattle.records.specs.Records.{partAt, recordAt, RoleAt}
 use Rattle.records.specs.laws.Roles.{role-bytes}
 use Rattle.records.specs.laws.Records.{recordsLeft, left-all, left-cons, left-none}
 
 -- the records from one with a number on are those from a place on
 abbrev pub Begins : (List ℕ → ℕ) → List ℕ → ℕ → ℕ → Type 0
@@ -67,6 +67,6 @@ module _ (b : List ℕ) (i : ℕ) where
   role-within w j at l begins = begins-within roleLength role-bytes b j at begins (w .0) (i - j) (omega (arith, w .1))
 
   -- the role record at the place has the number
-  pub role-record : (at : ℕ) → Begins roleLength b i at → at < length b → (base : ℕ) → getElem? (roleRecords (partAt base b)) i ≡ some (recordAt roleLength (base + at) (drop at b))
+  pub role-record : (at : ℕ) → Begins roleLength b i at → at < length b → RoleAt b i at
   unfolding roleRecords
   role-record at begins within base = begins-record roleLength role-bytes b i at begins within base

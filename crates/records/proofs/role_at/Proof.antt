@@ -1,15 +1,15 @@
--- `runs::role_at` meets its contract. The loop's invariant: role record j begins at the place, which is in the block. The measure is how many records are left to pass. Assumes nothing.
+-- `records::role_at` meets its contract. The loop's invariant: role record j begins at the place, which is in the block. The measure is how many records are left to pass. Assumes nothing.
 use Prim.Native.Nat.{_+_, _-_, _<_, _≤_}
 use native.Mathlib.Omega.{arith}
 use mathlib.Core.Path.{_≡_}
 use lib.ListN.{length}
 use borrow.Author.Needs.{needs}
 use Rattle.semantics.specs.Roles.{roleLength}
 use Rattle.records.specs.laws.Records.{rest-whole}
 use Rattle.records.specs.laws.Roles.{role-bytes}
-use Rattle.runs.specs.laws.Begins.{Begins, begins-first, begins-next, role-within, role-record}
-use Rattle.runs.proofs.role_at.Statement.{statement}
-use Rattle.runs.proofs.role_at.Tie as tie
+use Rattle.records.specs.laws.Begins.{Begins, begins-first, begins-next, role-within, role-record}
+use Rattle.records.proofs.role_at.Statement.{statement}
+use Rattle.records.proofs.role_at.Tie as tie
 
 abbrev Inv-loop : tie.InvT-loop
 Inv-loop b i j₀ at₀ j at = (j ≤ i) × ((at < length b) × Begins roleLength b j at)

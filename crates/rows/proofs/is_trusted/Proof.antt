@@ -1,8 +1,8 @@
--- `runs::is_trusted` meets its contract: a row is a trusted agent's by its kind. Assumes nothing.
+-- `rows::is_trusted` meets its contract: a row is a trusted agent's by its kind. Assumes nothing.
 use borrow.Author.Needs.{needs}
-use Rattle.runs.specs.laws.Trusted.{trusted-absent, trusted-kind}
-use Rattle.runs.proofs.is_trusted.Statement.{statement}
-use Rattle.runs.proofs.is_trusted.Tie as tie
+use Rattle.rows.specs.laws.Agents.{trusted-absent, trusted-kind}
+use Rattle.rows.proofs.is_trusted.Statement.{statement}
+use Rattle.rows.proofs.is_trusted.Tie as tie
 
 returns : tie.Need-returns
 returns c = let s = c .before .before in trusted-absent (s .args .t .now) (s .args .n) (s .pre) (s .args .r) (c .if1 .taken)

@@ -13,11 +13,9 @@ use Rattle.semantics.specs.Inference.{Derives, member}
 use Rattle.semantics.specs.Table.{Row}
 use Rattle.semantics.specs.laws.Inference.{derives-cut, derives-monotone}
 use Rattle.cells.specs.Cells.{cellOf, cellCount, Within, Readings, cellValue}
-use Rattle.knowledge.specs.Marks.{Marked, Derivable, Exact, Celled, Settled}
-use Rattle.knowledge.specs.Steps.{On}
+use Rattle.knowledge.specs.Marks.{Marked, Derivable, Exact, Celled, Settled, LearnsCell, Learnt, wasMarked, isWorked}
 use Rattle.knowledge.specs.laws.Filled.{set-on, set-keeps}
 use Rattle.knowledge.specs.laws.Values.{cells-apart}
-use Rattle.state.specs.State.{LearnsCell}
 
 module _ (rows : List Row) (few : length rows ≤ 96) (runs : ℕ) (r u : ℕ) (within : Within rows runs r u) where
   -- a cell with a value is marked exactly if the value derives
@@ -37,7 +35,7 @@ module _ (rows : List Row) (few : length rows ≤ 96) (runs : ℕ) (r u : ℕ) (
     derivable-more readings known t x w d = (d .0, d .1, derives-monotone (λ y m. later m) (d .2))
 
     -- a value that is marked adds nothing
-    pub learns-marked : Marked marks r u → LearnsCell rows runs classes r u marks marks
+    learns-marked : Marked marks r u → LearnsCell rows runs classes r u marks marks
     learns-marked o readings known t right celled exact e = (
       celled-more readings known t e celled,
       λ x w h. (λ m. derivable-more readings known t x w (exact x w h .0 m), λ d. exact x w h .1 (d .0, d .1, derives-cut known-before (d .2))),
@@ -47,7 +45,7 @@ module _ (rows : List Row) (few : length rows ≤ 96) (runs : ℕ) (r u : ℕ) (
         known-before y m = ⊎-elim (λ f. rw f (marked-derives readings known marks exact e .0 o)) member (List·Memᴰ·cases-cons m)
 
     -- marks worked on after one more was set
-    pub learns-settled : (more : List Bool) → cellOf r u < length marks → Settled rows runs classes (set marks (cellOf r u) true) more → LearnsCell rows runs classes r u marks more
+    learns-settled : (more : List Bool) → cellOf r u < length marks → Settled rows runs classes (set marks (cellOf r u) true) more → LearnsCell rows runs classes r u marks more
     learns-settled more l settled readings known t right celled exact e =
         (celled-more readings known t e celled, settled readings (t ∷ known) right (record { sound = sound; covers = covers }))
       where
@@ -62,3 +60,8 @@ module _ (rows : List Row) (few : length rows ≤ 96) (runs : ℕ) (r u : ℕ) (
             (λ f. (r, u, within, rw f e, getD-set-same marks (cellOf r u) true false l))
             (λ k. let c = celled s k in (c .0, c .1, c .2, c .3, set-keeps marks (cellOf r u) (cellOf (c .0) (c .1)) (exact (c .0) (c .1) (c .2) .1 (s, c .3, member k))))
             (List·Memᴰ·cases-cons m)
+
+    -- so what is found is exact with one more value known
+    pub learnt-exact : length marks ≡ cellCount → cellOf r u < cellCount → {more : List Bool} → Learnt rows runs classes r u marks more → LearnsCell rows runs classes r u marks more
+    learnt-exact size l (wasMarked o) = learns-marked o
+    learnt-exact size l (isWorked {more} settled) = learns-settled more (omega (arith, size)) settled

@@ -1,8 +1,8 @@
--- `records::is_agent` meets its contract: a row is an agent's by its kind. Assumes nothing.
+-- `rows::is_agent` meets its contract: a row is an agent's by its kind. Assumes nothing.
 use borrow.Author.Needs.{needs}
-use Rattle.records.specs.laws.Runs.{agent-absent, agent-kind}
-use Rattle.records.proofs.is_agent.Statement.{statement}
-use Rattle.records.proofs.is_agent.Tie as tie
+use Rattle.rows.specs.laws.Agents.{agent-absent, agent-kind}
+use Rattle.rows.proofs.is_agent.Statement.{statement}
+use Rattle.rows.proofs.is_agent.Tie as tie
 
 returns : tie.Need-returns
 returns c = let s = c .before .before in agent-absent (s .args .t .now) (s .args .n) (s .pre) (s .args .r) (c .if1 .taken)
