@@ -7,19 +7,20 @@ ghost use Rattle.semantics.specs.State.{Active};
 ghost use Rattle.semantics.specs.Replay.{valuesIn};
 ghost use Rattle.cells.specs.Cells.{Shape};
 ghost use Rattle.state.specs.State.{NextMove};
-ghost use Rattle.choices.specs.Choices.{Suited};
+ghost use Rattle.choices.specs.Choices.{Suited, SuitedRead};
+use cells::Cells;
 use runs::RunEvent;
 use state::State;
 
 // Whether new values suit a read, and the names with them.
 pub struct Choice {
     pub suits: bool,
-    pub names: [u16; 480],
+    pub names: [u16; Cells::COUNT],
 }
 
 // The names with the new values of a read of run k, if they are as many as its unset variables and each may be taken.
 fn chosen(
-    names: [u16; 480],
+    names: [u16; Cells::COUNT],
     t: &[u8],
     n: usize,
     runs: usize,
@@ -28,7 +29,7 @@ fn chosen(
     values: &[u8],
 ) -> Choice
     requires { ⌜ Shape (now t) n runs × ((k < runs) × (row < n)) ⌝ }
-    ensures { λ c. ⌜ ((e : RunEvent) (sc : Scenario) (d : definitions.State) (s : State) (a : Active) → NextMove (now (t .entry)) runs k e sc d s a → names ≡ s .names → row ≡ e .row → e .kind ≡ 1 → Suited sc d a (valuesIn (now (values .entry))) c) ⌝ }
+    ensures { λ c. ⌜ SuitedRead (now (t .entry)) runs k row names (now (values .entry)) c ⌝ }
 {
     let below = variables::beneath(t, n, row);
     let mut more = names;

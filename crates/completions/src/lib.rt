@@ -1,39 +1,46 @@
 // Whether a partial choice of values has a completion with which a row is derivable: the classes that each unset variable may still get are narrowed until
 // none falls away, and tried one by one where variables are tied to each other.
 ghost use mathlib.Core.Path.{_≡_};
-ghost use mathlib.Core.Bool.{Bool, true, false};
-ghost use mathlib.Core.List.{List};
+ghost use mathlib.Core.Bool.{false};
 ghost use Prim.Native.Nat.{ℕ, _<_, _≤_};
 ghost use lib.ListN.{length, getD};
-ghost use Rattle.rows.specs.Rows.{rowsOf, Sized};
 ghost use Rattle.cells.specs.Cells.{Shape, cellCount};
-ghost use Rattle.variables.specs.Variables.{Beneath};
-ghost use Rattle.domains.specs.Domains.{In, InRow, Low};
-ghost use Rattle.completions.specs.Completions.{Scene, Open, Allowed, Admitted, Matched, Covered, CoveredRows, Kept, Passed, Completes};
+ghost use Rattle.variables.specs.Variables.{In, AreVariables};
+ghost use Rattle.possible.specs.Tests.{RowInRun};
+ghost use Rattle.completions.specs.Completions.{Scene, Ready, NeedsAt, Admitted, Matched, MissesNone, RowsReady, VariableSet, NoneEmpty, Kept, Completable, Completes};
 use cells::Cells;
 use cells::cell;
-use domains::Variables;
+use domains::Domains;
+use domains::Sets;
 use fits::Needs;
+use rows::Kind;
+use variables::VariableRows;
+
+// A pattern that is read: its run and row, in a table with so many rows and a scenario with so many runs, and its variables without a value.
+pub struct Pattern {
+    pub rows: usize,
+    pub runs: usize,
+    pub run: usize,
+    pub row: usize,
+    pub vars: VariableRows,
+}
 
 // What rows need so that row r gets the value of a marked cell, if that is of its kind and stands for its own value, and the domains have what variables need.
 fn needs_at(
     t: &[u8],
-    n: usize,
-    runs: usize,
     classes: &[u16],
     marks: &[bool],
-    u: usize,
-    vars: Variables,
-    dom: &[bool; 3840],
+    pattern: Pattern,
+    dom: &[bool; Domains::CELLS],
     r: usize,
     c: usize,
 ) -> Needs
-    requires { ⌜ Scene (now t) n runs (now classes) (now marks) u vars × ((r < n) × (c < cellCount)) ⌝ }
-    ensures { λ needs. ⌜ Allowed (now (t .entry)) n runs (now (classes .entry)) (now (marks .entry)) u vars (now (dom .entry)) r c (needs .met) (needs .rows) ⌝ }
+    requires { ⌜ Scene (now t) (now classes) (now marks) pattern × ((r < pattern .rows) × (c < cellCount)) ⌝ }
+    ensures { λ needs. ⌜ NeedsAt (now (t .entry)) (now (classes .entry)) (now (marks .entry)) pattern (now (dom .entry)) r c (needs .met) (needs .rows) ⌝ }
 {
     let none = [Cells::ABSENT; 96];
     let y = c % 96;
-    if n <= y {
+    if pattern.rows <= y {
         return Needs {
             met: false,
             rows: none,
@@ -52,8 +59,17 @@ fn needs_at(
             rows: none,
         };
     }
-    let needs = fits::needs_of(t, n, runs, classes, u, r, class);
+    let needs = fits::needs_of(
+        t,
+        pattern.rows,
+        pattern.runs,
+        classes,
+        pattern.run,
+        r,
+        class,
+    );
     let need = needs.rows;
+    let vars = pattern.vars;
     if domains::fit(dom, vars, need) {
         return needs;
     }
@@ -64,7 +80,12 @@ fn needs_at(
 }
 
 // The set with the class that variable i needs, or with every class if it needs none.
-fn admit(set: [bool; 480], vars: Variables, i: usize, needs: Needs) -> [bool; 480]
+fn admit(
+    set: [bool; Cells::COUNT],
+    vars: VariableRows,
+    i: usize,
+    needs: Needs,
+) -> [bool; Cells::COUNT]
     requires { ⌜ (i < vars .count) × ((vars .count ≤ 8) × ((j : ℕ) → j < vars .count → getD (vars .rows) j 0 < 96)) ⌝ }
     ensures { λ more. ⌜ Admitted vars i (needs .met) (needs .rows) set more ⌝ }
 {
@@ -80,30 +101,28 @@ fn admit(set: [bool; 480], vars: Variables, i: usize, needs: Needs) -> [bool; 48
         more[class as usize] = true;
         return more;
     }
-    [true; 480]
+    [true; Cells::COUNT]
 }
 
 // The classes that variable i gets where row r gets the value of a marked cell.
 fn matched(
     t: &[u8],
-    n: usize,
-    runs: usize,
     classes: &[u16],
     marks: &[bool],
-    u: usize,
-    vars: Variables,
-    dom: &[bool; 3840],
+    pattern: Pattern,
+    dom: &[bool; Domains::CELLS],
     i: usize,
     r: usize,
-) -> [bool; 480]
-    requires { ⌜ Scene (now t) n runs (now classes) (now marks) u vars × ((i < vars .count) × (r < n)) ⌝ }
-    ensures { λ set. ⌜ Matched (now (t .entry)) n runs (now (classes .entry)) (now (marks .entry)) u vars (now (dom .entry)) i r set ⌝ }
+) -> [bool; Cells::COUNT]
+    requires { ⌜ Scene (now t) (now classes) (now marks) pattern × ((i < pattern .vars .count) × (r < pattern .rows)) ⌝ }
+    ensures { λ set. ⌜ Matched (now (t .entry)) (now (classes .entry)) (now (marks .entry)) pattern (now (dom .entry)) i r set ⌝ }
 {
-    let mut set = [false; 480];
+    let vars = pattern.vars;
+    let mut set = [false; Cells::COUNT];
     let mut c = 0;
     while c < Cells::COUNT {
         if marks[c] {
-            let needs = needs_at(t, n, runs, classes, marks, u, vars, dom, r, c);
+            let needs = needs_at(t, classes, marks, pattern, dom, r, c);
             let more = admit(set, vars, i, needs);
             set = more;
         }
@@ -114,64 +133,62 @@ fn matched(
 
 // The classes that variable i gets where an unset variable is derivable: its own are those that are marked, and another must have one such class.
 fn leaf(
-    dom: &[bool; 3840],
-    marked: &[bool; 3840],
-    vars: Variables,
+    dom: &[bool; Domains::CELLS],
+    marked: &[bool; Domains::CELLS],
+    pattern: Pattern,
     i: usize,
     r: usize,
-) -> [bool; 480]
-    requires { ⌜ (i < vars .count) × (vars .count ≤ 8) ⌝ }
-    ensures { λ set. ⌜ ((t : List ℕ) (n runs : ℕ) (classes : List ℕ) (marks : List Bool) (u : ℕ) → Scene t n runs classes marks u vars → Open t n runs classes marks u vars (now (marked .entry)) → Covered t n runs classes marks u vars (now (dom .entry)) i r (In set)) ⌝ }
+) -> [bool; Cells::COUNT]
+    requires { ⌜ (i < pattern .vars .count) × (pattern .vars .count ≤ 8) ⌝ }
+    ensures { λ set. ⌜ VariableSet pattern (now (dom .entry)) (now (marked .entry)) i r set ⌝ }
 {
+    let vars = pattern.vars;
     let slot = domains::slot_of(vars, r);
     if slot == vars.count {
-        return [true; 480];
+        return [true; Cells::COUNT];
     }
     if slot == i {
         return domains::domain_of(marked, i);
     }
     if domains::meet(dom, marked, slot) {
-        return [true; 480];
+        return [true; Cells::COUNT];
     }
-    [false; 480]
+    [false; Cells::COUNT]
 }
 
 // The classes that variable i gets where row r is derivable, by those of its parts.
 fn set_at(
     sets: &[bool],
     t: &[u8],
-    n: usize,
-    runs: usize,
     classes: &[u16],
     marks: &[bool],
-    u: usize,
-    vars: Variables,
-    dom: &[bool; 3840],
-    marked: &[bool; 3840],
+    pattern: Pattern,
+    dom: &[bool; Domains::CELLS],
+    marked: &[bool; Domains::CELLS],
     i: usize,
     r: usize,
-) -> [bool; 480]
-    requires { ⌜ Scene (now t) n runs (now classes) (now marks) u vars × (Open (now t) n runs (now classes) (now marks) u vars (now marked) × (CoveredRows (now t) n runs (now classes) (now marks) u vars (now dom) i (now sets) × ((i < vars .count) × (r < n)))) ⌝ }
-    ensures { λ set. ⌜ Covered (now (t .entry)) n runs (now (classes .entry)) (now (marks .entry)) u vars (now (dom .entry)) i r (In set) ⌝ }
+) -> [bool; Cells::COUNT]
+    requires { ⌜ RowsReady (now t) (now classes) (now marks) pattern (now dom) (now marked) i r (now sets) ⌝ }
+    ensures { λ set. ⌜ MissesNone (now (t .entry)) (now (classes .entry)) (now (marks .entry)) pattern (now (dom .entry)) i r (In set) ⌝ }
 {
-    if knowledge::class_at(classes, r, u) < Cells::ABSENT {
-        let mark = marks[cell(r, u)];
-        return [mark; 480];
+    if knowledge::class_at(classes, r, pattern.run) < Cells::ABSENT {
+        let mark = marks[cell(r, pattern.run)];
+        return [mark; Cells::COUNT];
     }
     let kind = rows::kind_of(t, r);
-    if kind < 8 {
-        return leaf(dom, marked, vars, i, r);
+    if kind < Kind::FIRST_MADE {
+        return leaf(dom, marked, pattern, i, r);
     }
-    if kind == 11 {
+    if kind == Kind::PAIR {
         return domains::join(
-            [false; 480],
+            [false; Cells::COUNT],
             sets,
             rows::left_of(t, r),
             cells::second_of(t, r),
         );
     }
-    let set = matched(t, n, runs, classes, marks, u, vars, dom, i, r);
-    if kind == 12 {
+    let set = matched(t, classes, marks, pattern, dom, i, r);
+    if kind == Kind::ENCRYPTED {
         return domains::join(set, sets, rows::left_of(t, r), cells::second_of(t, r));
     }
     set
@@ -180,48 +197,32 @@ fn set_at(
 // The classes that variable i gets where row x is derivable.
 fn set_of(
     t: &[u8],
-    n: usize,
-    runs: usize,
     classes: &[u16],
     marks: &[bool],
-    u: usize,
-    vars: Variables,
-    dom: &[bool; 3840],
-    marked: &[bool; 3840],
+    pattern: Pattern,
+    dom: &[bool; Domains::CELLS],
+    marked: &[bool; Domains::CELLS],
     below: &[bool; 96],
     i: usize,
-    x: usize,
-) -> [bool; 480]
-    requires { ⌜ Scene (now t) n runs (now classes) (now marks) u vars × (Open (now t) n runs (now classes) (now marks) u vars (now marked) × ((i < vars .count) × (x < n))) ⌝ }
-    ensures { λ set. ⌜ Covered (now (t .entry)) n runs (now (classes .entry)) (now (marks .entry)) u vars (now (dom .entry)) i x (In set) ⌝ }
+) -> [bool; Cells::COUNT]
+    requires { ⌜ Ready (now t) (now classes) (now marks) pattern (now marked) × (i < pattern .vars .count) ⌝ }
+    ensures { λ set. ⌜ MissesNone (now (t .entry)) (now (classes .entry)) (now (marks .entry)) pattern (now (dom .entry)) i (pattern .row) (In set) ⌝ }
 {
-    let mut sets = [true; 46080];
+    let x = pattern.row;
+    let mut sets = [true; Sets::CELLS];
     let mut r = 0;
     while r <= x {
         if below[r] {
-            let set = set_at(
-                &sets,
-                t,
-                n,
-                runs,
-                classes,
-                marks,
-                u,
-                vars,
-                dom,
-                marked,
-                i,
-                r,
-            );
+            let set = set_at(&sets, t, classes, marks, pattern, dom, marked, i, r);
             domains::put(&mut sets, r, set);
         }
         r += 1;
     }
-    domains::join([false; 480], &sets, x, x)
+    domains::join([false; Cells::COUNT], &sets, x, x)
 }
 
 // Whether variable i may get more than one class. The first is always looked at, since any shows that there is no completion.
-fn is_open(dom: &[bool; 3840], i: usize) -> bool
+fn is_open(dom: &[bool; Domains::CELLS], i: usize) -> bool
     requires { ⌜ i < 8 ⌝ }
 {
     if i == 0 {
@@ -232,39 +233,23 @@ fn is_open(dom: &[bool; 3840], i: usize) -> bool
 
 // The domains, each that has more than one class narrowed once to those that its variable gets where row x is derivable.
 fn narrowed(
-    dom: [bool; 3840],
+    dom: [bool; Domains::CELLS],
     t: &[u8],
-    n: usize,
-    runs: usize,
     classes: &[u16],
     marks: &[bool],
-    u: usize,
-    vars: Variables,
-    marked: &[bool; 3840],
+    pattern: Pattern,
+    marked: &[bool; Domains::CELLS],
     below: &[bool; 96],
-    x: usize,
-) -> [bool; 3840]
-    requires { ⌜ Scene (now t) n runs (now classes) (now marks) u vars × (Open (now t) n runs (now classes) (now marks) u vars (now marked) × (x < n)) ⌝ }
-    ensures { λ less. ⌜ Kept (now (t .entry)) n runs (now (classes .entry)) (now (marks .entry)) u vars dom x less ⌝ }
+) -> [bool; Domains::CELLS]
+    requires { ⌜ Ready (now t) (now classes) (now marks) pattern (now marked) ⌝ }
+    ensures { λ less. ⌜ Kept (now (t .entry)) (now (classes .entry)) (now (marks .entry)) pattern dom less ⌝ }
 {
+    let vars = pattern.vars;
     let mut less = dom;
     let mut i = 0;
     while i < vars.count {
         if is_open(&less, i) {
-            let set = set_of(
-                t,
-                n,
-                runs,
-                classes,
-                marks,
-                u,
-                vars,
-                &less,
-                marked,
-                below,
-                i,
-                x,
-            );
+            let set = set_of(t, classes, marks, pattern, &less, marked, below, i);
             let next = domains::narrow(less, i, set);
             less = next;
         }
@@ -274,7 +259,7 @@ fn narrowed(
 }
 
 // How many classes all domains have together.
-fn total(dom: &[bool; 3840], vars: Variables) -> usize
+fn total(dom: &[bool; Domains::CELLS], vars: VariableRows) -> usize
     requires { ⌜ vars .count ≤ 8 ⌝ }
 {
     let mut sum = 0;
@@ -288,26 +273,23 @@ fn total(dom: &[bool; 3840], vars: Variables) -> usize
 
 // The domains, narrowed until no class falls away.
 fn settled(
-    dom: [bool; 3840],
+    dom: [bool; Domains::CELLS],
     t: &[u8],
-    n: usize,
-    runs: usize,
     classes: &[u16],
     marks: &[bool],
-    u: usize,
-    vars: Variables,
-    marked: &[bool; 3840],
+    pattern: Pattern,
+    marked: &[bool; Domains::CELLS],
     below: &[bool; 96],
-    x: usize,
-) -> [bool; 3840]
-    requires { ⌜ Scene (now t) n runs (now classes) (now marks) u vars × (Open (now t) n runs (now classes) (now marks) u vars (now marked) × (x < n)) ⌝ }
-    ensures { λ less. ⌜ Kept (now (t .entry)) n runs (now (classes .entry)) (now (marks .entry)) u vars dom x less ⌝ }
+) -> [bool; Domains::CELLS]
+    requires { ⌜ Ready (now t) (now classes) (now marks) pattern (now marked) ⌝ }
+    ensures { λ less. ⌜ Kept (now (t .entry)) (now (classes .entry)) (now (marks .entry)) pattern dom less ⌝ }
 {
+    let vars = pattern.vars;
     let mut less = dom;
     let mut round: usize = 0;
-    while round < 480 {
+    while round < Cells::COUNT {
         let before = total(&less, vars);
-        let next = narrowed(less, t, n, runs, classes, marks, u, vars, marked, below, x);
+        let next = narrowed(less, t, classes, marks, pattern, marked, below);
         less = next;
         if total(&less, vars) == before {
             return less;
@@ -318,9 +300,9 @@ fn settled(
 }
 
 // Whether a domain has no class.
-fn is_empty(dom: &[bool; 3840], vars: Variables) -> bool
+fn is_empty(dom: &[bool; Domains::CELLS], vars: VariableRows) -> bool
     requires { ⌜ vars .count ≤ 8 ⌝ }
-    ensures { λ b. ⌜ (((i : ℕ) → i < vars .count → (c : ℕ) × ((c < 480) × InRow (now (dom .entry)) i c)) → b ≡ false) ⌝ }
+    ensures { λ b. ⌜ (NoneEmpty vars (now (dom .entry)) → b ≡ false) ⌝ }
 {
     let mut i = 0;
     while i < vars.count {
@@ -333,7 +315,7 @@ fn is_empty(dom: &[bool; 3840], vars: Variables) -> bool
 }
 
 // How many classes each domain has.
-fn sizes(dom: &[bool; 3840], vars: Variables) -> [usize; 8]
+fn sizes(dom: &[bool; Domains::CELLS], vars: VariableRows) -> [usize; 8]
     requires { ⌜ vars .count ≤ 8 ⌝ }
 {
     let mut sizes = [0; 8];
@@ -346,7 +328,7 @@ fn sizes(dom: &[bool; 3840], vars: Variables) -> [usize; 8]
 }
 
 // The variable with the smallest domain of those beneath a row that may get more than one class, if there are two such; or else one that is given.
-fn smallest(vars: Variables, sizes: [usize; 8], under: [bool; 96], given: usize) -> usize
+fn smallest(vars: VariableRows, sizes: [usize; 8], under: [bool; 96], given: usize) -> usize
     requires { ⌜ (vars .count ≤ 8) × ((j : ℕ) → j < vars .count → getD (vars .rows) j 0 < 96) ⌝ }
 {
     let rows = vars.rows;
@@ -383,25 +365,24 @@ fn smallest(vars: Variables, sizes: [usize; 8], under: [bool; 96], given: usize)
 // is right: variables that are not tied need not be tried.
 fn tied(
     t: &[u8],
-    n: usize,
-    runs: usize,
     classes: &[u16],
-    u: usize,
-    vars: Variables,
-    dom: &[bool; 3840],
+    pattern: Pattern,
+    dom: &[bool; Domains::CELLS],
     below: &[bool; 96],
 ) -> usize
-    requires { ⌜ Shape (now t) n runs × ((length (now classes) ≡ cellCount) × ((u ≤ runs) × Low (now t) n vars)) ⌝ }
+    requires { ⌜ Shape (now t) (pattern .rows) (pattern .runs) × ((length (now classes) ≡ cellCount) × ((pattern .run ≤ pattern .runs) × AreVariables (now t) (pattern .rows) (pattern .vars))) ⌝ }
 {
+    let vars = pattern.vars;
+    let n = pattern.rows;
     let counts = sizes(dom, vars);
     let mut best = vars.count;
     let mut r = 0;
     while r < n {
         if below[r] {
             let kind = rows::kind_of(t, r);
-            if 8 <= kind {
-                if kind != 11 {
-                    if knowledge::class_at(classes, r, u) == Cells::ABSENT {
+            if Kind::FIRST_MADE <= kind {
+                if kind != Kind::PAIR {
+                    if knowledge::class_at(classes, r, pattern.run) == Cells::ABSENT {
                         best = smallest(vars, counts, variables::beneath(t, n, r), best);
                     }
                 }
@@ -414,53 +395,37 @@ fn tied(
 
 // Whether the variables may get classes of the domains with which row x is derivable.
 fn completable(
-    dom: [bool; 3840],
+    dom: [bool; Domains::CELLS],
     t: &[u8],
-    n: usize,
-    runs: usize,
     classes: &[u16],
     marks: &[bool],
-    u: usize,
-    vars: Variables,
-    marked: &[bool; 3840],
+    pattern: Pattern,
+    marked: &[bool; Domains::CELLS],
     below: &[bool; 96],
-    x: usize,
     depth: usize,
 ) -> bool
-    requires { ⌜ Scene (now t) n runs (now classes) (now marks) u vars × (Open (now t) n runs (now classes) (now marks) u vars (now marked) × (x < n)) ⌝ }
-    ensures { λ b. ⌜ Passed (now (t .entry)) n runs (now (classes .entry)) (now (marks .entry)) u vars dom x b ⌝ }
+    requires { ⌜ Ready (now t) (now classes) (now marks) pattern (now marked) ⌝ }
+    ensures { λ b. ⌜ Completable (now (t .entry)) (now (classes .entry)) (now (marks .entry)) pattern dom b ⌝ }
 {
-    let less = settled(dom, t, n, runs, classes, marks, u, vars, marked, below, x);
+    let vars = pattern.vars;
+    let less = settled(dom, t, classes, marks, pattern, marked, below);
     if is_empty(&less, vars) {
         return false;
     }
     if depth == 0 {
         return true;
     }
-    let i = tied(t, n, runs, classes, u, vars, &less, below);
+    let i = tied(t, classes, pattern, &less, below);
     if vars.count <= i {
         return true;
     }
     let mut c = 0;
     while c < Cells::COUNT {
-        if less[i * 480 + c] {
-            let mut one = [false; 480];
+        if less[i * Cells::COUNT + c] {
+            let mut one = [false; Cells::COUNT];
             one[c] = true;
             let only = domains::narrow(less, i, one);
-            if completable(
-                only,
-                t,
-                n,
-                runs,
-                classes,
-                marks,
-                u,
-                vars,
-                marked,
-                below,
-                x,
-                depth - 1,
-            ) {
+            if completable(only, t, classes, marks, pattern, marked, below, depth - 1) {
                 return true;
             }
         }
@@ -480,28 +445,22 @@ pub fn completes(
     u: usize,
     x: usize,
 ) -> bool
-    requires { ⌜ Shape (now t) n runs × ((length (now classes) ≡ cellCount) × ((length (now marks) ≡ cellCount) × ((u ≤ runs) × (x < n)))) ⌝ }
+    requires { ⌜ RowInRun (now t) n runs (now classes) (now marks) u x ⌝ }
     ensures { λ b. ⌜ Completes (now (t .entry)) n runs (now (classes .entry)) (now (marks .entry)) u x b ⌝ }
 {
     let below = variables::beneath(t, n, x);
-    let vars = domains::unset_rows(t, n, runs, classes, below, u);
+    let vars = variables::unset_rows(t, n, classes, below, u);
     if vars.count < 2 {
         return true;
     }
-    let dom = domains::domains(t, n, runs, classes, marks, false, vars);
-    let marked = domains::domains(t, n, runs, classes, marks, true, vars);
-    completable(
-        dom,
-        t,
-        n,
+    let dom = domains::of_variables(t, n, runs, classes, marks, false, vars);
+    let marked = domains::of_variables(t, n, runs, classes, marks, true, vars);
+    let pattern = Pattern {
+        rows: n,
         runs,
-        classes,
-        marks,
-        u,
+        run: u,
+        row: x,
         vars,
-        &marked,
-        &below,
-        x,
-        8,
-    )
+    };
+    completable(dom, t, classes, marks, pattern, &marked, &below, 8)
 }

@@ -1,4 +1,4 @@
--- Unset variables of a run, sets of classes, and domains: a set of 480 classes for each of 8 variables, one after the other. Assumes nothing.
+-- Sets of classes, and domains: a set of classes for each of 8 variables, one after the other. Assumes nothing.
 use Prim.Native.Nat.{ℕ, _+_, _*_, _<_, _≤_}
 use mathlib.Core.Path.{_≡_}
 use mathlib.Core.Bool.{Bool, true, false}
@@ -10,66 +10,58 @@ use Rattle.semantics.specs.Runs.{atomAt}
 use Rattle.semantics.specs.Moves.{candidates}
 use Rattle.semantics.specs.Replay.{isValueOf}
 use Rattle.rows.specs.Rows.{rowsOf}
-use Rattle.cells.specs.Cells.{cellOf, absent}
+use Rattle.cells.specs.Cells.{cellOf, cellCount, absent}
 use Rattle.knowledge.specs.Marks.{Marked}
 use Rattle.knowledge.specs.Steps.{classAt, kindAt, Inside}
-use Rattle.domains.specs.declared.Variables.{Variables}
+use Rattle.variables.specs.declared.VariableRows.{VariableRows}
+use Rattle.variables.specs.Variables.{In}
 
--- a class is in a set
-abbrev pub In : List Bool → ℕ → Type 0
-In set c = getD set c false ≡ true
+-- how many cells the domains of 8 variables have, and the sets of 96 rows
+abbrev pub domainCells : ℕ
+domainCells = 3840
+
+abbrev pub setCells : ℕ
+setCells = 46080
 
 -- a class is in the domain of a variable, or in the set of a row
 abbrev pub InRow : List Bool → ℕ → ℕ → Type 0
-InRow dom i c = getD dom (i * 480 + c) false ≡ true
+InRow dom i c = getD dom (i * cellCount + c) false ≡ true
 
--- rows of variables, at most 8
-pub record Low (bytes : List ℕ) (n : ℕ) (vars : Variables) : Type 0 where
-  pub few : vars .count ≤ 8
-  pub row : (i : ℕ) → i < vars .count → getD (vars .rows) i 0 < n
-  pub kind : (i : ℕ) → i < vars .count → kindAt bytes (getD (vars .rows) i 0) ≡ 6
-
--- of variables without a value, beneath a pattern
-pub record Unset (bytes : List ℕ) (n : ℕ) (classes : List ℕ) (u : ℕ) (below : List Bool) (vars : Variables) : Type 0 where
-  pub low : Low bytes n vars
-  pub under : (i : ℕ) → i < vars .count → In below (getD (vars .rows) i 0)
-  pub unset : (i : ℕ) → i < vars .count → classAt classes (getD (vars .rows) i 0) u ≡ absent
-
--- row y with run w is a value that the variable of row q may take
-abbrev pub MayBe : List ℕ → ℕ → ℕ → ℕ → ℕ → Type 0
-MayBe bytes runs q y w = (a : Atom) × (atomAt (rowsOf bytes) q ≡ some a) × (isValueOf (record { row = y; run = w }) (candidates (rowsOf bytes) runs a) ≡ true)
+-- row y with run w is among the values that the variable of row q may take
+abbrev pub Candidate : List ℕ → ℕ → ℕ → ℕ → ℕ → Type 0
+Candidate bytes runs q y w = (a : Atom) × (atomAt (rowsOf bytes) q ≡ some a) × (isValueOf (record { row = y; run = w }) (candidates (rowsOf bytes) runs a) ≡ true)
 
 -- something holds of the class of each value that the variable of row q may take, or of those that are marked
 abbrev pub Listed : List ℕ → ℕ → ℕ → List ℕ → List Bool → Bool → ℕ → (ℕ → Type 0) → Type 0
 Listed bytes n runs classes marks only q P =
-    (y w : ℕ) → Inside n runs y w → MayBe bytes runs q y w → (only ≡ true → Marked marks y w) → classAt classes y w < absent → P (classAt classes y w)
+    (y w : ℕ) → Inside n runs y w → Candidate bytes runs q y w → (only ≡ true → Marked marks y w) → classAt classes y w < absent → P (classAt classes y w)
 
 -- a set with the class of one cell more, if its row and run are such a value
 pub record ListedAt (bytes : List ℕ) (n runs : ℕ) (classes : List ℕ) (marks : List Bool) (only : Bool) (q cell : ℕ) (set more : List Bool) : Type 0 where
   pub keeps : (c : ℕ) → In set c → In more c
-  pub adds : (y w : ℕ) → cellOf y w ≡ cell → Inside n runs y w → MayBe bytes runs q y w → (only ≡ true → Marked marks y w) → classAt classes y w < absent → In more (classAt classes y w)
+  pub adds : (y w : ℕ) → cellOf y w ≡ cell → Inside n runs y w → Candidate bytes runs q y w → (only ≡ true → Marked marks y w) → classAt classes y w < absent → In more (classAt classes y w)
 
 -- what is in a domain, and in the set if it is variable i's, stays in it
 abbrev pub Narrows : List Bool → ℕ → List Bool → List Bool → Type 0
-Narrows dom i set less = (j c : ℕ) → j < 8 → c < 480 → InRow dom j c → (j ≡ i → In set c) → InRow less j c
+Narrows dom i set less = (j c : ℕ) → j < 8 → c < cellCount → InRow dom j c → (j ≡ i → In set c) → InRow less j c
 
 -- what is in a set, or in both of two rows, is in the new set
 pub record Joins (set : List Bool) (rows : List Bool) (l s : ℕ) (more : List Bool) : Type 0 where
-  pub keeps : (c : ℕ) → c < 480 → In set c → In more c
-  pub adds : (c : ℕ) → c < 480 → InRow rows l c → InRow rows s c → In more c
+  pub keeps : (c : ℕ) → c < cellCount → In set c → In more c
+  pub adds : (c : ℕ) → c < cellCount → InRow rows l c → InRow rows s c → In more c
 
 -- a set written as row r
-pub record Written (before : List Bool) (r : ℕ) (set after : List Bool) : Type 0 where
+pub record RowPut (before : List Bool) (r : ℕ) (set after : List Bool) : Type 0 where
   pub size : length after ≡ length before
-  pub own : (c : ℕ) → c < 480 → In set c → InRow after r c
-  pub others : (y c : ℕ) → c < 480 → (y ≡ r → ⊥) → InRow before y c → InRow after y c
+  pub own : (c : ℕ) → c < cellCount → In set c → InRow after r c
+  pub others : (y c : ℕ) → c < cellCount → (y ≡ r → ⊥) → InRow before y c → InRow after y c
 
 -- what each variable needs is in its domain; `absent` is no need
-abbrev pub Fit : Variables → List Bool → List ℕ → Type 0
+abbrev pub Fit : VariableRows → List Bool → List ℕ → Type 0
 Fit vars dom need =
     (j : ℕ) → j < vars .count → getD need (getD (vars .rows) j 0) 0 < absent → InRow dom j (getD need (getD (vars .rows) j 0) 0)
 
 -- the place of a row among the variables, or their number
-pub data Slot (vars : Variables) (q slot : ℕ) : Type 0 where
+pub data Slot (vars : VariableRows) (q slot : ℕ) : Type 0 where
   isAt : slot < vars .count → getD (vars .rows) slot 0 ≡ q → Slot vars q slot
   isNone : slot ≡ vars .count → Slot vars q slot

@@ -1,68 +1,38 @@
-// Unset variables of a run, the classes of the values that they may take, and sets of classes: what a test of partial choices narrows.
+// The classes of the values that variables may take, and sets of classes: what a test of partial choices narrows.
 ghost use mathlib.Core.Path.{_≡_};
 ghost use mathlib.Core.Bool.{true};
 ghost use mathlib.Core.List.{List};
 ghost use Prim.Native.Nat.{ℕ, _+_, _*_, _<_, _≤_};
 ghost use lib.ListN.{length, getD};
-ghost use Rattle.cells.specs.Cells.{Shape, cellCount, absent};
-ghost use Rattle.knowledge.specs.Steps.{classAt, kindAt};
-ghost use Rattle.domains.specs.Domains.{In, InRow, Low, Unset, Listed, ListedAt, Narrows, Joins, Written, Fit, Slot};
+ghost use Rattle.cells.specs.Cells.{Shape, cellCount};
+ghost use Rattle.knowledge.specs.Steps.{kindAt};
+ghost use Rattle.variables.specs.Variables.{In, AreVariables};
+ghost use Rattle.domains.specs.Domains.{setCells, InRow, Listed, ListedAt, Narrows, Joins, RowPut, Fit, Slot};
 use cells::Cells;
+use variables::VariableRows;
 
-// The rows of variables, and how many they are.
-pub struct Variables {
-    pub rows: [usize; 8],
-    pub count: usize,
+// A set of classes for each of 8 variables, one after the other.
+pub struct Domains {}
+
+impl Domains {
+    pub const CELLS: usize = 8 * Cells::COUNT;
 }
 
-// Whether row x is a variable without a value in run u.
-fn is_unset(t: &[u8], n: usize, runs: usize, classes: &[u16], u: usize, x: usize) -> bool
-    requires { ⌜ Shape (now t) n runs × ((length (now classes) ≡ cellCount) × ((u ≤ runs) × (x < n))) ⌝ }
-    ensures { λ b. ⌜ (b ≡ true → (kindAt (now (t .entry)) x ≡ 6) × (classAt (now (classes .entry)) x u ≡ absent)) ⌝ }
-{
-    if rows::kind_of(t, x) == 6 {
-        return knowledge::class_at(classes, x, u) == Cells::ABSENT;
-    }
-    false
-}
+// A set of classes for each of 96 rows, one after the other.
+pub struct Sets {}
 
-// The variables without a value in run u beneath a pattern, at most 8.
-pub fn unset_rows(
-    t: &[u8],
-    n: usize,
-    runs: usize,
-    classes: &[u16],
-    below: [bool; 96],
-    u: usize,
-) -> Variables
-    requires { ⌜ Shape (now t) n runs × ((length (now classes) ≡ cellCount) × (u ≤ runs)) ⌝ }
-    ensures { λ v. ⌜ Unset (now (t .entry)) n (now (classes .entry)) u below v ⌝ }
-{
-    let mut rows = [0; 8];
-    let mut count = 0;
-    let mut x = 0;
-    while x < n {
-        if below[x] {
-            if is_unset(t, n, runs, classes, u, x) {
-                if count < 8 {
-                    rows[count] = x;
-                    count += 1;
-                }
-            }
-        }
-        x += 1;
-    }
-    Variables { rows, count }
+impl Sets {
+    pub const CELLS: usize = 96 * Cells::COUNT;
 }
 
 // The set with the class of cell c, if it is marked where only marked ones count.
 fn with_value(
-    set: [bool; 480],
+    set: [bool; Cells::COUNT],
     classes: &[u16],
     marks: &[bool],
     only: bool,
     c: usize,
-) -> [bool; 480]
+) -> [bool; Cells::COUNT]
     requires { ⌜ (length (now classes) ≡ cellCount) × ((length (now marks) ≡ cellCount) × (c < cellCount)) ⌝ }
     ensures { λ more. ⌜ ((t : List ℕ) (n runs q : ℕ) → ListedAt t n runs (now (classes .entry)) (now (marks .entry)) only q c set more) ⌝ }
 {
@@ -88,11 +58,11 @@ fn values_of(
     marks: &[bool],
     only: bool,
     q: usize,
-) -> [bool; 480]
+) -> [bool; Cells::COUNT]
     requires { ⌜ Shape (now t) n runs × ((length (now classes) ≡ cellCount) × ((length (now marks) ≡ cellCount) × ((q < n) × (kindAt (now t) q ≡ 6)))) ⌝ }
     ensures { λ set. ⌜ Listed (now (t .entry)) n runs (now (classes .entry)) (now (marks .entry)) only q (In set) ⌝ }
 {
-    let mut set = [false; 480];
+    let mut set = [false; Cells::COUNT];
     let mut c = 0;
     while c < Cells::COUNT {
         if variables::may_take(t, n, runs, q, c % 96, c / 96) {
@@ -105,7 +75,11 @@ fn values_of(
 }
 
 // The domains, that of variable i narrowed to a set.
-pub fn narrow(dom: [bool; 3840], i: usize, set: [bool; 480]) -> [bool; 3840]
+pub fn narrow(
+    dom: [bool; Domains::CELLS],
+    i: usize,
+    set: [bool; Cells::COUNT],
+) -> [bool; Domains::CELLS]
     requires { ⌜ i < 8 ⌝ }
     ensures { λ less. ⌜ Narrows dom i set less ⌝ }
 {
@@ -113,7 +87,7 @@ pub fn narrow(dom: [bool; 3840], i: usize, set: [bool; 480]) -> [bool; 3840]
     let mut c = 0;
     while c < Cells::COUNT {
         if !set[c] {
-            less[i * 480 + c] = false;
+            less[i * Cells::COUNT + c] = false;
         }
         c += 1;
     }
@@ -121,20 +95,20 @@ pub fn narrow(dom: [bool; 3840], i: usize, set: [bool; 480]) -> [bool; 3840]
 }
 
 // For each variable the classes of the values that it may take, or of those that are marked.
-pub fn domains(
+pub fn of_variables(
     t: &[u8],
     n: usize,
     runs: usize,
     classes: &[u16],
     marks: &[bool],
     only: bool,
-    vars: Variables,
-) -> [bool; 3840]
-    requires { ⌜ Shape (now t) n runs × ((length (now classes) ≡ cellCount) × ((length (now marks) ≡ cellCount) × Low (now t) n vars)) ⌝ }
+    vars: VariableRows,
+) -> [bool; Domains::CELLS]
+    requires { ⌜ Shape (now t) n runs × ((length (now classes) ≡ cellCount) × ((length (now marks) ≡ cellCount) × AreVariables (now t) n vars)) ⌝ }
     ensures { λ dom. ⌜ ((i : ℕ) → i < vars .count → Listed (now (t .entry)) n runs (now (classes .entry)) (now (marks .entry)) only (getD (vars .rows) i 0) (InRow dom i)) ⌝ }
 {
     let rows = vars.rows;
-    let mut dom = [true; 3840];
+    let mut dom = [true; Domains::CELLS];
     let mut i = 0;
     while i < vars.count {
         let set = values_of(t, n, runs, classes, marks, only, rows[i]);
@@ -146,15 +120,15 @@ pub fn domains(
 }
 
 // The set with the classes that are in both of two rows of sets.
-pub fn join(set: [bool; 480], sets: &[bool], l: usize, s: usize) -> [bool; 480]
-    requires { ⌜ (length (now sets) ≡ 46080) × ((l < 96) × (s < 96)) ⌝ }
+pub fn join(set: [bool; Cells::COUNT], sets: &[bool], l: usize, s: usize) -> [bool; Cells::COUNT]
+    requires { ⌜ (length (now sets) ≡ setCells) × ((l < 96) × (s < 96)) ⌝ }
     ensures { λ more. ⌜ Joins set (now (sets .entry)) l s more ⌝ }
 {
     let mut more = set;
     let mut c = 0;
     while c < Cells::COUNT {
-        if sets[l * 480 + c] {
-            if sets[s * 480 + c] {
+        if sets[l * Cells::COUNT + c] {
+            if sets[s * Cells::COUNT + c] {
                 more[c] = true;
             }
         }
@@ -164,33 +138,33 @@ pub fn join(set: [bool; 480], sets: &[bool], l: usize, s: usize) -> [bool; 480]
 }
 
 // Writes a set as row r of sets.
-pub fn put(sets: &mut [bool], r: usize, set: [bool; 480])
-    requires { ⌜ (length (now sets) ≡ 46080) × (r < 96) ⌝ }
-    ensures { λ _. ⌜ Written (now (sets .entry)) r set (now (sets .exit)) ⌝ }
+pub fn put(sets: &mut [bool], r: usize, set: [bool; Cells::COUNT])
+    requires { ⌜ (length (now sets) ≡ setCells) × (r < 96) ⌝ }
+    ensures { λ _. ⌜ RowPut (now (sets .entry)) r set (now (sets .exit)) ⌝ }
 {
     let mut c = 0;
     while c < Cells::COUNT {
-        sets[r * 480 + c] = set[c];
+        sets[r * Cells::COUNT + c] = set[c];
         c += 1;
     }
 }
 
 // The domain of variable i as a set.
-pub fn domain_of(dom: &[bool; 3840], i: usize) -> [bool; 480]
+pub fn domain_of(dom: &[bool; Domains::CELLS], i: usize) -> [bool; Cells::COUNT]
     requires { ⌜ i < 8 ⌝ }
-    ensures { λ set. ⌜ ((c : ℕ) → c < 480 → InRow (now (dom .entry)) i c → In set c) ⌝ }
+    ensures { λ set. ⌜ ((c : ℕ) → c < cellCount → InRow (now (dom .entry)) i c → In set c) ⌝ }
 {
-    let mut set = [false; 480];
+    let mut set = [false; Cells::COUNT];
     let mut c = 0;
     while c < Cells::COUNT {
-        set[c] = dom[i * 480 + c];
+        set[c] = dom[i * Cells::COUNT + c];
         c += 1;
     }
     set
 }
 
 // Whether what each variable needs is in its domain.
-pub fn fit(dom: &[bool; 3840], vars: Variables, need: [u16; 96]) -> bool
+pub fn fit(dom: &[bool; Domains::CELLS], vars: VariableRows, need: [u16; 96]) -> bool
     requires { ⌜ (vars .count ≤ 8) × ((j : ℕ) → j < vars .count → getD (vars .rows) j 0 < 96) ⌝ }
     ensures { λ b. ⌜ (Fit vars (now (dom .entry)) need → b ≡ true) ⌝ }
 {
@@ -200,7 +174,7 @@ pub fn fit(dom: &[bool; 3840], vars: Variables, need: [u16; 96]) -> bool
         let q = rows[j];
         let class = need[q];
         if class < Cells::ABSENT {
-            if !dom[j * 480 + class as usize] {
+            if !dom[j * Cells::COUNT + class as usize] {
                 return false;
             }
         }
@@ -210,7 +184,7 @@ pub fn fit(dom: &[bool; 3840], vars: Variables, need: [u16; 96]) -> bool
 }
 
 // The place of row q among the variables, or their number.
-pub fn slot_of(vars: Variables, q: usize) -> usize
+pub fn slot_of(vars: VariableRows, q: usize) -> usize
     requires { ⌜ vars .count ≤ 8 ⌝ }
     ensures { λ r. ⌜ Slot vars q r ⌝ }
 {
@@ -226,14 +200,14 @@ pub fn slot_of(vars: Variables, q: usize) -> usize
 }
 
 // Whether a class is in the domain of variable i in both of two domains.
-pub fn meet(dom: &[bool; 3840], other: &[bool; 3840], i: usize) -> bool
+pub fn meet(dom: &[bool; Domains::CELLS], other: &[bool; Domains::CELLS], i: usize) -> bool
     requires { ⌜ i < 8 ⌝ }
-    ensures { λ b. ⌜ ((c : ℕ) → c < 480 → InRow (now (dom .entry)) i c → InRow (now (other .entry)) i c → b ≡ true) ⌝ }
+    ensures { λ b. ⌜ ((c : ℕ) → c < cellCount → InRow (now (dom .entry)) i c → InRow (now (other .entry)) i c → b ≡ true) ⌝ }
 {
     let mut c = 0;
     while c < Cells::COUNT {
-        if dom[i * 480 + c] {
-            if other[i * 480 + c] {
+        if dom[i * Cells::COUNT + c] {
+            if other[i * Cells::COUNT + c] {
                 return true;
             }
         }
@@ -243,14 +217,14 @@ pub fn meet(dom: &[bool; 3840], other: &[bool; 3840], i: usize) -> bool
 }
 
 // How many classes the domain of variable i has.
-pub fn size(dom: &[bool; 3840], i: usize) -> usize
+pub fn size(dom: &[bool; Domains::CELLS], i: usize) -> usize
     requires { ⌜ i < 8 ⌝ }
-    ensures { λ r. ⌜ (r ≤ 480) × ((c : ℕ) → c < 480 → InRow (now (dom .entry)) i c → 0 < r) ⌝ }
+    ensures { λ r. ⌜ (r ≤ cellCount) × ((c : ℕ) → c < cellCount → InRow (now (dom .entry)) i c → 0 < r) ⌝ }
 {
     let mut count = 0;
     let mut c = 0;
     while c < Cells::COUNT {
-        if dom[i * 480 + c] {
+        if dom[i * Cells::COUNT + c] {
             count += 1;
         }
         c += 1;

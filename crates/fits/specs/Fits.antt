@@ -12,7 +12,7 @@ use Rattle.knowledge.specs.Marks.{Has, Marked}
 use Rattle.knowledge.specs.Steps.{classAt, leftAt, Inside}
 
 -- Old readings for which the classes are right, and new ones that grow from them in a run.
-pub record Setting (bytes : List ℕ) (n runs : ℕ) (classes : List ℕ) (u : ℕ) : Type 0 where
+pub record Extension (bytes : List ℕ) (n runs : ℕ) (classes : List ℕ) (u : ℕ) : Type 0 where
   pub shape : Shape bytes n runs
   pub run : u ≤ runs
   pub old : Readings
@@ -20,7 +20,7 @@ pub record Setting (bytes : List ℕ) (n runs : ℕ) (classes : List ℕ) (u : �
   pub right : Classes (rowsOf bytes) runs (cellValue old (rowsOf bytes)) classes
   pub grows : Grows u old new
 
-module _ {bytes : List ℕ} {n runs : ℕ} {classes : List ℕ} {u : ℕ} (s : Setting bytes n runs classes u) where
+module _ {bytes : List ℕ} {n runs : ℕ} {classes : List ℕ} {u : ℕ} (s : Extension bytes n runs classes u) where
   -- the class of the cells with a value
   abbrev pub ClassOf : Term → ℕ → Type 0
   ClassOf t class = (r : ℕ) × (w : ℕ) × Inside n runs r w × Has bytes (s .old) r w t × (class ≡ classAt classes r w)
@@ -37,26 +37,26 @@ module _ {bytes : List ℕ} {n runs : ℕ} {classes : List ℕ} {u : ℕ} (s : S
 -- What it is to note that a row needs a class: if the row gets its value, no need is refused.
 abbrev pub Asked : List ℕ → ℕ → List ℕ → List ℕ → ℕ → ℕ → Bool → Type 0
 Asked classes u before after q class answer =
-    (bytes : List ℕ) (n runs : ℕ) (s : Setting bytes n runs classes u) → Needed s before → Gets s q class → (answer ≡ true) × Needed s after
+    (bytes : List ℕ) (n runs : ℕ) (s : Extension bytes n runs classes u) → Needed s before → Gets s q class → (answer ≡ true) × Needed s after
 
 module _ (bytes : List ℕ) (n runs : ℕ) (classes : List ℕ) (u : ℕ) where
   -- the parts of row q need the classes of the parts of row y in run w
-  abbrev pub Shared : List ℕ → List ℕ → ℕ → ℕ → ℕ → Bool → Type 0
-  Shared before after q y w answer =
-      (s : Setting bytes n runs classes u) → Needed s before → Gets s (leftAt bytes q) (classAt classes (leftAt bytes y) w)
+  abbrev pub PartsAsked : List ℕ → List ℕ → ℕ → ℕ → ℕ → Bool → Type 0
+  PartsAsked before after q y w answer =
+      (s : Extension bytes n runs classes u) → Needed s before → Gets s (leftAt bytes q) (classAt classes (leftAt bytes y) w)
       → Gets s (secondOf bytes q) (classAt classes (secondOf bytes y) w) → (answer ≡ true) × Needed s after
 
   -- what a row needs, passed on to its parts
-  abbrev pub Followed : List ℕ → List ℕ → Bool → Type 0
-  Followed before after answer = (s : Setting bytes n runs classes u) → Needed s before → (answer ≡ true) × Needed s after
+  abbrev pub PassedDown : List ℕ → List ℕ → Bool → Type 0
+  PassedDown before after answer = (s : Extension bytes n runs classes u) → Needed s before → (answer ≡ true) × Needed s after
 
   -- where a row gets the value of a class, no need is refused, and each is met
   abbrev pub NeedsMet : ℕ → ℕ → Bool → List ℕ → Type 0
-  NeedsMet r class met need = (s : Setting bytes n runs classes u) → Gets s r class → (met ≡ true) × Needed s need
+  NeedsMet r class met need = (s : Extension bytes n runs classes u) → Gets s r class → (met ≡ true) × Needed s need
 
   -- a row can get the value of a class
   abbrev pub CanGet : ℕ → ℕ → Type 0
-  CanGet r class = (s : Setting bytes n runs classes u) × Gets s r class
+  CanGet r class = (s : Extension bytes n runs classes u) × Gets s r class
 
   -- a row can get the value of a marked cell that stands for its own value
   abbrev pub CanTake : List Bool → ℕ → ℕ → ℕ → Type 0

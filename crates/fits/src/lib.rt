@@ -5,8 +5,9 @@ ghost use Prim.Native.Nat.{_<_, _≤_};
 ghost use lib.ListN.{length};
 ghost use Rattle.cells.specs.Cells.{Shape, cellCount};
 ghost use Rattle.knowledge.specs.Steps.{kindAt};
-ghost use Rattle.fits.specs.Fits.{Asked, Shared, Followed, CanGet, NeedsMet};
+ghost use Rattle.fits.specs.Fits.{Asked, PartsAsked, PassedDown, CanGet, NeedsMet};
 use cells::Cells;
+use rows::Kind;
 
 // Notes that row q of run u needs a class, unless it has or needs another already.
 fn ask(need: &mut [u16; 96], classes: &[u16], u: usize, q: usize, class: u16) -> bool
@@ -37,7 +38,7 @@ fn share(
     w: usize,
 ) -> bool
     requires { ⌜ Shape (now t) n runs × ((length (now classes) ≡ cellCount) × ((u ≤ runs) × ((q < n) × ((8 ≤ kindAt (now t) q) × ((y < n) × ((8 ≤ kindAt (now t) y) × (w ≤ runs))))))) ⌝ }
-    ensures { λ r. ⌜ Shared (now (t .entry)) n runs (now (classes .entry)) u (now (need .entry)) (now (need .exit)) q y w r ⌝ }
+    ensures { λ r. ⌜ PartsAsked (now (t .entry)) n runs (now (classes .entry)) u (now (need .entry)) (now (need .exit)) q y w r ⌝ }
 {
     let first = knowledge::class_at(classes, rows::left_of(t, y), w);
     let second = knowledge::class_at(classes, cells::second_of(t, y), w);
@@ -58,14 +59,14 @@ fn follow(
     q: usize,
 ) -> bool
     requires { ⌜ Shape (now t) n runs × ((length (now classes) ≡ cellCount) × ((u ≤ runs) × (q < n))) ⌝ }
-    ensures { λ r. ⌜ Followed (now (t .entry)) n runs (now (classes .entry)) u (now (need .entry)) (now (need .exit)) r ⌝ }
+    ensures { λ r. ⌜ PassedDown (now (t .entry)) n runs (now (classes .entry)) u (now (need .entry)) (now (need .exit)) r ⌝ }
 {
     let class = need[q];
     if Cells::ABSENT <= class {
         return true;
     }
     let kind = rows::kind_of(t, q);
-    if kind < 8 {
+    if kind < Kind::FIRST_MADE {
         return true;
     }
     let y = class as usize % 96;

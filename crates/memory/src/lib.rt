@@ -50,17 +50,9 @@ pub fn variable_rows(t: &[u8], n: usize) -> [usize; 8]
     requires { ⌜ Sized (now t) n ⌝ }
     ensures { λ r. ⌜ Variables (now (t .entry)) n r ⌝ }
 {
-    let mut variables = [0; 8];
-    let mut count = 0;
-    let mut x = 0;
-    while x < n {
-        if rows::kind_of(t, x) == 6 {
-            variables[count] = x;
-            count += 1;
-        }
-        x += 1;
-    }
-    variables
+    let every = [true; 96];
+    let found = variables::variable_rows(t, n, &every);
+    found.rows
 }
 
 // Writes the names of run k, from 0, at the variables' rows into a key.

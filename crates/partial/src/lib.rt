@@ -4,12 +4,13 @@ ghost use lib.ListN.{length};
 ghost use Rattle.cells.specs.Cells.{Shape, cellCount};
 ghost use Rattle.state.specs.State.{Due};
 ghost use Rattle.partial.specs.Partial.{Tested};
+use cells::Cells;
 use runs::RunEvent;
 
 // Whether the next event of run k, a read, may be allowed once its other variables are set too. Classes and marks are those with the values chosen so far.
 pub fn may_be_read(
     classes: &[u16],
-    marks: [bool; 480],
+    marks: [bool; Cells::COUNT],
     t: &[u8],
     n: usize,
     runs: usize,

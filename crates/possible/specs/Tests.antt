@@ -1,13 +1,24 @@
--- The tests of rows. Assumes nothing.
-use Prim.Native.Nat.{ℕ, _<_}
+-- The tests of rows: what they ask and what they answer. Assumes nothing.
+use Prim.Native.Nat.{ℕ, _<_, _≤_}
 use mathlib.Core.Path.{_≡_}
-use mathlib.Core.Bool.{Bool, false}
+use mathlib.Core.Bool.{Bool, true, false}
 use mathlib.Core.List.{List}
 use lib.ListN.{length, getD}
 use Rattle.rows.specs.Rows.{rowsOf}
+use Rattle.cells.specs.Cells.{Shape, cellCount}
+use Rattle.knowledge.specs.Steps.{kindAt, Inside}
+use Rattle.fits.specs.Fits.{CanTake}
 use Rattle.possible.specs.Possible.{Possible}
 
 -- tests of rows below 96 that each keep the promise
-pub record Tested (bytes : List ℕ) (runs : ℕ) (classes : List ℕ) (marks : List Bool) (u : ℕ) (can : List Bool) : Type 0 where
+pub record TestedRows (bytes : List ℕ) (runs : ℕ) (classes : List ℕ) (marks : List Bool) (u : ℕ) (can : List Bool) : Type 0 where
   pub size : length can ≡ 96
   pub each : (y : ℕ) → y < 96 → Possible (rowsOf bytes) runs classes marks u y (getD can y false)
+
+-- a row of a run, with the arrays of a partial choice
+abbrev pub RowInRun : List ℕ → ℕ → ℕ → List ℕ → List Bool → ℕ → ℕ → Type 0
+RowInRun bytes n runs classes marks u r = Shape bytes n runs × ((length classes ≡ cellCount) × ((length marks ≡ cellCount) × ((u ≤ runs) × (r < n))))
+
+-- a test that is true where the row can take the value of a marked cell of its kind
+abbrev pub TriesMarks : List ℕ → ℕ → ℕ → List ℕ → List Bool → ℕ → ℕ → Bool → Type 0
+TriesMarks bytes n runs classes marks u r answer = (y w : ℕ) → Inside n runs y w → kindAt bytes y ≡ kindAt bytes r → CanTake bytes n runs classes u marks r y w → answer ≡ true

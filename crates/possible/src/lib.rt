@@ -5,12 +5,12 @@ ghost use Prim.Native.Nat.{ℕ, _<_, _≤_};
 ghost use lib.ListN.{length, getD};
 ghost use Rattle.rows.specs.Rows.{rowsOf};
 ghost use Rattle.cells.specs.Cells.{Shape, cellCount};
-ghost use Rattle.knowledge.specs.Steps.{kindAt, Inside};
 ghost use Rattle.fits.specs.Fits.{CanTake};
 ghost use Rattle.possible.specs.Possible.{Possible};
-ghost use Rattle.possible.specs.Tests.{Tested};
+ghost use Rattle.possible.specs.Tests.{TestedRows, RowInRun, TriesMarks};
 use cells::Cells;
 use cells::cell;
+use rows::Kind;
 
 // Whether row r of run u can still get the value of row y in run w, if that cell is marked and stands for its own value.
 fn fits_cell(
@@ -71,8 +71,8 @@ fn fits_mark(
     u: usize,
     r: usize,
 ) -> bool
-    requires { ⌜ Shape (now t) n runs × ((length (now classes) ≡ cellCount) × ((length (now marks) ≡ cellCount) × ((u ≤ runs) × (r < n)))) ⌝ }
-    ensures { λ b. ⌜ ((y w : ℕ) → Inside n runs y w → kindAt (now (t .entry)) y ≡ kindAt (now (t .entry)) r → CanTake (now (t .entry)) n runs (now (classes .entry)) u (now (marks .entry)) r y w → b ≡ true) ⌝ }
+    requires { ⌜ RowInRun (now t) n runs (now classes) (now marks) u r ⌝ }
+    ensures { λ b. ⌜ TriesMarks (now (t .entry)) n runs (now (classes .entry)) (now (marks .entry)) u r b ⌝ }
 {
     let kind = rows::kind_of(t, r);
     let mut y = 0;
@@ -109,20 +109,20 @@ fn test_row(
     u: usize,
     r: usize,
 ) -> bool
-    requires { ⌜ Tested (now t) runs (now classes) (now marks) u (now can) × (Shape (now t) n runs × ((length (now classes) ≡ cellCount) × ((length (now marks) ≡ cellCount) × ((u ≤ runs) × (r < n))))) ⌝ }
+    requires { ⌜ TestedRows (now t) runs (now classes) (now marks) u (now can) × RowInRun (now t) n runs (now classes) (now marks) u r ⌝ }
     ensures { λ b. ⌜ Possible (rowsOf (now (t .entry))) runs (now (classes .entry)) (now (marks .entry)) u r b ⌝ }
 {
     if knowledge::class_at(classes, r, u) < Cells::ABSENT {
         return marks[cell(r, u)];
     }
     let kind = rows::kind_of(t, r);
-    if kind < 8 {
+    if kind < Kind::FIRST_MADE {
         return true;
     }
-    if kind == 11 {
+    if kind == Kind::PAIR {
         return both(can, rows::left_of(t, r), cells::second_of(t, r));
     }
-    if kind == 12 {
+    if kind == Kind::ENCRYPTED {
         if both(can, rows::left_of(t, r), cells::second_of(t, r)) {
             return true;
         }
@@ -140,7 +140,7 @@ pub fn possible(
     u: usize,
     x: usize,
 ) -> bool
-    requires { ⌜ Shape (now t) n runs × ((length (now classes) ≡ cellCount) × ((length (now marks) ≡ cellCount) × ((u ≤ runs) × (x < n)))) ⌝ }
+    requires { ⌜ RowInRun (now t) n runs (now classes) (now marks) u x ⌝ }
     ensures { λ r. ⌜ Possible (rowsOf (now (t .entry))) runs (now (classes .entry)) (now (marks .entry)) u x r ⌝ }
 {
     let below = variables::beneath(t, n, x);

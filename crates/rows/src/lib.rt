@@ -11,6 +11,37 @@ pub enum Place {
     Nowhere,
 }
 
+// The kinds of rows: atoms first, then what is made of other rows.
+pub struct Kind {}
+
+impl Kind {
+    pub const TRUSTED: usize = 1;
+
+    pub const UNTRUSTED: usize = 2;
+
+    pub const GLOBAL: usize = 3;
+
+    pub const INTRUDER: usize = 4;
+
+    pub const ROLE: usize = 5;
+
+    pub const VARIABLE: usize = 6;
+
+    pub const LOCAL: usize = 7;
+    // from this kind on a row refers to other rows
+    pub const FIRST_MADE: usize = 8;
+
+    pub const PUBLIC_KEY: usize = 8;
+
+    pub const SECRET_KEY: usize = 9;
+
+    pub const SHARED_KEY: usize = 10;
+
+    pub const PAIR: usize = 11;
+
+    pub const ENCRYPTED: usize = 12;
+}
+
 // A byte as a number.
 pub fn wide(x: u8) -> usize
     ensures { λ r. ⌜ (r ≡ x) × (r < 256) ⌝ }

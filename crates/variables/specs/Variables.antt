@@ -1,5 +1,5 @@
 -- The variables that a read sets, from a row on, and the values that a variable may take, from a row and a run on. Assumes nothing.
-use Prim.Native.Nat.{ℕ, suc, _-_, _<_, _≤_}
+use Prim.Native.Nat.{ℕ, suc, _*_, _-_, _<_, _≤_}
 use mathlib.Core.Path.{_≡_}
 use mathlib.Core.Logic.{_↔_, _⊎_}
 use mathlib.Core.Bool.{Bool, true, false, cond, _&&_, not}
@@ -18,6 +18,7 @@ use Rattle.semantics.specs.Replay.{isValueOf}
 use Rattle.semantics.specs.Guarantee.{refersTo}
 use Rattle.cells.specs.Cells.{cellOf, absent, Canonical}
 use Rattle.variables.specs.declared.NextValue.{NextValue}
+use Rattle.variables.specs.declared.VariableRows.{VariableRows}
 use Rattle.variables.specs.declared.NextValue.the-variants.{Value as isValue, Nothing}
 
 -- which rows lie beneath a row
@@ -25,17 +26,17 @@ pub record Beneath (rows : List Row) (x : ℕ) (below : List Bool) : Type 0 wher
   pub size : length below ≡ 96
   pub each : (y : ℕ) → y < length rows → getD below y false ≡ beneath rows y x
 
--- a row is marked
-abbrev pub Marked : List Bool → ℕ → Type 0
-Marked below y = getD below y false ≡ true
+-- a number is in a set
+abbrev pub In : List Bool → ℕ → Type 0
+In set c = getD set c false ≡ true
 
 -- marks of rows beneath a row, that row among them, closed under parts from a row on
-pub record Settled (rows : List Row) (x from : ℕ) (below : List Bool) : Type 0 where
+pub record ClosedFrom (rows : List Row) (x from : ℕ) (below : List Bool) : Type 0 where
   pub size : length below ≡ 96
   pub within : x < length rows
-  pub top : Marked below x
-  pub sound : (y : ℕ) → y < length rows → Marked below y → T (beneath rows y x)
-  pub closed : (z : ℕ) (row : Row) → getElem? rows z ≡ some row → from ≤ z → Marked below z → (r : ℕ) → List·Memᴰ r (refersTo row) → Marked below r
+  pub top : In below x
+  pub sound : (y : ℕ) → y < length rows → In below y → T (beneath rows y x)
+  pub closed : (z : ℕ) (row : Row) → getElem? rows z ≡ some row → from ≤ z → In below z → (r : ℕ) → List·Memᴰ r (refersTo row) → In below r
 
 -- the unset variables beneath a pattern whose rows are not below a number
 unfoldable pub unsetFrom : List Row → List (Atom × Value) → ℕ → ℕ → List Atom
@@ -84,7 +85,7 @@ valuesFrom rows runs type r w =
     ++ joined (λ x. valuesAt runs type x (atomAt rows x)) (numbersFrom (suc r) (length rows - suc r))
 
 -- a row and a run that name an atom of the table
-pub record Names (rows : List Row) (runs row run : ℕ) (b : Atom) : Type 0 where
+pub record NamesAtom (rows : List Row) (runs row run : ℕ) (b : Atom) : Type 0 where
   pub below : row < length rows
   pub within : run ≤ runs
   pub isAtom : atomAt rows row ≡ some b
@@ -97,11 +98,32 @@ NotBefore r w y v = (r < y) ⊎ ((r ≡ y) × (w ≤ v))
 -- the next value of a type, from a row and a run on
 pub data NextOf (rows : List Row) (runs : ℕ) (type : VariableType) (r w : ℕ) (next : NextValue) : Type 0 where
   hasNext :
-      (y v : ℕ) (b : Atom) → next ≡ isValue y v → Names rows runs y v b → NotBefore r w y v
+      (y v : ℕ) (b : Atom) → next ≡ isValue y v → NamesAtom rows runs y v b → NotBefore r w y v
       → valuesFrom rows runs type r w ≡ record { row = y; run = v } ∷ valuesFrom rows runs type y (suc v) → NextOf rows runs type r w next
   hasNone : next ≡ Nothing → valuesFrom rows runs type r w ≡ [] → NextOf rows runs type r w next
 
 -- whether a row and a run are a value that a variable may take
-pub data MayTake (rows : List Row) (runs : ℕ) (a : Atom) (row run : ℕ) (answer : Bool) : Type 0 where
-  takes : (b : Atom) → answer ≡ true → isValueOf (record { row = row; run = run }) (candidates rows runs a) ≡ true → Names rows runs row run b → MayTake rows runs a row run answer
-  takesNot : answer ≡ false → isValueOf (record { row = row; run = run }) (candidates rows runs a) ≡ false → MayTake rows runs a row run answer
+pub data TellsValue (rows : List Row) (runs : ℕ) (a : Atom) (row run : ℕ) (answer : Bool) : Type 0 where
+  takes : (b : Atom) → answer ≡ true → isValueOf (record { row = row; run = run }) (candidates rows runs a) ≡ true → NamesAtom rows runs row run b → TellsValue rows runs a row run answer
+  takesNot : answer ≡ false → isValueOf (record { row = row; run = run }) (candidates rows runs a) ≡ false → TellsValue rows runs a row run answer
+
+-- rows of variables of a table, at most 8
+pub record AreVariables (bytes : List ℕ) (n : ℕ) (vars : VariableRows) : Type 0 where
+  pub few : vars .count ≤ 8
+  pub row : (i : ℕ) → i < vars .count → getD (vars .rows) i 0 < n
+  pub kind : (i : ℕ) → i < vars .count → getD bytes (3 * getD (vars .rows) i 0) 0 ≡ 6
+
+-- all variables of a table among the rows of a set; unused places hold a row too
+pub record Among (bytes : List ℕ) (n : ℕ) (set : List Bool) (vars : VariableRows) : Type 0 where
+  pub low : AreVariables bytes n vars
+  pub size : length (vars .rows) ≡ 8
+  pub small : (i : ℕ) → i < 8 → getD (vars .rows) i 0 < 96
+  pub each : (i : ℕ) → i < vars .count → In set (getD (vars .rows) i 0)
+  pub all : (x : ℕ) → x < n → getD bytes (3 * x) 0 ≡ 6 → In set x → (i : ℕ) × (i < vars .count) × (getD (vars .rows) i 0 ≡ x)
+
+-- all that have no value in a run, by names or classes
+pub record Unset (bytes : List ℕ) (n : ℕ) (values : List ℕ) (u : ℕ) (set : List Bool) (vars : VariableRows) : Type 0 where
+  pub low : AreVariables bytes n vars
+  pub under : (i : ℕ) → i < vars .count → In set (getD (vars .rows) i 0)
+  pub unset : (i : ℕ) → i < vars .count → getD values (cellOf (getD (vars .rows) i 0) u) absent ≡ absent
+  pub all : (x : ℕ) → x < n → getD bytes (3 * x) 0 ≡ 6 → In set x → getD values (cellOf x u) absent ≡ absent → (i : ℕ) × (i < vars .count) × (getD (vars .rows) i 0 ≡ x)

@@ -3,3 +3,4 @@ pub mod Beneath
 pub mod Unset
 pub mod Values
 pub mod Spans
+pub mod Rows

@@ -1,5 +1,6 @@
 // The variables that a read sets, in order of their rows, and the values that a variable may take, in order of row and run.
 ghost use mathlib.Core.Path.{_≡_};
+ghost use mathlib.Core.Bool.{false, _&&_};
 ghost use mathlib.Core.Option.{some};
 ghost use Prim.Native.Nat.{ℕ, _+_, _*_, _<_, _≤_};
 ghost use lib.Dec.{eqb};
@@ -7,9 +8,10 @@ ghost use lib.ListN.{length, getD};
 ghost use Rattle.semantics.specs.Term.{VariableType, Atom, variable};
 ghost use Rattle.semantics.specs.Runs.{atomAt};
 ghost use Rattle.rows.specs.Rows.{rowsOf, Sized};
-ghost use Rattle.cells.specs.Cells.{Shape, cellCount};
-ghost use Rattle.variables.specs.Variables.{Beneath, Settled, NextUnset, firstRun, runCount, MayTake, Higher, NextOf};
+ghost use Rattle.cells.specs.Cells.{Shape, cellCount, cellOf, absent};
+ghost use Rattle.variables.specs.Variables.{Beneath, ClosedFrom, NextUnset, firstRun, runCount, TellsValue, Higher, NextOf, Among, Unset};
 use cells::Cells;
+use rows::Kind;
 
 // The next value of a variable: its row and run, or nothing.
 pub enum NextValue {
@@ -17,15 +19,21 @@ pub enum NextValue {
     Nothing,
 }
 
+// Rows of variables, and how many they are; unused places hold row 0.
+pub struct VariableRows {
+    pub rows: [usize; 8],
+    pub count: usize,
+}
+
 // Marks the parts of row r, if it is marked itself.
 fn mark_parts(below: &mut [bool; 96], t: &[u8], n: usize, r: usize)
     requires { ⌜ Sized (now t) n × (r < n) ⌝ }
-    ensures { λ _. ⌜ ((x : ℕ) → Settled (rowsOf (now (t .entry))) x (r + 1) (now (below .entry)) → Settled (rowsOf (now (t .entry))) x r (now (below .exit))) ⌝ }
+    ensures { λ _. ⌜ ((x : ℕ) → ClosedFrom (rowsOf (now (t .entry))) x (r + 1) (now (below .entry)) → ClosedFrom (rowsOf (now (t .entry))) x r (now (below .exit))) ⌝ }
 {
     if !below[r] {
         return;
     }
-    if rows::kind_of(t, r) < 8 {
+    if rows::kind_of(t, r) < Kind::FIRST_MADE {
         return;
     }
     below[rows::left_of(t, r)] = true;
@@ -55,7 +63,7 @@ pub fn next_unset(t: &[u8], n: usize, names: &[u16], below: &[bool], u: usize, f
     let mut y = from;
     while y < n {
         if below[y] {
-            if rows::kind_of(t, y) == 6 {
+            if rows::kind_of(t, y) == Kind::VARIABLE {
                 if names[cells::cell(y, u)] == Cells::ABSENT {
                     return y;
                 }
@@ -66,11 +74,56 @@ pub fn next_unset(t: &[u8], n: usize, names: &[u16], below: &[bool], u: usize, f
     n
 }
 
+// The variables of a table among the rows of a set.
+pub fn variable_rows(t: &[u8], n: usize, set: &[bool; 96]) -> VariableRows
+    requires { ⌜ Sized (now t) n ⌝ }
+    ensures { λ v. ⌜ Among (now (t .entry)) n (now (set .entry)) v ⌝ }
+{
+    let mut found = [0; 8];
+    let mut count = 0;
+    let mut x = 0;
+    while x < n {
+        if set[x] {
+            if rows::kind_of(t, x) == Kind::VARIABLE {
+                found[count] = x;
+                count += 1;
+            }
+        }
+        x += 1;
+    }
+    VariableRows { rows: found, count }
+}
+
+// The rows of a set that have no value in run u, by their names or classes.
+fn without_value(set: [bool; 96], values: &[u16], u: usize) -> [bool; 96]
+    requires { ⌜ (length (now values) ≡ cellCount) × (u ≤ 4) ⌝ }
+    ensures { λ less. ⌜ ((x : ℕ) → x < 96 → getD less x false ≡ (getD set x false && eqb (getD (now (values .entry)) (cellOf x u) absent) absent)) ⌝ }
+{
+    let mut less = set;
+    let mut x = 0;
+    while x < 96 {
+        if values[cells::cell(x, u)] != Cells::ABSENT {
+            less[x] = false;
+        }
+        x += 1;
+    }
+    less
+}
+
+// The variables without a value in run u, by their names or classes, among the rows of a set.
+pub fn unset_rows(t: &[u8], n: usize, values: &[u16], set: [bool; 96], u: usize) -> VariableRows
+    requires { ⌜ Sized (now t) n × ((length (now values) ≡ cellCount) × (u ≤ 4)) ⌝ }
+    ensures { λ v. ⌜ Unset (now (t .entry)) n (now (values .entry)) u set v ⌝ }
+{
+    let less = without_value(set, values, u);
+    variable_rows(t, n, &less)
+}
+
 // The first run with which a row of a kind is a value: 1 for a local constant, 0 for every other.
 fn first_run(kind: usize) -> usize
     ensures { λ r. ⌜ (r ≡ firstRun kind) × (r ≤ 1) ⌝ }
 {
-    if kind == 7 {
+    if kind == Kind::LOCAL {
         return 1;
     }
     0
@@ -81,15 +134,15 @@ fn run_count(kind: usize, fresh: bool, runs: usize) -> usize
     ensures { λ r. ⌜ (r ≡ runCount runs fresh kind) × (r ≤ runs + 1) ⌝ }
 {
     if fresh {
-        if kind == 4 {
+        if kind == Kind::INTRUDER {
             return 1;
         }
-        if kind == 7 {
+        if kind == Kind::LOCAL {
             return runs;
         }
         return 0;
     }
-    if kind <= 2 {
+    if kind <= Kind::UNTRUSTED {
         return 1;
     }
     0
@@ -106,7 +159,7 @@ fn is_fresh(t: &[u8], x: usize) -> bool
 // Whether row r with run w is a value that the variable of row x may take.
 pub fn may_take(t: &[u8], n: usize, runs: usize, x: usize, r: usize, w: usize) -> bool
     requires { ⌜ Shape (now t) n runs × ((x < n) × (getD (now t) (3 * x) 0 ≡ 6)) ⌝ }
-    ensures { λ b. ⌜ ((a : Atom) → atomAt (rowsOf (now (t .entry))) x ≡ some a → MayTake (rowsOf (now (t .entry))) runs a r w b) ⌝ }
+    ensures { λ b. ⌜ ((a : Atom) → atomAt (rowsOf (now (t .entry))) x ≡ some a → TellsValue (rowsOf (now (t .entry))) runs a r w b) ⌝ }
 {
     if n <= r {
         return false;

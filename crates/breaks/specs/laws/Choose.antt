@@ -29,7 +29,7 @@ use Rattle.runs.specs.declared.Runs.{Runs}
 use Rattle.state.specs.declared.State.{State as CodeState}
 use Rattle.variables.specs.declared.NextValue.{NextValue}
 use Rattle.variables.specs.declared.NextValue.the-variants.{Value as isValue, Nothing}
-use Rattle.variables.specs.Variables.{Beneath, unsetFrom, NextUnset, valuesFrom, Names, NotBefore, NextOf, hasNext, hasNone}
+use Rattle.variables.specs.Variables.{Beneath, unsetFrom, NextUnset, valuesFrom, NamesAtom, NotBefore, NextOf, hasNext, hasNone}
 use Rattle.variables.specs.laws.Values.{values-all}
 use Rattle.values.specs.Values.{Setting}
 use Rattle.values.specs.laws.Values.{setting-more}
@@ -61,7 +61,7 @@ variable-is (local n u) h = absurd h
 -- what is known of the next value
 pub record IsNext (rows : List Row) (runs : ℕ) (type : VariableType) (row run y v : ℕ) : Type 0 where
   pub atom : Atom
-  pub names : Names rows runs y v atom
+  pub names : NamesAtom rows runs y v atom
   pub notBefore : NotBefore row run y v
   pub isNext : valuesFrom rows runs type row run ≡ record { row = y; run = v } ∷ valuesFrom rows runs type y (v + 1)
 
@@ -154,7 +154,7 @@ module _ {file t : List ℕ} {plan : Plan} {sc : Scenario} {d : State} {s : Code
           passed-all sc left (subst (λ (es : List Entry). Passed sc left (below plan sc depth (branches sc d (suc k) a vs left-to-set)) es count) (ap (valuesOf plan sc depth d (suc k) a vs rest) none-left) (trying .passed)) b at
 
       -- the next value
-      module _ (v : Value) (b : Atom) (value : Names (sc .rows) (length (sc .runs)) (v .row) (v .run) b)
+      module _ (v : Value) (b : Atom) (value : NamesAtom (sc .rows) (length (sc .runs)) (v .row) (v .run) b)
           (isNext : valuesFrom (sc .rows) (length (sc .runs)) (var .1) row run ≡ v ∷ valuesFrom (sc .rows) (length (sc .runs)) (var .1) (v .row) (v .run + 1)) where
         may-take : MayTake (sc .rows) (length (sc .runs)) (its .y) v
         may-take =

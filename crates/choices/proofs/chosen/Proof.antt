@@ -13,12 +13,12 @@ use Rattle.semantics.specs.Scenario.{Scenario}
 use Rattle.semantics.specs.State as definitions
 use Rattle.semantics.specs.State.{Active}
 use Rattle.rows.specs.Rows.{rowsOf}
-use Rattle.cells.specs.Cells.{cellOf}
+use Rattle.cells.specs.Cells.{cellOf, cellCount}
 use Rattle.cells.specs.laws.Shape.{shape-sized}
 use Rattle.runs.specs.declared.RunEvent.{RunEvent}
 use Rattle.state.specs.declared.State.{State}
 use Rattle.state.specs.State.{NextMove}
-use Rattle.variables.specs.Variables.{Beneath, NextUnset, MayTake}
+use Rattle.variables.specs.Variables.{Beneath, NextUnset, TellsValue}
 use Rattle.values.specs.laws.Next.{no-more, another, variable-found}
 use Rattle.choices.specs.laws.Values.{Part, part-none, part-suits, part-long, part-short, part-not, part-more, value-fits, taken-value, no-value, may-carry, part-carry}
 use borrow.Author.Tests.{not-true, not-false}
@@ -46,7 +46,7 @@ loop-holds c =
 next-unset-requires : tie.Need-next-unset-requires Inv-loop μ-loop
 next-unset-requires c κs =
     let s = c .before .before .before .before .before .before in
-    let size : length (s .args .t1) ≡ 480 = search needs in
+    let size : length (s .args .t1) ≡ cellCount = search needs in
     (shape-sized (s .pre .0), (size, (c .before .before .before .beneath .ensures .size, (omega (arith, s .pre .0 .fewRuns, s .pre .1 .0), c .before .before .loop .inv .0))))
 
 add-if2 : tie.Need-add-if2 Inv-loop μ-loop
@@ -95,7 +95,7 @@ returns-4 c e sc d s a next same row kind =
     let view′ : NextUnset (rowsOf (p .args .t .now)) (s .names) (p .args .k + 1) (e .row) (l .loop .from) (c .before .before .before .before .before .before .before .before .next-unset .result) = rw (← same, ← row) view in
     let more = another next (p .pre .0 .count) (l .loop .from) _ view′ (c .before .before .before .before .before .before .before .if1 .left) in
     let may = c .before .may-take .ensures (more .y) (ap (λ (rs : List Row). atomAt rs (c .before .before .before .before .before .before .before .before .next-unset .result)) (sym (next .rows)) ∙ more .isAtom) in
-    let may′ : MayTake (sc .rows) (length (sc .runs)) (more .y) (getD (p .args .values .now) (l .loop .i) 0) (getD (p .args .values .now) (l .loop .i + 1) 0) (c .before .may-take .result) = may-carry (next .rows) (next .count) (c .before .before .before .before .wide .ensures .0) (c .before .before .wide2 .ensures .0) may in
+    let may′ : TellsValue (sc .rows) (length (sc .runs)) (more .y) (getD (p .args .values .now) (l .loop .i) 0) (getD (p .args .values .now) (l .loop .i + 1) 0) (c .before .may-take .result) = may-carry (next .rows) (next .count) (c .before .before .before .before .wide .ensures .0) (c .before .before .wide2 .ensures .0) may in
     part-not next kind _ (l .loop .from) (l .loop .i) (l .loop .more) (l .loop .inv .2 e sc d s a next same row kind) (more .first) (c .before .before .before .before .before .before .if3 .left) (no-value may′ (not-true _ (c .if4 .taken)))
 
 put-requires : tie.Need-put-requires Inv-loop μ-loop
@@ -136,15 +136,11 @@ loop-again c =
           let view′ : NextUnset (rowsOf (p .args .t .now)) (s .names) (p .args .k + 1) (e .row) (l .loop .from) (c .before .before .before .before .before .before .before .before .before .next-unset .result) = rw (← same, ← row) view in
           let more = another next (p .pre .0 .count) (l .loop .from) _ view′ (c .before .before .before .before .before .before .before .before .if1 .left) in
           let may = c .before .before .may-take .ensures (more .y) (ap (λ (rs : List Row). atomAt rs (c .before .before .before .before .before .before .before .before .before .next-unset .result)) (sym (next .rows)) ∙ more .isAtom) in
-          let may′ : MayTake (sc .rows) (length (sc .runs)) (more .y) (getD (p .args .values .now) (l .loop .i) 0) (getD (p .args .values .now) (l .loop .i + 1) 0) (c .before .before .may-take .result) = may-carry (next .rows) (next .count) (c .before .before .before .before .before .wide .ensures .0) (c .before .before .before .wide2 .ensures .0) may in
+          let may′ : TellsValue (sc .rows) (length (sc .runs)) (more .y) (getD (p .args .values .now) (l .loop .i) 0) (getD (p .args .values .now) (l .loop .i + 1) 0) (c .before .before .may-take .result) = may-carry (next .rows) (next .count) (c .before .before .before .before .before .wide .ensures .0) (c .before .before .before .wide2 .ensures .0) may in
           let value = taken-value may′ (not-false _ (c .before .if4 .left)) in
           let part = part-more next kind _ (l .loop .from) (l .loop .i) (l .loop .more) (l .loop .inv .2 e sc d s a next same row kind) _ (more .y) (more .low) (more .from-on) (more .isAtom) (more .isVariable) (more .unset) (more .first) (c .before .before .before .before .before .before .before .if3 .left) (value .0) (value .1 .1) in
           part-carry _ _ _ _ _ (l .loop .more) (c .put .result) (c .put .ensures) (c .before .before .before .before .before .wide .ensures .0) (c .before .before .before .wide2 .ensures .0) part,
     )
 
 pub chosen-spec : {M : Type 1} → statement M
-chosen-spec =
-    tie.close
-    (tie.spec
-    Inv-loop μ-loop beneath-requires loop-holds (λ c. search needs) (λ c. search needs) (λ c. search needs) next-unset-requires add-if2 returns returns-2 add-if3 returns-3 (λ c. search needs) (λ c κs. search needs)
-    (λ c. search needs) (λ c. search needs) (λ c κs. search needs) may-take-requires returns-4 (λ c. search needs) put-requires add-from add-i loop-less loop-again)
+chosen-spec = tie.close (tie.spec Inv-loop μ-loop beneath-requires loop-holds (λ c. search needs) (λ c. search needs) (λ c. search needs) next-unset-requires add-if2 returns returns-2 add-if3 returns-3 (λ c. search needs) (λ c κs. search needs) (λ c. search needs) (λ c. search needs) (λ c κs. search needs) may-take-requires returns-4 (λ c. search needs) put-requires add-from add-i loop-less loop-again)

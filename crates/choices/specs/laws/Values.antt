@@ -22,7 +22,7 @@ use Rattle.runs.specs.declared.RunEvent.{RunEvent}
 use Rattle.state.specs.declared.State.{State as CodeState}
 use Rattle.state.specs.State.{IsState, NextMove, Sets}
 use Rattle.state.specs.laws.Performed.{none-set}
-use Rattle.variables.specs.Variables.{unsetFrom, MayTake, takes, takesNot, Names}
+use Rattle.variables.specs.Variables.{unsetFrom, TellsValue, takes, takesNot, NamesAtom}
 use Rattle.values.specs.Values.{Setting}
 use Rattle.values.specs.laws.Values.{setting-none, setting-more, setting-all}
 use Rattle.values.specs.laws.Next.{nothing-set}
@@ -111,7 +111,7 @@ module _ {t : List ℕ} {runs k : ℕ} {e : RunEvent} {sc : Scenario} {d : State
 
     pub part-more : (x : ℕ) (y : Atom) → x < length (sc .rows) → from ≤ x → atomAt (sc .rows) x ≡ some y → T (variableAtom y) → getD (s .names) (cellOf x (suc k)) absent ≡ absent
         → left ≡ y ∷ unsetFrom (sc .rows) (a .progress .values) (a .event .row) (suc x) → i + 1 < length bytes
-        → isValueOf (record { row = getD bytes i 0; run = getD bytes (i + 1) 0 }) (candidates (sc .rows) (length (sc .runs)) y) ≡ true → {b : Atom} → Names (sc .rows) (length (sc .runs)) (getD bytes i 0) (getD bytes (i + 1) 0) b
+        → isValueOf (record { row = getD bytes i 0; run = getD bytes (i + 1) 0 }) (candidates (sc .rows) (length (sc .runs)) y) ≡ true → {b : Atom} → NamesAtom (sc .rows) (length (sc .runs)) (getD bytes i 0) (getD bytes (i + 1) 0) b
         → Part sc d a (s .names) bytes (suc x) (i + 2) (set names (cellOf x (suc k)) (cellOf (getD bytes i 0) (getD bytes (i + 1) 0)))
     part-more x y low after isAtom isVariable unset more l isValue {b} value =
         let v : Value = record { row = getD bytes i 0; run = getD bytes (i + 1) 0 } in
@@ -125,20 +125,20 @@ module _ {t : List ℕ} {runs k : ℕ} {e : RunEvent} {sc : Scenario} {d : State
         }
 
 -- a value that may be taken has a row and a run that fit a cell
-pub value-fits : {rows : List Row} {runs r w : ℕ} {y : Atom} {answer : Bool} → length rows ≤ 96 → runs ≤ 4 → MayTake rows runs y r w answer → answer ≡ true → (r < 96) × (w ≤ 4)
+pub value-fits : {rows : List Row} {runs r w : ℕ} {y : Atom} {answer : Bool} → length rows ≤ 96 → runs ≤ 4 → TellsValue rows runs y r w answer → answer ≡ true → (r < 96) × (w ≤ 4)
 value-fits few fewRuns (takes b e i names) yes-taken = (omega (arith, names .below), omega (arith, names .within))
 value-fits few fewRuns (takesNot e i) yes-taken = absurd (true≢false (sym yes-taken ∙ e))
 
-pub taken-value : {rows : List Row} {runs r w : ℕ} {y : Atom} {answer : Bool} → MayTake rows runs y r w answer → answer ≡ true → (isValueOf (record { row = r; run = w }) (candidates rows runs y) ≡ true) × ((b : Atom) × Names rows runs r w b)
+pub taken-value : {rows : List Row} {runs r w : ℕ} {y : Atom} {answer : Bool} → TellsValue rows runs y r w answer → answer ≡ true → (isValueOf (record { row = r; run = w }) (candidates rows runs y) ≡ true) × ((b : Atom) × NamesAtom rows runs r w b)
 taken-value (takes b e i names) h = (i, (b, names))
 taken-value (takesNot e i) h = absurd (true≢false (sym h ∙ e))
 
-pub no-value : {rows : List Row} {runs r w : ℕ} {y : Atom} {answer : Bool} → MayTake rows runs y r w answer → answer ≡ false → isValueOf (record { row = r; run = w }) (candidates rows runs y) ≡ false
+pub no-value : {rows : List Row} {runs r w : ℕ} {y : Atom} {answer : Bool} → TellsValue rows runs y r w answer → answer ≡ false → isValueOf (record { row = r; run = w }) (candidates rows runs y) ≡ false
 no-value (takes b e i names) h = absurd (true≢false (sym e ∙ h))
 no-value (takesNot e i) h = i
 
 -- the same of equal rows, runs and numbers
-pub may-carry : {rows rows′ : List Row} {runs runs′ r r′ w w′ : ℕ} {y : Atom} {answer : Bool} → rows ≡ rows′ → runs′ ≡ runs → r′ ≡ r → w′ ≡ w → MayTake rows′ runs′ y r′ w′ answer → MayTake rows runs y r w answer
+pub may-carry : {rows rows′ : List Row} {runs runs′ r r′ w w′ : ℕ} {y : Atom} {answer : Bool} → rows ≡ rows′ → runs′ ≡ runs → r′ ≡ r → w′ ≡ w → TellsValue rows′ runs′ y r′ w′ answer → TellsValue rows runs y r w answer
 may-carry p q e f m = rw (p, ← q, ← e, ← f) m
 
 -- the names as they were put

@@ -32,15 +32,4 @@ returns-3 c =
     admitted-all (s .args .vars) (s .args .i) (s .args .needs .rows) (s .args .set) _
 
 pub admit-spec : {M : Type 1} → statement M
-admit-spec =
-    tie.close
-    (tie.spec
-    returns
-    (λ c. search needs)
-    (λ c. search needs)
-    mul-class
-    array-read-class
-    (λ c. search needs)
-    (λ c. search needs)
-    returns-2
-    returns-3)
+admit-spec = tie.close (tie.spec returns (λ c. search needs) (λ c. search needs) mul-class array-read-class (λ c. search needs) (λ c. search needs) returns-2 returns-3)

@@ -22,15 +22,4 @@ returns-2 : tie.Need-returns-2 Inv-loop μ-loop
 returns-2 c some = refl
 
 pub is-empty-spec : {M : Type 1} → statement M
-is-empty-spec =
-    tie.close
-    (tie.spec
-    Inv-loop
-    μ-loop
-    (λ c. omega arith)
-    (λ c κs. search needs)
-    returns
-    (λ c. search needs)
-    (λ c. omega arith)
-    (λ c. omega arith)
-    returns-2)
+is-empty-spec = tie.close (tie.spec Inv-loop μ-loop (λ c. omega arith) (λ c κs. search needs) returns (λ c. search needs) (λ c. omega arith) (λ c. omega arith) returns-2)

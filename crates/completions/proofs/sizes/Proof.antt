@@ -12,16 +12,4 @@ abbrev μ-loop : tie.MeasureT-loop
 μ-loop dom vars sizes₀ i₀ sizes i = vars .count - i
 
 pub sizes-spec : {M : Type 1} → statement M
-sizes-spec =
-    tie.close
-    (tie.spec
-    Inv-loop
-    μ-loop
-    (λ c. omega arith)
-    (λ c κs. search needs)
-    (λ c. search needs)
-    (λ c. search needs)
-    (λ c. search needs)
-    (λ c. omega arith)
-    (λ c. omega arith)
-    (λ c. search needs))
+sizes-spec = tie.close (tie.spec Inv-loop μ-loop (λ c. omega arith) (λ c κs. search needs) (λ c. search needs) (λ c. search needs) (λ c. search needs) (λ c. omega arith) (λ c. omega arith) (λ c. search needs))

@@ -17,23 +17,4 @@ array-read-if2-2 c =
     s .pre .1 (c .before .before .loop .i) (c .if1 .taken)
 
 pub smallest-spec : {M : Type 1} → statement M
-smallest-spec =
-    tie.close
-    (tie.spec
-    Inv-loop
-    μ-loop
-    (λ c. omega arith)
-    (λ c. search needs)
-    (λ c. search needs)
-    array-read-if2-2
-    (λ c. search needs)
-    (λ c. search needs)
-    (λ c. search needs)
-    (λ c. search needs)
-    (λ c. search needs)
-    (λ c. search needs)
-    (λ c. search needs)
-    (λ c. omega arith)
-    (λ c. omega arith)
-    (λ c. search needs)
-    (λ c. search needs))
+smallest-spec = tie.close (tie.spec Inv-loop μ-loop (λ c. omega arith) (λ c. search needs) (λ c. search needs) array-read-if2-2 (λ c. search needs) (λ c. search needs) (λ c. search needs) (λ c. search needs) (λ c. search needs) (λ c. search needs) (λ c. search needs) (λ c. omega arith) (λ c. omega arith) (λ c. search needs) (λ c. search needs))

@@ -7,29 +7,29 @@ use Rattle.completions.proofs.tied.Statement.{statement}
 use Rattle.completions.proofs.tied.Tie as tie
 
 abbrev Inv-loop : tie.InvT-loop
-Inv-loop t n runs classes u vars dom below counts best₀ r₀ best r = (r ≤ n)
+Inv-loop t classes pattern dom below vars n counts best₀ r₀ best r = (r ≤ n)
 
 abbrev μ-loop : tie.MeasureT-loop
-μ-loop t n runs classes u vars dom below counts best₀ r₀ best r = n - r
+μ-loop t classes pattern dom below vars n counts best₀ r₀ best r = n - r
 
 sizes-requires : tie.Need-sizes-requires Inv-loop μ-loop
 sizes-requires c κs =
-    let s = c .before .before in
+    let s = c .before .before .before in
     s .pre .1 .1 .1 .few
 
 class-at-requires : tie.Need-class-at-requires Inv-loop μ-loop
 class-at-requires c κs =
-    let s = c .before .before .before .before .before .before .before .before .before .before in
+    let s = c .before .before .before .before .before .before .before .before .before .before .before in
     search needs
 
 beneath-requires : tie.Need-beneath-requires Inv-loop μ-loop
 beneath-requires c κs =
-    let s = c .before .before .before .before .before .before .before .before .before .before .before .before in
+    let s = c .before .before .before .before .before .before .before .before .before .before .before .before .before in
     (shape-sized (s .pre .0), c .before .before .before .before .before .before .before .loop-test .taken)
 
 smallest-requires : tie.Need-smallest-requires Inv-loop μ-loop
 smallest-requires c κs =
-    let s = c .before .before .before .before .before .before .before .before .before .before .before .before .before in
+    let s = c .before .before .before .before .before .before .before .before .before .before .before .before .before .before in
     (s .pre .1 .1 .1 .few, λ j l. omega (arith, s .pre .1 .1 .1 .row j l, s .pre .0 .few))
 
 loop-less : tie.Need-loop-less Inv-loop μ-loop
@@ -39,19 +39,4 @@ loop-again : tie.Need-loop-again Inv-loop μ-loop
 loop-again c = omega (arith, c .before .before .loop-test .taken)
 
 pub tied-spec : {M : Type 1} → statement M
-tied-spec =
-    tie.close
-    (tie.spec
-    Inv-loop
-    μ-loop
-    sizes-requires
-    (λ c. omega arith)
-    (λ c. search needs)
-    (λ c κs. search needs)
-    class-at-requires
-    beneath-requires
-    smallest-requires
-    (λ c. search needs)
-    loop-less
-    loop-again
-    (λ c. search needs))
+tied-spec = tie.close (tie.spec Inv-loop μ-loop sizes-requires (λ c. omega arith) (λ c. search needs) (λ c κs. search needs) class-at-requires beneath-requires smallest-requires (λ c. search needs) loop-less loop-again (λ c. search needs))

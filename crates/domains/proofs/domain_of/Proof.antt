@@ -4,21 +4,23 @@ use Prim.Native.Nat.{ℕ, _-_, _≤_, _<_}
 use mathlib.Core.Path.{_≡_}
 use mathlib.Core.Bool.{Bool, false}
 use lib.ListN.{length, length-replicate, length-set}
-use Rattle.domains.specs.Domains.{In, InRow}
+use Rattle.variables.specs.Variables.{In}
+use Rattle.domains.specs.Domains.{InRow}
 use Rattle.domains.specs.laws.Sets.{one-more}
+use Rattle.cells.specs.Cells.{cellCount}
 use native.Mathlib.Omega.{arith}
 use borrow.Author.Needs.{needs}
 use Rattle.domains.proofs.domain_of.Statement.{statement}
 use Rattle.domains.proofs.domain_of.Tie as tie
 
 abbrev Inv-loop : tie.InvT-loop
-Inv-loop dom i set₀ c₀ set c = (c ≤ 480) × ((length set ≡ 480) × ((e : ℕ) → e < c → InRow dom i e → In set e))
+Inv-loop dom i set₀ c₀ set c = (c ≤ cellCount) × ((length set ≡ cellCount) × ((e : ℕ) → e < c → InRow dom i e → In set e))
 
 abbrev μ-loop : tie.MeasureT-loop
-μ-loop dom i set₀ c₀ set c = 480 - c
+μ-loop dom i set₀ c₀ set c = cellCount - c
 
 loop-holds : tie.Need-loop-holds Inv-loop μ-loop
-loop-holds c = (omega arith, (length-replicate {A = Bool} 480 false, λ e l. absurd (omega arith)))
+loop-holds c = (omega arith, (length-replicate {A = Bool} cellCount false, λ e l. absurd (omega arith)))
 
 loop-again : tie.Need-loop-again Inv-loop μ-loop
 loop-again c =
@@ -30,17 +32,4 @@ returns : tie.Need-returns Inv-loop μ-loop
 returns c = λ e l. c .before .loop .inv .1 .1 e (omega (arith, c .loop-test .left))
 
 pub domain-of-spec : {M : Type 1} → statement M
-domain-of-spec =
-    tie.close
-    (tie.spec
-    Inv-loop
-    μ-loop
-    loop-holds
-    (λ c. search needs)
-    (λ c. search needs)
-    (λ c. search needs)
-    (λ c. search needs)
-    (λ c. search needs)
-    (λ c. search needs)
-    loop-again
-    returns)
+domain-of-spec = tie.close (tie.spec Inv-loop μ-loop loop-holds (λ c. search needs) (λ c. search needs) (λ c. search needs) (λ c. search needs) (λ c. search needs) (λ c. search needs) loop-again returns)

@@ -25,22 +25,4 @@ returns c = λ fit.
     sym (not-true _ (c .if3 .taken)) ∙ fit (c .before .before .before .before .before .loop .j) (c .before .before .before .if1 .taken) (c .before .before .if2 .taken)
 
 pub fit-spec : {M : Type 1} → statement M
-fit-spec =
-    tie.close
-    (tie.spec
-    Inv-loop
-    μ-loop
-    (λ c. search needs)
-    (λ c. search needs)
-    (λ c. search needs)
-    mul-class
-    array-read-class
-    (λ c. search needs)
-    (λ c. search needs)
-    (λ c. search needs)
-    (λ c. search needs)
-    returns
-    (λ c. search needs)
-    (λ c. search needs)
-    (λ c. search needs)
-    (λ c. search needs))
+fit-spec = tie.close (tie.spec Inv-loop μ-loop (λ c. search needs) (λ c. search needs) (λ c. search needs) mul-class array-read-class (λ c. search needs) (λ c. search needs) (λ c. search needs) (λ c. search needs) returns (λ c. search needs) (λ c. search needs) (λ c. search needs) (λ c. search needs))

@@ -5,16 +5,17 @@ use mathlib.Core.Path.{sym, _∙_}
 use mathlib.Core.Logic.{⊎-elim}
 use mathlib.Core.Bool.{false≢true}
 use Rattle.domains.specs.laws.Sets.{JoinsTo, joins-start, joins-set, joins-skip, joins-all}
+use Rattle.cells.specs.Cells.{cellCount}
 use native.Mathlib.Omega.{arith}
 use borrow.Author.Needs.{needs}
 use Rattle.domains.proofs.join.Statement.{statement}
 use Rattle.domains.proofs.join.Tie as tie
 
 abbrev Inv-loop : tie.InvT-loop
-Inv-loop sets l s more₀ c₀ more c = (c ≤ 480) × JoinsTo more₀ sets l s c more
+Inv-loop sets l s more₀ c₀ more c = (c ≤ cellCount) × JoinsTo more₀ sets l s c more
 
 abbrev μ-loop : tie.MeasureT-loop
-μ-loop sets l s more₀ c₀ more c = 480 - c
+μ-loop sets l s more₀ c₀ more c = cellCount - c
 
 loop-holds : tie.Need-loop-holds Inv-loop μ-loop
 loop-holds c = (omega arith, joins-start (c .args .set) (c .args .sets .now) (c .args .l) (c .args .s) (c .good .0 .1 .0 .1))
@@ -28,20 +29,4 @@ returns : tie.Need-returns Inv-loop μ-loop
 returns c = joins-all (c .loop-test .left) (c .before .loop .inv .1)
 
 pub join-spec : {M : Type 1} → statement M
-join-spec =
-    tie.close
-    (tie.spec
-    Inv-loop
-    μ-loop
-    loop-holds
-    (λ c. search needs)
-    (λ c. search needs)
-    (λ c. search needs)
-    (λ c. search needs)
-    (λ c. search needs)
-    (λ c. search needs)
-    (λ c. search needs)
-    (λ c. search needs)
-    (λ c. search needs)
-    loop-again
-    returns)
+join-spec = tie.close (tie.spec Inv-loop μ-loop loop-holds (λ c. search needs) (λ c. search needs) (λ c. search needs) (λ c. search needs) (λ c. search needs) (λ c. search needs) (λ c. search needs) (λ c. search needs) (λ c. search needs) loop-again returns)

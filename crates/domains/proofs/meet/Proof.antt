@@ -6,16 +6,17 @@ use mathlib.Core.Logic.{⊎-elim}
 use mathlib.Core.Bool.{false≢true}
 use Rattle.cells.specs.laws.Cells.{none-more}
 use Rattle.domains.specs.Domains.{InRow}
+use Rattle.cells.specs.Cells.{cellCount}
 use native.Mathlib.Omega.{arith}
 use borrow.Author.Needs.{needs}
 use Rattle.domains.proofs.meet.Statement.{statement}
 use Rattle.domains.proofs.meet.Tie as tie
 
 abbrev Inv-loop : tie.InvT-loop
-Inv-loop dom other i c₀ c = (c ≤ 480) × ((e : ℕ) → e < c → InRow dom i e × InRow other i e → ⊥)
+Inv-loop dom other i c₀ c = (c ≤ cellCount) × ((e : ℕ) → e < c → InRow dom i e × InRow other i e → ⊥)
 
 abbrev μ-loop : tie.MeasureT-loop
-μ-loop dom other i c₀ c = 480 - c
+μ-loop dom other i c₀ c = cellCount - c
 
 loop-again : tie.Need-loop-again Inv-loop μ-loop
 loop-again c =
@@ -27,20 +28,4 @@ returns-2 : tie.Need-returns-2 Inv-loop μ-loop
 returns-2 c = λ e l p q. absurd (c .before .loop .inv .1 e (omega (arith, c .loop-test .left)) (p, q))
 
 pub meet-spec : {M : Type 1} → statement M
-meet-spec =
-    tie.close
-    (tie.spec
-    Inv-loop
-    μ-loop
-    (λ c. search needs)
-    (λ c. search needs)
-    (λ c. search needs)
-    (λ c. search needs)
-    (λ c. search needs)
-    (λ c. search needs)
-    (λ c. search needs)
-    (λ c. search needs)
-    (λ c. search needs)
-    (λ c. search needs)
-    loop-again
-    returns-2)
+meet-spec = tie.close (tie.spec Inv-loop μ-loop (λ c. search needs) (λ c. search needs) (λ c. search needs) (λ c. search needs) (λ c. search needs) (λ c. search needs) (λ c. search needs) (λ c. search needs) (λ c. search needs) (λ c. search needs) loop-again returns-2)

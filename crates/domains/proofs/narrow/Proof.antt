@@ -5,16 +5,17 @@ use mathlib.Core.Logic.{⊎-elim}
 use borrow.Author.Tests.{not-true}
 use Rattle.domains.specs.Domains.{Narrows}
 use Rattle.domains.specs.laws.Sets.{narrows-set}
+use Rattle.cells.specs.Cells.{cellCount}
 use native.Mathlib.Omega.{arith}
 use borrow.Author.Needs.{needs}
 use Rattle.domains.proofs.narrow.Statement.{statement}
 use Rattle.domains.proofs.narrow.Tie as tie
 
 abbrev Inv-loop : tie.InvT-loop
-Inv-loop i set less₀ c₀ less c = (c ≤ 480) × Narrows less₀ i set less
+Inv-loop i set less₀ c₀ less c = (c ≤ cellCount) × Narrows less₀ i set less
 
 abbrev μ-loop : tie.MeasureT-loop
-μ-loop i set less₀ c₀ less c = 480 - c
+μ-loop i set less₀ c₀ less c = cellCount - c
 
 loop-again : tie.Need-loop-again Inv-loop μ-loop
 loop-again c =
@@ -23,17 +24,4 @@ loop-again c =
     (omega (arith, c .before .loop-test .taken), ⊎-elim (λ w. rw (w .1) (narrows-set (s .args .dom) (s .args .i) (s .args .t3) (l .loop .less) (l .loop .c) (c .before .loop-test .taken) (not-true _ (w .0 .taken)) (l .loop .inv .1))) (λ w. rw (w .1) (l .loop .inv .1)) (c .if1 .came))
 
 pub narrow-spec : {M : Type 1} → statement M
-narrow-spec =
-    tie.close
-    (tie.spec
-    Inv-loop
-    μ-loop
-    (λ c. search needs)
-    (λ c. search needs)
-    (λ c. search needs)
-    (λ c. search needs)
-    (λ c. search needs)
-    (λ c. search needs)
-    (λ c. search needs)
-    loop-again
-    (λ c. search needs))
+narrow-spec = tie.close (tie.spec Inv-loop μ-loop (λ c. search needs) (λ c. search needs) (λ c. search needs) (λ c. search needs) (λ c. search needs) (λ c. search needs) (λ c. search needs) loop-again (λ c. search needs))

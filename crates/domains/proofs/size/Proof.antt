@@ -6,16 +6,17 @@ use mathlib.Core.Logic.{⊎-elim}
 use mathlib.Core.Bool.{false≢true}
 use borrow.Author.Count.{below-more}
 use Rattle.domains.specs.Domains.{InRow}
+use Rattle.cells.specs.Cells.{cellCount}
 use native.Mathlib.Omega.{arith}
 use borrow.Author.Needs.{needs}
 use Rattle.domains.proofs.size.Statement.{statement}
 use Rattle.domains.proofs.size.Tie as tie
 
 abbrev Inv-loop : tie.InvT-loop
-Inv-loop dom i count₀ c₀ count c = (c ≤ 480) × ((count ≤ c) × ((e : ℕ) → e < c → InRow dom i e → 0 < count))
+Inv-loop dom i count₀ c₀ count c = (c ≤ cellCount) × ((count ≤ c) × ((e : ℕ) → e < c → InRow dom i e → 0 < count))
 
 abbrev μ-loop : tie.MeasureT-loop
-μ-loop dom i count₀ c₀ count c = 480 - c
+μ-loop dom i count₀ c₀ count c = cellCount - c
 
 loop-again : tie.Need-loop-again Inv-loop μ-loop
 loop-again c =
@@ -26,17 +27,4 @@ returns : tie.Need-returns Inv-loop μ-loop
 returns c = (omega (arith, c .before .loop .inv .0), λ e l. c .before .loop .inv .1 .1 e (omega (arith, c .loop-test .left)))
 
 pub size-spec : {M : Type 1} → statement M
-size-spec =
-    tie.close
-    (tie.spec
-    Inv-loop
-    μ-loop
-    (λ c. search needs)
-    (λ c. search needs)
-    (λ c. search needs)
-    (λ c. search needs)
-    (λ c. search needs)
-    (λ c. search needs)
-    (λ c. search needs)
-    loop-again
-    returns)
+size-spec = tie.close (tie.spec Inv-loop μ-loop (λ c. search needs) (λ c. search needs) (λ c. search needs) (λ c. search needs) (λ c. search needs) (λ c. search needs) (λ c. search needs) loop-again returns)

@@ -20,16 +20,4 @@ returns-2 : tie.Need-returns-2 Inv-loop μ-loop
 returns-2 c = isNone (omega arith)
 
 pub slot-of-spec : {M : Type 1} → statement M
-slot-of-spec =
-    tie.close
-    (tie.spec
-    Inv-loop
-    μ-loop
-    (λ c. search needs)
-    (λ c. search needs)
-    (λ c. search needs)
-    returns
-    (λ c. search needs)
-    (λ c. search needs)
-    (λ c. search needs)
-    returns-2)
+slot-of-spec = tie.close (tie.spec Inv-loop μ-loop (λ c. search needs) (λ c. search needs) (λ c. search needs) returns (λ c. search needs) (λ c. search needs) (λ c. search needs) returns-2)

@@ -3,16 +3,17 @@
 use Rattle.domains.specs.laws.Values.{ListedTo, listed-more, listed-other, listed-all}
 use mathlib.Core.Logic.{⊎-elim}
 use Prim.Native.Nat.{_-_, _≤_}
+use Rattle.cells.specs.Cells.{cellCount}
 use native.Mathlib.Omega.{arith}
 use borrow.Author.Needs.{needs}
 use Rattle.domains.proofs.values_of.Statement.{statement}
 use Rattle.domains.proofs.values_of.Tie as tie
 
 abbrev Inv-loop : tie.InvT-loop
-Inv-loop t n runs classes marks only q set₀ c₀ set c = (c ≤ 480) × ListedTo t n runs classes marks only q c set
+Inv-loop t n runs classes marks only q set₀ c₀ set c = (c ≤ cellCount) × ListedTo t n runs classes marks only q c set
 
 abbrev μ-loop : tie.MeasureT-loop
-μ-loop t n runs classes marks only q set₀ c₀ set c = 480 - c
+μ-loop t n runs classes marks only q set₀ c₀ set c = cellCount - c
 
 loop-holds : tie.Need-loop-holds Inv-loop μ-loop
 loop-holds c = (omega arith, λ y w l. absurd (omega arith))
@@ -33,15 +34,4 @@ returns c =
     listed-all (s .args .t .now) (s .args .n) (s .args .runs) (s .args .classes .now) (s .args .marks .now) (s .args .only) (s .args .q) (l .loop .set) (s .pre .0) (c .loop-test .left) (l .loop .inv .1)
 
 pub values-of-spec : {M : Type 1} → statement M
-values-of-spec =
-    tie.close
-    (tie.spec
-    Inv-loop
-    μ-loop
-    loop-holds
-    (λ c κs. search needs)
-    (λ c κs. search needs)
-    (λ c. search needs)
-    loop-less
-    loop-again
-    returns)
+values-of-spec = tie.close (tie.spec Inv-loop μ-loop loop-holds (λ c κs. search needs) (λ c κs. search needs) (λ c. search needs) loop-less loop-again returns)

@@ -22,13 +22,4 @@ returns-3 c t n runs q =
     listed-absent t n runs (s .args .classes .now) (s .args .marks .now) (s .args .only) q (s .args .c) (s .args .set) (c .before .class-at .ensures) (c .if3 .left)
 
 pub with-value-spec : {M : Type 1} → statement M
-with-value-spec =
-    tie.close
-    (tie.spec
-    (λ c. search needs)
-    returns
-    (λ c κs. search needs)
-    (λ c. search needs)
-    (λ c. search needs)
-    returns-2
-    returns-3)
+with-value-spec = tie.close (tie.spec (λ c. search needs) returns (λ c κs. search needs) (λ c. search needs) (λ c. search needs) returns-2 returns-3)

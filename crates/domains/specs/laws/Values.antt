@@ -1,4 +1,4 @@
--- The variables without a value, the classes of the values that a variable may take, one cell after the other, and the domains, one variable after the other. Assumes nothing.
+-- The classes of the values that a variable may take, one cell after the other, and the domains, one variable after the other. Assumes nothing.
 use Prim.Native.Nat.{ℕ, _+_, _*_, _/_, _%_, _<_, _≤_}
 use native.Mathlib.Nat.{eq-or-lt-of-le}
 use native.Mathlib.Omega.{arith}
@@ -15,71 +15,31 @@ use Rattle.semantics.specs.Runs.{atomAt}
 use Rattle.semantics.specs.Moves.{candidates}
 use Rattle.semantics.specs.Replay.{isValueOf}
 use Rattle.rows.specs.Rows.{rowsOf}
-use Rattle.cells.specs.Cells.{Shape, cellOf, absent}
+use Rattle.cells.specs.Cells.{Shape, cellOf, cellCount, absent}
 use Rattle.knowledge.specs.Marks.{Marked}
 use Rattle.knowledge.specs.Steps.{classAt, kindAt, Inside}
-use Rattle.variables.specs.Variables.{MayTake, takes, takesNot}
-use Rattle.domains.specs.Domains.{In, InRow, Unset, MayBe, Listed, ListedAt, Narrows}
+use Rattle.variables.specs.Variables.{In, TellsValue, takes, takesNot}
+use Rattle.domains.specs.Domains.{domainCells, InRow, Candidate, Listed, ListedAt, Narrows}
 use Rattle.domains.specs.laws.Sets.{stays}
-
--- what holds of the first numbers of a list and of the next holds of one more
-written : (P : ℕ → Type 0) (rows : List ℕ) (count x : ℕ) → count < length rows → ((i : ℕ) → i < count → P (getD rows i 0)) → P x → (i : ℕ) → i < count + 1 → P (getD (set rows count x) i 0)
-written P rows count x l before new =
-    below-more _ count (λ i k. rw (getD-set-other rows count i x 0 (λ e. omega arith)) (before i k)) (rw (getD-set-same rows count x 0 l) new)
-
-module _ (bytes : List ℕ) (n : ℕ) (classes : List ℕ) (u : ℕ) (below : List Bool) where
-  -- the variables so far
-  pub record UnsetSoFar (rows : List ℕ) (count : ℕ) : Type 0 where
-    pub size : length rows ≡ 8
-    pub unset : Unset bytes n classes u below (record { rows = rows; count = count })
-
-  pub unset-start : (rows : List ℕ) → length rows ≡ 8 → UnsetSoFar rows 0
-  unset-start rows sized = record {
-    size = sized;
-    unset = record {
-      low = record { few = omega arith; row = λ i l. absurd (omega arith); kind = λ i l. absurd (omega arith) };
-      under = λ i l. absurd (omega arith);
-      unset = λ i l. absurd (omega arith);
-    };
-  }
-
-  -- one more
-  pub unset-more :
-      {rows : List ℕ} {count x : ℕ} → count < 8 → x < n → In below x → (kindAt bytes x ≡ 6) × (classAt classes x u ≡ absent) → UnsetSoFar rows count
-      → UnsetSoFar (set rows count x) (count + 1)
-  unset-more {rows} {count} {x} few low under is v =
-      let l : count < length rows = omega (arith, v .size) in
-      record {
-        size = length-set rows count x ∙ v .size;
-        unset = record {
-          low = record {
-            few = omega arith;
-            row = written (λ y. y < n) rows count x l (v .unset .low .row) low;
-            kind = written (λ y. kindAt bytes y ≡ 6) rows count x l (v .unset .low .kind) (is .0);
-          };
-          under = written (In below) rows count x l (v .unset .under) under;
-          unset = written (λ y. classAt classes y u ≡ absent) rows count x l (v .unset .unset) (is .1);
-        };
-      }
 
 module _ (bytes : List ℕ) (n runs : ℕ) (classes : List ℕ) (marks : List Bool) (only : Bool) where
   module _ (q : ℕ) where
     -- the classes of the values whose cell is below a number
     abbrev pub ListedTo : ℕ → List Bool → Type 0
     ListedTo c own =
-        (y w : ℕ) → cellOf y w < c → Inside n runs y w → MayBe bytes runs q y w → (only ≡ true → Marked marks y w) → classAt classes y w < absent → In own (classAt classes y w)
+        (y w : ℕ) → cellOf y w < c → Inside n runs y w → Candidate bytes runs q y w → (only ≡ true → Marked marks y w) → classAt classes y w < absent → In own (classAt classes y w)
 
     pub listed-more : {c : ℕ} {own more : List Bool} → ListedTo c own → ListedAt bytes n runs classes marks only q c own more → ListedTo (c + 1) more
     listed-more {c} before at y w l i m k a =
         ⊎-elim (λ (e : cellOf y w ≡ c). at .adds y w e i m k a) (λ (h : cellOf y w < c). at .keeps (classAt classes y w) (before y w h i m k a)) (eq-or-lt-of-le (omega arith))
 
-    pub listed-all : {c : ℕ} (own : List Bool) → Shape bytes n runs → 480 ≤ c → ListedTo c own → Listed bytes n runs classes marks only q (In own)
+    pub listed-all : {c : ℕ} (own : List Bool) → Shape bytes n runs → cellCount ≤ c → ListedTo c own → Listed bytes n runs classes marks only q (In own)
     listed-all own shape l listed y w i = listed y w (omega (arith, shape .few, shape .fewRuns, i .0, i .1)) i
 
     module _ (c : ℕ) (own : List Bool) where
       -- a cell that adds nothing: not marked, or without a class, or no value of the variable
       listed-same :
-          ((y w : ℕ) → cellOf y w ≡ c → Inside n runs y w → MayBe bytes runs q y w → (only ≡ true → Marked marks y w) → classAt classes y w < absent → ⊥)
+          ((y w : ℕ) → cellOf y w ≡ c → Inside n runs y w → Candidate bytes runs q y w → (only ≡ true → Marked marks y w) → classAt classes y w < absent → ⊥)
           → ListedAt bytes n runs classes marks only q c own own
       listed-same none = record { keeps = λ e h. h; adds = λ y w e i m k a. absurd (none y w e i m k a) }
 
@@ -94,19 +54,19 @@ module _ (bytes : List ℕ) (n runs : ℕ) (classes : List ℕ) (marks : List Bo
       listed-absent e l = listed-same (λ y w q i m k a. omega (arith, class-there e y w q))
 
       pub listed-set :
-          {class : ℕ} → length own ≡ 480 → class ≡ classAt classes (c % 96) (c / 96) → class < absent → ListedAt bytes n runs classes marks only q c own (set own class true)
+          {class : ℕ} → length own ≡ cellCount → class ≡ classAt classes (c % 96) (c / 96) → class < absent → ListedAt bytes n runs classes marks only q c own (set own class true)
       listed-set {class} sized e l = record {
         keeps = λ d h. stays own class true (λ q. refl) h;
         adds = λ y w q i m k a. rw (← class-there e y w q) (getD-set-same own class true false (omega arith));
       }
 
       pub listed-other :
-          Shape bytes n runs → {b : Bool} → ((a : Atom) → atomAt (rowsOf bytes) q ≡ some a → MayTake (rowsOf bytes) runs a (c % 96) (c / 96) b) → b ≡ false
+          Shape bytes n runs → {b : Bool} → ((a : Atom) → atomAt (rowsOf bytes) q ≡ some a → TellsValue (rowsOf bytes) runs a (c % 96) (c / 96) b) → b ≡ false
           → ListedAt bytes n runs classes marks only q c own own
       listed-other shape {b} tells off = listed-same (λ y w e i m k a. go (m .0) y w (omega (arith, shape .few, i .0)) (omega (arith, shape .few, i .0)) (m .2) (tells (m .0) (m .1)))
         where
           go : (a : Atom) (y w : ℕ) → y ≡ c % 96 → w ≡ c / 96 → isValueOf (record { row = y; run = w }) (candidates (rowsOf bytes) runs a) ≡ true
-              → MayTake (rowsOf bytes) runs a (c % 96) (c / 96) b → ⊥
+              → TellsValue (rowsOf bytes) runs a (c % 96) (c / 96) b → ⊥
           go a y w ey ew v (takes d e f g) = false≢true (sym off ∙ e)
           go a y w ey ew v (takesNot e f) = false≢true (sym f ∙ rw (ey, ew) at v)
 
@@ -114,10 +74,10 @@ module _ (bytes : List ℕ) (n runs : ℕ) (classes : List ℕ) (marks : List Bo
     -- the domains of the variables so far hold their values, and those of the others hold all
     pub record DomainsTo (i : ℕ) (dom : List Bool) : Type 0 where
       pub done : (j : ℕ) → j < i → Listed bytes n runs classes marks only (getD rows j 0) (InRow dom j)
-      pub full : (j c : ℕ) → i ≤ j → j < 8 → c < 480 → InRow dom j c
+      pub full : (j c : ℕ) → i ≤ j → j < 8 → c < cellCount → InRow dom j c
 
-    pub domains-start : DomainsTo 0 (replicate 3840 true)
-    domains-start = record { done = λ j l. absurd (omega arith); full = λ j c k l m. getD-replicate {A = Bool} 3840 (j * 480 + c) true false (omega arith) }
+    pub domains-start : DomainsTo 0 (replicate domainCells true)
+    domains-start = record { done = λ j l. absurd (omega arith); full = λ j c k l m. getD-replicate {A = Bool} domainCells (j * cellCount + c) true false (omega arith) }
 
     -- one more is narrowed to its values
     pub domains-more :

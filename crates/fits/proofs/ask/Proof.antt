@@ -20,16 +20,4 @@ returns-3 c =
     asked-now (s .args .classes .now) (s .args .u) (s .args .need .now) (s .args .q) (s .args .class) (s .pre .1 .0)
 
 pub ask-spec : {M : Type 1} → statement M
-ask-spec =
-    tie.close
-    (tie.spec
-    (λ c κs. search needs)
-    returns
-    (λ c. search needs)
-    (λ c. search needs)
-    (λ c. search needs)
-    (λ c. search needs)
-    returns-2
-    (λ c. search needs)
-    (λ c. search needs)
-    returns-3)
+ask-spec = tie.close (tie.spec (λ c κs. search needs) returns (λ c. search needs) (λ c. search needs) (λ c. search needs) (λ c. search needs) returns-2 (λ c. search needs) (λ c. search needs) returns-3)

@@ -42,19 +42,4 @@ returns-6 c =
     followed-parts (s .args .t .now) (s .args .n) (s .args .runs) (s .args .classes .now) (s .args .u) (s .args .q) (s .args .need .now) (s .pre .0 .few) (s .pre .1 .1 .1) _ refl (e .if1 .left) (omega (arith, c .before .before .before .before .before .before .before .kind-of .ensures .0, c .before .before .before .before .before .before .if2 .left)) (c .share .ensures)
 
 pub follow-spec : {M : Type 1} → statement M
-follow-spec =
-    tie.close
-    (tie.spec
-    (λ c. search needs)
-    (λ c. search needs)
-    (λ c. search needs)
-    (λ c κs. search needs)
-    (λ c. search needs)
-    (λ c. search needs)
-    returns-3
-    (λ c. search needs)
-    returns-4
-    (λ c κs. search needs)
-    returns-5
-    share-requires
-    returns-6)
+follow-spec = tie.close (tie.spec (λ c. search needs) (λ c. search needs) (λ c. search needs) (λ c κs. search needs) (λ c. search needs) (λ c. search needs) returns-3 (λ c. search needs) returns-4 (λ c κs. search needs) returns-5 share-requires returns-6)

@@ -40,18 +40,4 @@ returns-2 : tie.Need-returns-2 Inv-loop μ-loop
 returns-2 c = λ z g. (refl, c .before .loop .inv .1 z g)
 
 pub needs-of-spec : {M : Type 1} → statement M
-needs-of-spec =
-    tie.close
-    (tie.spec
-    Inv-loop
-    μ-loop
-    (λ c. search needs)
-    (λ c. search needs)
-    (λ c. search needs)
-    loop-holds
-    (λ c. search needs)
-    follow-requires
-    (λ c. omega arith)
-    loop-again
-    returns
-    returns-2)
+needs-of-spec = tie.close (tie.spec Inv-loop μ-loop (λ c. search needs) (λ c. search needs) (λ c. search needs) loop-holds (λ c. search needs) follow-requires (λ c. omega arith) loop-again returns returns-2)

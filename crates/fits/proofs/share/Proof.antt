@@ -39,16 +39,4 @@ returns-2 c =
     shared-refused (s .args .t .now) (s .args .n) (s .args .runs) (s .args .classes .now) (s .args .u) (s .args .q) (s .args .y) (s .args .w) (a .before .before .before .before .before .before .left-of .ensures .0) (a .before .before .before .before .before .class-at .ensures) (a .before .left-of2 .ensures .0) (a .ask .ensures) (c .if1 .left) _ _
 
 pub share-spec : {M : Type 1} → statement M
-share-spec =
-    tie.close
-    (tie.spec
-    (λ c κs. search needs)
-    class-at-requires
-    (λ c κs. search needs)
-    class-at-requires-2
-    (λ c κs. search needs)
-    ask-requires
-    (λ c κs. search needs)
-    ask-requires-2
-    returns
-    returns-2)
+share-spec = tie.close (tie.spec (λ c κs. search needs) class-at-requires (λ c κs. search needs) class-at-requires-2 (λ c κs. search needs) ask-requires (λ c κs. search needs) ask-requires-2 returns returns-2)

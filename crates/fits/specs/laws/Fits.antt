@@ -19,13 +19,13 @@ use Rattle.classes.specs.laws.Kinds.{firstPart, secondPart, value-made}
 use Rattle.classes.specs.laws.Values.{cell-kept}
 use Rattle.knowledge.specs.Steps.{classAt, kindAt, leftAt, Inside}
 use Rattle.knowledge.specs.laws.Values.{Has, Standing, standsAtom, standsRow, has-value, stand, one-class}
-use Rattle.fits.specs.Fits.{Setting, ClassOf, Gets, Needed, Asked, Shared, Followed, CanGet, CanTake, NeedsMet}
+use Rattle.fits.specs.Fits.{Extension, ClassOf, Gets, Needed, Asked, PartsAsked, PassedDown, CanGet, CanTake, NeedsMet}
 
 -- a row has one value
 one-term : {o : Option Term} {t s : Term} → o ≡ some t → o ≡ some s → t ≡ s
 one-term {t = t} {s} e f = Option·some-injective t s (sym e ∙ f)
 
-module _ {bytes : List ℕ} {n runs : ℕ} {classes : List ℕ} {u : ℕ} (s : Setting bytes n runs classes u) where
+module _ {bytes : List ℕ} {n runs : ℕ} {classes : List ℕ} {u : ℕ} (s : Extension bytes n runs classes u) where
   -- a value has one class
   class-one : {t : Term} {c d : ℕ} → ClassOf s t c → ClassOf s t d → c ≡ d
   class-one a b = a .4 ∙ one-class bytes n runs (s .shape) (s .old) classes (s .right) (a .2) (b .2) (a .3) (b .3) ∙ sym (b .4)
@@ -51,11 +51,11 @@ module _ {bytes : List ℕ} {n runs : ℕ} {classes : List ℕ} {u : ℕ} (s : S
       go p k (no d) h = let same = getD-set-other need q p class 0 d in rw same (nd .each p k (rw same at h))
 
   -- the need of one row
-  pub needed-start : {r class : ℕ} → r < 96 → Gets s r class → Needed s (set (replicate 96 480) r class)
-  needed-start {r} {class} l g = needed-set {need = replicate 96 480} l (record { size = length-replicate {A = ℕ} 96 480; each = none }) g
+  pub needed-start : {r class : ℕ} → r < 96 → Gets s r class → Needed s (set (replicate 96 absent) r class)
+  needed-start {r} {class} l g = needed-set {need = replicate 96 absent} l (record { size = length-replicate {A = ℕ} 96 absent; each = none }) g
     where
-      none : (q : ℕ) → q < 96 → getD (replicate 96 480) q 0 < absent → Gets s q (getD (replicate 96 480) q 0)
-      none q k h = absurd (omega (arith, getD-replicate {A = ℕ} 96 q 480 0 k))
+      none : (q : ℕ) → q < 96 → getD (replicate 96 absent) q 0 < absent → Gets s q (getD (replicate 96 absent) q 0)
+      none q k h = absurd (omega (arith, getD-replicate {A = ℕ} 96 q absent 0 k))
 
 module _ (classes : List ℕ) (u : ℕ) (need : List ℕ) (q class : ℕ) where
   -- a row that has a class already
@@ -72,27 +72,27 @@ module _ (classes : List ℕ) (u : ℕ) (need : List ℕ) (q class : ℕ) where
 
 module _ (bytes : List ℕ) (n runs : ℕ) (classes : List ℕ) (u q y w : ℕ) {l p first : ℕ} (el : l ≡ leftAt bytes y) (ef : first ≡ classAt classes l w) (ep : p ≡ leftAt bytes q) where
   -- the need of the first part
-  first-asked : {before middle : List ℕ} {o : Bool} → Asked classes u before middle p first o → (s : Setting bytes n runs classes u) → Needed s before
+  first-asked : {before middle : List ℕ} {o : Bool} → Asked classes u before middle p first o → (s : Extension bytes n runs classes u) → Needed s before
       → Gets s (leftAt bytes q) (classAt classes (leftAt bytes y) w) → (o ≡ true) × Needed s middle
   first-asked asked s nd g = asked bytes n runs s nd (rw (ep, ef, el) g)
 
   -- both parts are asked
   pub shared-both : {before middle after : List ℕ} {o answer : Bool} {k z second : ℕ} → Asked classes u before middle p first o → k ≡ secondOf bytes y → second ≡ classAt classes k w
-      → z ≡ secondOf bytes q → Asked classes u middle after z second answer → Shared bytes n runs classes u before after q y w answer
+      → z ≡ secondOf bytes q → Asked classes u middle after z second answer → PartsAsked bytes n runs classes u before after q y w answer
   shared-both one ek es ez two s nd g h = two bytes n runs s (first-asked one s nd g .1) (rw (ez, es, ek) h)
 
   -- the first part is refused
   pub shared-refused : {before middle : List ℕ} {o : Bool} → Asked classes u before middle p first o → o ≡ false → (after : List ℕ) (answer : Bool)
-      → Shared bytes n runs classes u before after q y w answer
+      → PartsAsked bytes n runs classes u before after q y w answer
   shared-refused one e after answer s nd g h = absurd (false≢true (sym e ∙ first-asked one s nd g .0))
 
 module _ (bytes : List ℕ) (n runs : ℕ) (classes : List ℕ) (u q : ℕ) (need : List ℕ) where
   module _ (few : n ≤ 96) (low : q < n) (class : ℕ) (ec : class ≡ getD need q 0) (there : class < absent) where
-    gets-need : (s : Setting bytes n runs classes u) → Needed s need → Gets s q class
+    gets-need : (s : Extension bytes n runs classes u) → Needed s need → Gets s q class
     gets-need s nd = rw ec (nd .each q (omega arith) (rw ec at there))
 
     -- the cell that stands for what is needed
-    needed-cell : (s : Setting bytes n runs classes u) → Needed s need
+    needed-cell : (s : Extension bytes n runs classes u) → Needed s need
         → (t : Term) × Has bytes (s .new) q u t × (x : ℕ) × (w : ℕ) × Inside n runs x w × (class ≡ cellOf x w) × Standing bytes n (s .old) x w t
     needed-cell s nd =
         let g = gets-need s nd in
@@ -100,19 +100,19 @@ module _ (bytes : List ℕ) (n runs : ℕ) (classes : List ℕ) (u q : ℕ) (nee
         let z = stand bytes n runs (s .shape) (s .old) classes (s .right) (c .2) (c .3) in
         (g .0, g .1, z .0, z .1, z .2, c .4 ∙ z .3, z .4)
 
-    needed-there : (s : Setting bytes n runs classes u) → Needed s need → (class % 96 < n) × (class / 96 ≤ runs)
+    needed-there : (s : Extension bytes n runs classes u) → Needed s need → (class % 96 < n) × (class / 96 ≤ runs)
     needed-there s nd = let z = needed-cell s nd in (omega (arith, z .4 .0, z .5), omega (arith, z .4 .0, z .4 .1, z .5))
 
     -- a class that is no cell of the table is refused
-    pub followed-row : (after : List ℕ) (answer : Bool) → n ≤ class % 96 → Followed bytes n runs classes u need after answer
+    pub followed-row : (after : List ℕ) (answer : Bool) → n ≤ class % 96 → PassedDown bytes n runs classes u need after answer
     followed-row after answer h s nd = absurd (omega (arith, needed-there s nd .0))
 
-    pub followed-run : (after : List ℕ) (answer : Bool) → runs < class / 96 → Followed bytes n runs classes u need after answer
+    pub followed-run : (after : List ℕ) (answer : Bool) → runs < class / 96 → PassedDown bytes n runs classes u need after answer
     followed-run after answer h s nd = absurd (omega (arith, needed-there s nd .1))
 
     module _ (high : 8 ≤ kindAt bytes q) where
       -- what the parts of the row and those of the cell have in common
-      needed-parts : (s : Setting bytes n runs classes u) → Needed s need
+      needed-parts : (s : Extension bytes n runs classes u) → Needed s need
           → (kindAt bytes (class % 96) ≡ kindAt bytes q) × Gets s (leftAt bytes q) (classAt classes (leftAt bytes (class % 96)) (class / 96))
           × Gets s (secondOf bytes q) (classAt classes (secondOf bytes (class % 96)) (class / 96))
       needed-parts s nd =
@@ -135,24 +135,24 @@ module _ (bytes : List ℕ) (n runs : ℕ) (classes : List ℕ) (u q : ℕ) (nee
               )
 
       -- a class of another kind is refused
-      pub followed-kind : (after : List ℕ) (answer : Bool) → (kindAt bytes (class % 96) ≡ kindAt bytes q → ⊥) → Followed bytes n runs classes u need after answer
+      pub followed-kind : (after : List ℕ) (answer : Bool) → (kindAt bytes (class % 96) ≡ kindAt bytes q → ⊥) → PassedDown bytes n runs classes u need after answer
       followed-kind after answer d s nd = absurd (d (needed-parts s nd .0))
 
       -- the parts need the classes of the parts
-      pub followed-parts : {after : List ℕ} {answer : Bool} → Shared bytes n runs classes u need after q (class % 96) (class / 96) answer → Followed bytes n runs classes u need after answer
+      pub followed-parts : {after : List ℕ} {answer : Bool} → PartsAsked bytes n runs classes u need after q (class % 96) (class / 96) answer → PassedDown bytes n runs classes u need after answer
       followed-parts shared s nd = let p = needed-parts s nd in shared s nd (p .1) (p .2)
 
 module _ (bytes : List ℕ) (n runs : ℕ) (classes : List ℕ) (u r class : ℕ) where
   -- what rows need, if one of them gets the value of a class
   abbrev pub Needs : List ℕ → Type 0
-  Needs need = (s : Setting bytes n runs classes u) → Gets s r class → Needed s need
+  Needs need = (s : Extension bytes n runs classes u) → Gets s r class → Needed s need
 
   -- one row more
-  pub needs-more : {need after : List ℕ} {o : Bool} → Needs need → Followed bytes n runs classes u need after o → Needs after
+  pub needs-more : {need after : List ℕ} {o : Bool} → Needs need → PassedDown bytes n runs classes u need after o → Needs after
   needs-more needs followed s g = followed s (needs s g) .1
 
   -- a row that is refused what it needs
-  pub needs-refused : {need after : List ℕ} {o : Bool} → Needs need → Followed bytes n runs classes u need after o → o ≡ false → (met : Bool)
+  pub needs-refused : {need after : List ℕ} {o : Bool} → Needs need → PassedDown bytes n runs classes u need after o → o ≡ false → (met : Bool)
       → NeedsMet bytes n runs classes u r class met after
   needs-refused needs followed e met s g = absurd (false≢true (sym e ∙ followed s (needs s g) .0))
 

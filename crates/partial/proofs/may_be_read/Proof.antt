@@ -27,18 +27,4 @@ returns-4 : tie.Need-returns-4
 returns-4 c sc d s a from xs vs ws names next kind setting arrays takes answer = let p = c .before .before .before in own-refused (p .pre .0) (p .pre .1 .0) from xs vs ws next kind setting arrays (c .if1 .left)
 
 pub may-be-read-spec : {M : Type 1} → statement M
-may-be-read-spec =
-    tie.close
-    (tie.spec
-    (λ c. search needs)
-    (λ c. search needs)
-    (λ c. search needs)
-    (λ c. search needs)
-    (λ c κs. search needs)
-    (λ c. search needs)
-    (λ c. search needs)
-    completes-requires
-    returns
-    returns-2
-    returns-3
-    returns-4)
+may-be-read-spec = tie.close (tie.spec (λ c. search needs) (λ c. search needs) (λ c. search needs) (λ c. search needs) (λ c κs. search needs) (λ c. search needs) (λ c. search needs) completes-requires returns returns-2 returns-3 returns-4)

@@ -22,8 +22,8 @@ use Rattle.semantics.specs.Replay.{isValueOf, suits}
 use Rattle.semantics.specs.Allowed.{MayTake, anAgent, anIntruder, aLocal, Takes, takesNone, takesMore}
 use Rattle.semantics.specs.laws.Test.{There, both-left, passes-true}
 use Rattle.semantics.specs.laws.List.{mem-cases, getElem-below, getElem-there}
-use Rattle.semantics.specs.laws.Moves.{suits-exact, ActiveIn, active-in}
-use Rattle.semantics.specs.laws.Reached.{assigned-first, assigned-later, assigned-append, assigned-new, orElse, unset-iff, unset-mem}
+use Rattle.semantics.specs.laws.Moves.{atomAt-bound, suits-exact, ActiveIn, active-in}
+use Rattle.semantics.specs.laws.Reached.{paired-set, takes-length, takes-may, assigned-append, assigned-new, orElse, unset-iff, unset-mem}
 use Rattle.rows.specs.Rows.{rowsOf}
 use Rattle.rows.specs.laws.Decode.{six-atom}
 use Rattle.cells.specs.Cells.{Shape, Readings, cellValue}
@@ -39,28 +39,13 @@ use Rattle.state.specs.laws.Readings.{with-same, reading-run}
 use Rattle.variables.specs.Variables.{unsetFrom}
 use Rattle.values.specs.Values.{partSets, Setting, PartArrays}
 use Rattle.fits.specs.Fits as fits
-use Rattle.completions.specs.Completions.{Filled}
+use Rattle.completions.specs.Completions.{AllTake}
 use Rattle.values.specs.laws.Values.{variable-reads, unset-none, paired-append}
 
--- a variable among those of a list has one of as many values
-paired-set : (xs : List Atom) (vs : List Value) → length xs ≡ length vs → {x : Atom} → List·Memᴰ x xs → There (assigned x (paired xs vs))
-paired-set [] vs e m = absurd (List·Memᴰ·not-nil m)
-paired-set (y ∷ xs) [] e m = absurd (omega arith)
-paired-set (y ∷ xs) (v ∷ vs) e {x} m = go (atom? x y) (paired-set xs vs (omega arith))
-  where
-    go : Dec (x ≡ y) → (List·Memᴰ x xs → There (assigned x (paired xs vs))) → There (assigned x ((y, v) ∷ paired xs vs))
-    go (yes p) rest = (v, rw p (assigned-first y v (paired xs vs)))
-    go (no n) rest = rw (assigned-later x y v (paired xs vs) n) (rest (mem-cases m (λ e. absurd (n e)) (λ k. k)))
-
 module _ {rows : List Row} {runs : ℕ} where
-  -- and one that it may take, if they all do
+  -- a variable among those that take values has one that it may take
   takes-value : {xs : List Atom} {vs : List Value} → Takes rows runs xs vs → {x : Atom} → List·Memᴰ x xs → (v : Value) × (assigned x (paired xs vs) ≡ some v) × MayTake rows runs x v
-  takes-value takesNone m = absurd (List·Memᴰ·not-nil m)
-  takes-value (takesMore {x = y} {v = v} {xs = xs} {vs = vs} h t) {x} m = go (atom? x y) (takes-value t)
-    where
-      go : Dec (x ≡ y) → (List·Memᴰ x xs → (w : Value) × (assigned x (paired xs vs) ≡ some w) × MayTake rows runs x w) → (w : Value) × (assigned x ((y, v) ∷ paired xs vs) ≡ some w) × MayTake rows runs x w
-      go (yes p) rest = (v, rw p (assigned-first y v (paired xs vs)), rw p h)
-      go (no n) rest = let w = rest (mem-cases m (λ e. absurd (n e)) (λ k. k)) in (w .0, assigned-later x y v (paired xs vs) n ∙ w .1, w .2)
+  takes-value {xs} {vs} t {x} m = let p = paired-set xs vs (sym (takes-length t)) m in (p .0, p .1, takes-may t x (p .0) (p .1))
 
   -- the test of values passes for it
   may-value : {x : Atom} {v : Value} → MayTake rows runs x v → isValueOf v (candidates rows runs x) ≡ true
@@ -75,20 +60,13 @@ pub record TakenCell (sc : Scenario) (sets : SetsOf) (x : Atom) (v : Value) : Ty
   pub isAtom : atomAt (sc .rows) (v .row) ≡ some atomic
   pub reads : readings sc sets (v .run) atomic ≡ some (atom (inRun (v .run) atomic))
 
-row-low : (rows : List Row) (r : ℕ) {a : Atom} → atomAt rows r ≡ some a → r < length rows
-row-low rows r {a} e = go (getElem? rows r) refl e
-  where
-    go : (o : Option Row) → getElem? rows r ≡ o → atomOf o ≡ some a → r < length rows
-    go none q f = absurd (Option·none-ne-some a f)
-    go (some row) q f = getElem-below rows r q
-
 pub taken-cell : (sc : Scenario) (sets : SetsOf) {x : Atom} {v : Value} → MayTake (sc .rows) (length (sc .runs)) x v → TakenCell sc sets x v
 unfolding readingIn
 taken-cell sc sets (anAgent {v = v} t z) = go (atomAt (sc .rows) (v .row)) refl t
   where
     at-zero : {b : Atom} → atomAt (sc .rows) (v .row) ≡ some b → withoutRun b ≡ some (atom b) → inRun 0 b ≡ b → {x : Atom} → TakenCell sc sets x v
     at-zero {b} e w same = record {
-      low = row-low (sc .rows) (v .row) e;
+      low = atomAt-bound (sc .rows) (v .row) e;
       run = omega arith;
       atomic = b;
       isAtom = e;
@@ -104,8 +82,8 @@ taken-cell sc sets (anAgent {v = v} t z) = go (atomAt (sc .rows) (v .row)) refl 
     go (some (role i)) e h = absurd h
     go (some (variable n t)) e h = absurd h
     go (some (local n u)) e h = absurd h
-taken-cell sc sets (anIntruder {c = c} {v = v} e z) = record { low = row-low (sc .rows) (v .row) e; run = omega arith; atomic = intruder c; isAtom = e; reads = rw z refl }
-taken-cell sc sets (aLocal {c = c} {w = w} {v = v} e l m) = record { low = row-low (sc .rows) (v .row) e; run = m; atomic = local c w; isAtom = e; reads = go (v .run) l m }
+taken-cell sc sets (anIntruder {c = c} {v = v} e z) = record { low = atomAt-bound (sc .rows) (v .row) e; run = omega arith; atomic = intruder c; isAtom = e; reads = rw z refl }
+taken-cell sc sets (aLocal {c = c} {w = w} {v = v} e l m) = record { low = atomAt-bound (sc .rows) (v .row) e; run = m; atomic = local c w; isAtom = e; reads = go (v .run) l m }
   where
     go : (u : ℕ) → 1 ≤ u → u ≤ length (sc .runs) → readings sc sets u (local c w) ≡ some (atom (local c u))
     go zero l m = absurd (omega arith)
@@ -163,10 +141,10 @@ module _ {t : List ℕ} {n runs k : ℕ} {e : RunEvent} {sc : Scenario} {d : Sta
 
   module _ (isRun : k < runs) (grows : Grows (k + 1) part full) where
     -- they are old and new readings of the classes
-    abbrev pub completion-setting : fits.Setting t n runs classes (k + 1)
-    completion-setting = record { shape = shape; run = omega arith; old = part; new = full; right = rw (← next .rows, next .count) (arrays .classed); grows = grows }
+    abbrev pub completion-extension : fits.Extension t n runs classes (k + 1)
+    completion-extension = record { shape = shape; run = omega arith; old = part; new = full; right = rw (← next .rows, next .count) (arrays .classed); grows = grows }
 
-    pub completion-filled : Filled completion-setting (e .row)
+    pub completion-filled : AllTake completion-extension (e .row)
     unfolding termOf newVariables
     completion-filled q low six under unset = record {
       row = v .row;
@@ -198,7 +176,7 @@ module _ {t : List ℕ} {n runs k : ℕ} {e : RunEvent} {sc : Scenario} {d : Sta
 
         never : (o : Option Term) → cellValue part (rowsOf t) q (k + 1) ≡ o → o ≡ none
         never none h = refl
-        never (some tm) h = absurd (omega (arith, has-class t n runs shape part classes (completion-setting .right) (low, completion-setting .run) h))
+        never (some tm) h = absurd (omega (arith, has-class t n runs shape part classes (completion-extension .right) (low, completion-extension .run) h))
 
         z : assigned x (partSets a xs vs) ≡ none
         z =

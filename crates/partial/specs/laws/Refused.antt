@@ -27,7 +27,7 @@ use Rattle.values.specs.Values.{partSets, Setting, PartArrays}
 use Rattle.values.specs.laws.Arrays.{part-grows}
 use Rattle.possible.specs.Possible.{Possible}
 use Rattle.completions.specs.Completions.{Completes}
-use Rattle.partial.specs.laws.Filled.{completion-setting, completion-filled}
+use Rattle.partial.specs.laws.Filled.{completion-extension, completion-filled}
 
 module _ {t : List ℕ} {n runs k : ℕ} {e : RunEvent} {sc : Scenario} {d : State} {s : CodeState} {a : Active} (shape : Shape t n runs) (due : Due n runs k (e .own) (e .peer) (e .row)) (from : ℕ) (xs : List Atom) (vs ws : List Value)
     {names classes : List ℕ} {marks : List Bool} (next : NextMove t runs k e sc d s a) (kind : e .kind ≡ 1) (setting : Setting sc d a (s .names) from xs vs names) (arrays : PartArrays sc d a xs vs names classes marks) where
@@ -74,4 +74,4 @@ module _ {t : List ℕ} {n runs k : ℕ} {e : RunEvent} {sc : Scenario} {d : Sta
       let filled = completion-filled shape from xs vs ws next isRead setting arrays takes (due .isRun) completion-grows in
       let exact : Exact (rowsOf t) runs part (d .known) marks = rw (← next .rows, next .count) (arrays .exact) in
       let celled : Celled (rowsOf t) runs part (d .known) = rw (← next .rows, next .count) (arrays .celled) in
-      underived (λ o q r. true≢false (sym (tests (completion-setting shape from xs vs ws next isRead setting arrays takes (due .isRun) completion-grows) (d .known) exact celled filled (r .0) (rw (← next .rows, add-one) (r .1)) (r .2)) ∙ h))
+      underived (λ o q r. true≢false (sym (tests (completion-extension shape from xs vs ws next isRead setting arrays takes (due .isRun) completion-grows) (d .known) exact celled filled (r .0) (rw (← next .rows, add-one) (r .1)) (r .2)) ∙ h))

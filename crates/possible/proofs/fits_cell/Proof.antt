@@ -24,15 +24,4 @@ returns-3 c =
     take-unmarked (s .args .t .now) (s .args .n) (s .args .runs) (s .args .classes .now) (s .args .marks .now) (s .args .u) (s .args .r) (s .args .y) (s .args .w) (c .before .before .cell .ensures .0) (c .if1 .left)
 
 pub fits-cell-spec : {M : Type 1} → statement M
-fits-cell-spec =
-    tie.close
-    (tie.spec
-    (λ c κs. search needs)
-    (λ c. search needs)
-    (λ c. search needs)
-    (λ c. search needs)
-    cast-if2
-    (λ c κs. search needs)
-    returns
-    returns-2
-    returns-3)
+fits-cell-spec = tie.close (tie.spec (λ c κs. search needs) (λ c. search needs) (λ c. search needs) (λ c. search needs) cast-if2 (λ c κs. search needs) returns returns-2 returns-3)

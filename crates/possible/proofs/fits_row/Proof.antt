@@ -28,15 +28,4 @@ returns-2 : tie.Need-returns-2 Inv-loop μ-loop
 returns-2 c = λ w l k. absurd (c .before .loop .inv .1 w (omega arith) k)
 
 pub fits-row-spec : {M : Type 1} → statement M
-fits-row-spec =
-    tie.close
-    (tie.spec
-    Inv-loop
-    μ-loop
-    loop-holds
-    (λ c κs. search needs)
-    (λ c. search needs)
-    (λ c. search needs)
-    (λ c. omega arith)
-    loop-again
-    returns-2)
+fits-row-spec = tie.close (tie.spec Inv-loop μ-loop loop-holds (λ c κs. search needs) (λ c. search needs) (λ c. search needs) (λ c. omega arith) loop-again returns-2)

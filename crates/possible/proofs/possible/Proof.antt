@@ -3,7 +3,7 @@
 use Prim.Native.Nat.{_+_, _-_, _≤_}
 use mathlib.Core.Logic.{⊎-elim}
 use Rattle.cells.specs.laws.Shape.{shape-sized}
-use Rattle.possible.specs.Tests.{Tested}
+use Rattle.possible.specs.Tests.{TestedRows}
 use Rattle.possible.specs.laws.Tests.{tested-start, tested-set}
 use native.Mathlib.Omega.{arith}
 use borrow.Author.Needs.{needs}
@@ -11,7 +11,7 @@ use Rattle.possible.proofs.possible.Statement.{statement}
 use Rattle.possible.proofs.possible.Tie as tie
 
 abbrev Inv-loop : tie.InvT-loop
-Inv-loop t n runs classes marks u x below can₀ r₀ can r = (r ≤ x + 1) × Tested t runs classes marks u can
+Inv-loop t n runs classes marks u x below can₀ r₀ can r = (r ≤ x + 1) × TestedRows t runs classes marks u can
 
 abbrev μ-loop : tie.MeasureT-loop
 μ-loop t n runs classes marks u x below can₀ r₀ can r = x + 1 - r
@@ -45,18 +45,4 @@ returns c =
     c .before .loop .inv .1 .each (s .args .x) (omega (arith, s .pre .0 .few))
 
 pub possible-spec : {M : Type 1} → statement M
-possible-spec =
-    tie.close
-    (tie.spec
-    Inv-loop
-    μ-loop
-    beneath-requires
-    loop-holds
-    (λ c. search needs)
-    test-row-requires
-    (λ c. search needs)
-    (λ c. search needs)
-    (λ c. omega arith)
-    loop-again
-    (λ c. search needs)
-    returns)
+possible-spec = tie.close (tie.spec Inv-loop μ-loop beneath-requires loop-holds (λ c. search needs) test-row-requires (λ c. search needs) (λ c. search needs) (λ c. omega arith) loop-again (λ c. search needs) returns)

@@ -37,22 +37,4 @@ returns-5 c =
     possible-other (s .args .t .now) (s .args .n) (s .args .runs) (s .pre .1 .0) (s .args .classes .now) (s .args .marks .now) (s .args .u) (s .args .r) (s .pre .1 .1 .1 .1 .0) (s .pre .1 .1 .1 .1 .1) (s .args .can .now) (s .pre .0) (omega arith) (λ e. c .before .before .if3 .left (k ∙ e)) (⊎-elim (λ w e. both-read (s .args .t .now) (s .args .r) (s .args .can .now) (w .1 .ensures .0) (w .2 .ensures .0) (w .3 .ensures) (w .4 .left)) (λ w e. absurd (w .left (k ∙ e))) (c .before .if4 .came)) (c .fits-mark .ensures)
 
 pub test-row-spec : {M : Type 1} → statement M
-test-row-spec =
-    tie.close
-    (tie.spec
-    (λ c κs. search needs)
-    (λ c κs. search needs)
-    (λ c. search needs)
-    returns
-    (λ c κs. search needs)
-    (λ c. search needs)
-    (λ c κs. search needs)
-    (λ c κs. search needs)
-    both-requires
-    returns-3
-    (λ c κs. search needs)
-    (λ c κs. search needs)
-    both-requires-2
-    (λ c. search needs)
-    (λ c κs. search needs)
-    returns-5)
+test-row-spec = tie.close (tie.spec (λ c κs. search needs) (λ c κs. search needs) (λ c. search needs) returns (λ c κs. search needs) (λ c. search needs) (λ c κs. search needs) (λ c κs. search needs) both-requires returns-3 (λ c κs. search needs) (λ c κs. search needs) both-requires-2 (λ c. search needs) (λ c κs. search needs) returns-5)

@@ -14,7 +14,7 @@ use Rattle.classes.specs.laws.Kinds.{kindOf, firstPart, secondPart, value-made}
 use Rattle.knowledge.specs.Marks.{Marked, Exact, Celled}
 use Rattle.knowledge.specs.Steps.{classAt, kindAt, leftAt, Inside}
 use Rattle.knowledge.specs.laws.Values.{Has, Standing, standsAtom, standsRow, stand, one-class, inside}
-use Rattle.fits.specs.Fits.{Setting, Gets}
+use Rattle.fits.specs.Fits.{Extension, Gets}
 
 -- What is derivable: the value of a cell, or a pair or an encryption of what is derivable.
 data Known (bytes : List ℕ) (n runs : ℕ) (old : Readings) (known : List Term) : Term → Type 0 where
@@ -28,7 +28,7 @@ known-derives (ofCell r w i h d) = d
 known-derives (ofPair a b) = pairs (known-derives a) (known-derives b)
 known-derives (ofEncryption a b) = encrypts (known-derives a) (known-derives b)
 
-module _ {bytes : List ℕ} {n runs : ℕ} {classes : List ℕ} {u : ℕ} (s : Setting bytes n runs classes u) where
+module _ {bytes : List ℕ} {n runs : ℕ} {classes : List ℕ} {u : ℕ} (s : Extension bytes n runs classes u) where
   -- a cell of its own kind that stands for the value of a cell, if that is no atom
   standing : {t : Term} (r w : ℕ) → Inside n runs r w → Has bytes (s .old) r w t → 8 ≤ kindOf t
       → (y : ℕ) × (v : ℕ) × Inside n runs y v × (classAt classes r w ≡ cellOf y v) × (8 ≤ kindAt bytes y) × Has bytes (s .old) y v t

@@ -20,8 +20,8 @@ use Rattle.knowledge.specs.Marks.{Exact, Celled}
 use Rattle.knowledge.specs.Steps.{classAt, kindAt, leftAt, Inside}
 use Rattle.knowledge.specs.laws.Values.{Has, has-value, inside}
 use Rattle.possible.specs.Possible.{Possible}
-use Rattle.fits.specs.Fits.{Setting, CanTake}
-use Rattle.possible.specs.Tests.{Tested}
+use Rattle.fits.specs.Fits.{Extension, CanTake}
+use Rattle.possible.specs.Tests.{TestedRows}
 use Rattle.possible.specs.laws.Known.{Way, byMark, byParts, way}
 
 -- no kind is higher than that of an encryption
@@ -58,8 +58,8 @@ pub both-read : (bytes : List ℕ) (r : ℕ) (can : List Bool) {l k : ℕ} {b : 
 both-read bytes r can el ek eb e = sym (rw (el, ek) at eb) ∙ e
 
 -- one test more that keeps the promise
-pub tested-set : {bytes : List ℕ} {runs : ℕ} {classes : List ℕ} {marks : List Bool} {u : ℕ} {can : List Bool} {r : ℕ} {b : Bool} → r < 96 → Tested bytes runs classes marks u can
-    → Possible (rowsOf bytes) runs classes marks u r b → Tested bytes runs classes marks u (set can r b)
+pub tested-set : {bytes : List ℕ} {runs : ℕ} {classes : List ℕ} {marks : List Bool} {u : ℕ} {can : List Bool} {r : ℕ} {b : Bool} → r < 96 → TestedRows bytes runs classes marks u can
+    → Possible (rowsOf bytes) runs classes marks u r b → TestedRows bytes runs classes marks u (set can r b)
 tested-set {bytes} {runs} {classes} {marks} {u} {can} {r} {b} l tested p = record { size = length-set can r b ∙ tested .size; each = λ y k. go y k (ℕ-discrete y r) }
   where
     go : (y : ℕ) → y < 96 → Dec (y ≡ r) → Possible (rowsOf bytes) runs classes marks u y (getD (set can r b) y false)
@@ -67,7 +67,7 @@ tested-set {bytes} {runs} {classes} {marks} {u} {can} {r} {b} l tested p = recor
     go y k (no d) = rw (getD-set-other can r y b false d) (tested .each y k)
 
 -- tests that all pass keep it
-pub tested-start : (bytes : List ℕ) (runs : ℕ) (classes : List ℕ) (marks : List Bool) (u : ℕ) → Tested bytes runs classes marks u (replicate 96 true)
+pub tested-start : (bytes : List ℕ) (runs : ℕ) (classes : List ℕ) (marks : List Bool) (u : ℕ) → TestedRows bytes runs classes marks u (replicate 96 true)
 tested-start bytes runs classes marks u =
     record { size = length-replicate {A = Bool} 96 true; each = λ y l old new known right exact celled grows t h d. getD-replicate {A = Bool} 96 y true false l }
 
@@ -79,7 +79,7 @@ module _ (bytes : List ℕ) (n runs : ℕ) (shape : Shape bytes n runs) (classes
       let same = Option·some-injective (v .0) t (sym (cell-kept shape grows r u (v .0) (v .1)) ∙ h) in
       rw ec (exact r u (inside bytes n runs shape old classes right (low, run)) .1 (t, rw (← same) (v .1), d))
 
-  module _ (can : List Bool) (tested : Tested bytes runs classes marks u can) (high : 8 ≤ kindAt bytes r) where
+  module _ (can : List Bool) (tested : TestedRows bytes runs classes marks u can) (high : 8 ≤ kindAt bytes r) where
     -- the tests of both parts pass if both derive
     parts-pass : (old new : Readings) (known : List Term) → Classes (rowsOf bytes) runs (cellValue old (rowsOf bytes)) classes → Exact (rowsOf bytes) runs old known marks → Celled (rowsOf bytes) runs old known
         → Grows u old new → (t : Term) → Has bytes new r u t → Derives known (firstPart t) → Derives known (secondPart t)
@@ -104,7 +104,7 @@ module _ (bytes : List ℕ) (n runs : ℕ) (shape : Shape bytes n runs) (classes
         → Possible (rowsOf bytes) runs classes marks u r b
     possible-other {b} other fails takes old new known right exact celled grows t h d = go (way s known exact celled r low high h d)
       where
-        s : Setting bytes n runs classes u
+        s : Extension bytes n runs classes u
         s = record { shape = shape; run = run; old = old; new = new; right = right; grows = grows }
 
         go : Way s known marks r t → b ≡ true

@@ -27,7 +27,7 @@ use Rattle.semantics.specs.laws.Inference.{derivable-exact}
 use Rattle.semantics.specs.laws.Tree.{earlier-asymmetric}
 
 -- a row with an atom is a row of the table
-atomAt-bound : (rows : List Row) (r : ℕ) {a : Atom} → atomAt rows r ≡ some a → r < length rows
+pub atomAt-bound : (rows : List Row) (r : ℕ) {a : Atom} → atomAt rows r ≡ some a → r < length rows
 atomAt-bound rows r {a} e = go (getElem? rows r) refl
   where
     go : (o : Option Row) → getElem? rows r ≡ o → r < length rows

@@ -80,6 +80,16 @@ standing-append rows sets more old new x v e = go (assigned x sets) refl
     go none f = new x v (sym (assigned-new x sets more f) ∙ e)
     go (some w) f = old x v (f ∙ sym (assigned-stays x sets more f) ∙ e)
 
+-- a variable among those of a list has one of as many values
+pub paired-set : (xs : List Atom) (vs : List Value) → length xs ≡ length vs → {x : Atom} → List·Memᴰ x xs → There (assigned x (paired xs vs))
+paired-set [] vs e m = absurd (List·Memᴰ·not-nil m)
+paired-set (y ∷ xs) [] e m = absurd (omega arith)
+paired-set (y ∷ xs) (v ∷ vs) e {x} m = go (atom? x y) (paired-set xs vs (omega arith))
+  where
+    go : Dec (x ≡ y) → (List·Memᴰ x xs → There (assigned x (paired xs vs))) → There (assigned x ((y, v) ∷ paired xs vs))
+    go (yes p) rest = (v, rw p (assigned-first y v (paired xs vs)))
+    go (no n) rest = rw (assigned-later x y v (paired xs vs) n) (rest (mem-cases m (λ e. absurd (n e)) (λ k. k)))
+
 -- an agent is there
 agent-there : (o : Option Atom) → T (isAgent o) → There o
 agent-there none t = absurd t
@@ -96,17 +106,21 @@ module _ {rows : List Row} {runs : ℕ} where
       go (anIntruder {c = c} e z) = (intruder c, e)
       go (aLocal {c = c} {w = w} e l m) = (local c w, e)
 
-  -- so do those that several variables take
-  takes-standing : {xs : List Atom} {vs : List Value} → Takes rows runs xs vs → Standing rows (paired xs vs)
+  -- what is given to one of several variables it may take
+  pub takes-may : {xs : List Atom} {vs : List Value} → Takes rows runs xs vs → (y : Atom) (w : Value) → assigned y (paired xs vs) ≡ some w → MayTake rows runs y w
   unfolding assigned
-  takes-standing takesNone y w e = none-there (w, e)
-  takes-standing (takesMore {x = x} {v = v} {xs = xs} {vs = vs} h t) y w e = go (atom? y x) (takes-standing t y w)
+  takes-may takesNone y w e = none-there (w, e)
+  takes-may (takesMore {x = x} {v = v} {xs = xs} {vs = vs} h t) y w e = go (atom? y x) (takes-may t y w)
     where
-      go : Dec (y ≡ x) → (assigned y (paired xs vs) ≡ some w → There (termOf rows w)) → There (termOf rows w)
+      go : Dec (y ≡ x) → (assigned y (paired xs vs) ≡ some w → MayTake rows runs y w) → MayTake rows runs y w
       go (yes p) rest =
           let first : assigned y ((x, v) ∷ paired xs vs) ≡ some v = rw p (assigned-first x v (paired xs vs)) in
-          rw (Option·some-injective v w (sym first ∙ e)) at (mayTake-term h)
+          rw (p, ← Option·some-injective v w (sym first ∙ e)) h
       go (no n) rest = rest (sym (assigned-later y x v (paired xs vs) n) ∙ e)
+
+  -- so the values of several variables stand for terms
+  takes-standing : {xs : List Atom} {vs : List Value} → Takes rows runs xs vs → Standing rows (paired xs vs)
+  takes-standing t y w e = mayTake-term (takes-may t y w e)
 
   -- as many values as variables
   pub takes-length : {xs : List Atom} {vs : List Value} → Takes rows runs xs vs → length vs ≡ length xs
@@ -115,12 +129,7 @@ module _ {rows : List Row} {runs : ℕ} where
 
   -- each of the variables is then set
   pub takes-set : {xs : List Atom} {vs : List Value} → Takes rows runs xs vs → {x : Atom} → List·Memᴰ x xs → There (assigned x (paired xs vs))
-  takes-set takesNone m = absurd (List·Memᴰ·not-nil m)
-  takes-set (takesMore {x = y} {v = v} {xs = xs} {vs = vs} h t) {x} m = go (atom? x y) (takes-set t)
-    where
-      go : Dec (x ≡ y) → (List·Memᴰ x xs → There (assigned x (paired xs vs))) → There (assigned x ((y, v) ∷ paired xs vs))
-      go (yes p) rest = (v, rw p (assigned-first y v (paired xs vs)))
-      go (no n) rest = rw (assigned-later x y v (paired xs vs) n) (rest (mem-cases m (λ e. absurd (n e)) (λ k. k)))
+  takes-set {xs} {vs} t m = paired-set xs vs (sym (takes-length t)) m
 
 -- the reading of the run with an index, with variables set
 abbrev pub readingOf : Scenario → ℕ → Run → List (Atom × Value) → Reading

@@ -26,12 +26,13 @@ use Rattle.semantics.specs.laws.List.{getElem-below, getElem-there}
 use Rattle.semantics.specs.laws.Moves.{ActiveIn, active-in}
 use Rattle.cells.specs.Cells.{cellOf, cellCount, absent, Within, Canonical}
 use Rattle.classes.specs.Classes.{Named, unnamed, named, NamesRight}
+use Rattle.knowledge.specs.laws.Values.{cells-apart}
 use Rattle.state.specs.declared.State.{State as CodeState}
 use Rattle.state.specs.Readings.{SetsOf, setsIn, setsOf, withSets, runReading, readings}
 use Rattle.state.specs.State.{IsState, Sets}
 use Rattle.state.specs.laws.Readings.{with-same, with-other, with-itself, reading-run}
 use Rattle.state.specs.laws.Start.{atom-below}
-use Rattle.variables.specs.Variables.{unsetFrom, TellsUnset, Names}
+use Rattle.variables.specs.Variables.{unsetFrom, TellsUnset, NamesAtom}
 use Rattle.variables.specs.laws.Unset.{unset-all}
 use Rattle.values.specs.Values.{partSets, Setting}
 
@@ -98,14 +99,11 @@ assigned-other : (x y : Atom) (v : Value) → (x ≡ y → ⊥) → assigned x (
 assigned-other x y v d = assigned-later x y v [] d ∙ assigned-nothing x
 
 -- the term of a value whose row and run name an atom
-names-term : (rows : List Row) (runs : ℕ) (v : Value) (b : Atom) → Names rows runs (v .row) (v .run) b → termOf rows v ≡ some (atom (inRun (v .run) b))
+names-term : (rows : List Row) (runs : ℕ) (v : Value) (b : Atom) → NamesAtom rows runs (v .row) (v .run) b → termOf rows v ≡ some (atom (inRun (v .run) b))
 unfolding termOf
 names-term rows runs v b names = rw (names .isAtom) refl
 
--- cells of different rows or runs differ
-cells-differ : (r u x w : ℕ) → r < 96 → x < 96 → ((r ≡ x) → (u ≡ w) → ⊥) → cellOf r u ≡ cellOf x w → ⊥
-cells-differ r u x w l k d e = d (omega arith) (omega arith)
-
+-- the row of an atom
 atom-row : (rows : List Row) (r : ℕ) {a : Atom} → atomAt rows r ≡ some a → getElem? rows r ≡ some (atomic a)
 atom-row rows r {a} e = go (getElem? rows r) refl e
   where
@@ -160,7 +158,7 @@ module _ (sc : Scenario) (good : Guarantee sc) (d : State) (k : ℕ) (a : Active
   module _ (before : List ℕ) (from : ℕ) (xs : List Atom) (vs : List Value) (names : List ℕ) (setting : Setting sc d a before from xs vs names) (x : ℕ) (y : Atom) (low : x < length (sc .rows)) (after : from ≤ x)
       (isAtom : atomAt (sc .rows) x ≡ some y) (isVariable : T (variableAtom y)) (unset : getD before (cellOf x (suc k)) absent ≡ absent)
       (next : unsetFrom (sc .rows) (a .progress .values) (a .event .row) from ≡ y ∷ unsetFrom (sc .rows) (a .progress .values) (a .event .row) (suc x))
-      (v : Value) (b : Atom) (value : Names (sc .rows) (length (sc .runs)) (v .row) (v .run) b) where
+      (v : Value) (b : Atom) (value : NamesAtom (sc .rows) (length (sc .runs)) (v .row) (v .run) b) where
     index : a .index ≡ k
     index = omega (arith, is .numbered)
 
@@ -211,7 +209,7 @@ module _ (sc : Scenario) (good : Guarantee sc) (d : State) (k : ℕ) (a : Active
         kept : ((r ≡ x) → (w ≡ suc k) → ⊥) → readings sc (withSets (a .index) more (setsOf (d .progress))) w z ≡ readings sc (withSets (a .index) (partSets a xs vs) (setsOf (d .progress))) w z
             → Named (sc .rows) (length (sc .runs)) (getD (set names (cellOf x (suc k)) (cellOf (v .row) (v .run))) (cellOf r w) absent) (readings sc (withSets (a .index) more (setsOf (d .progress))) w z)
         kept n q =
-            let name = getD-set-other names (cellOf x (suc k)) (cellOf r w) (cellOf (v .row) (v .run)) absent (cells-differ r w x (suc k) (omega (arith, low-r, few)) (omega (arith, low, few)) n) in
+            let name = getD-set-other names (cellOf x (suc k)) (cellOf r w) (cellOf (v .row) (v .run)) absent (λ q. let p = cells-apart r w x (suc k) (omega (arith, low-r, few)) (omega (arith, low, few)) q in n (p .0) (p .1)) in
             subst (λ (m : ℕ). Named (sc .rows) (length (sc .runs)) m (readings sc (withSets (a .index) more (setsOf (d .progress))) w z)) (sym name)
             (subst (Named (sc .rows) (length (sc .runs)) (getD names (cellOf r w) absent)) (sym q) (setting .named r w z l e))
 
@@ -256,7 +254,7 @@ module _ (sc : Scenario) (good : Guarantee sc) (d : State) (k : ℕ) (a : Active
       size = length-set names (cellOf x (suc k)) (cellOf (v .row) (v .run)) ∙ setting .size;
       named = names-more;
       valued = subst (λ (l : List (Atom × Value)). Standing (sc .rows) l) (sym grown) (standing-append (sc .rows) (partSets a xs vs) ((y, v) ∷ []) (setting .valued) standing-one);
-      later = λ r l h. getD-set-other names (cellOf x (suc k)) (cellOf r (suc (a .index))) (cellOf (v .row) (v .run)) absent (cells-differ r (suc (a .index)) x (suc k) h (omega (arith, low, few)) (λ p q. omega arith)) ∙ setting .later r (omega arith) h;
+      later = λ r l h. getD-set-other names (cellOf x (suc k)) (cellOf r (suc (a .index))) (cellOf (v .row) (v .run)) absent (λ q. omega (arith, cells-apart r (suc (a .index)) x (suc k) h (omega (arith, low, few)) q .0)) ∙ setting .later r (omega arith) h;
     }
 
   -- the names of a state tell which variables are unset

@@ -26,13 +26,4 @@ returns-3 c =
     (count-read (s .args .t .now) (s .args .n) (s .args .runs) (s .pre .0) (s .args .x) (s .pre .1 .0) (s .args .r) (k .kind-of .ensures .0) (c .before .is-fresh .ensures) (c .run-count .ensures .0)) (c .before .before .if2 .left) refl
 
 pub may-take-spec : {M : Type 1} → statement M
-may-take-spec =
-    tie.close
-    (tie.spec
-    returns
-    (λ c κs. search needs)
-    (λ c κs. search needs)
-    returns-2
-    (λ c κs. search needs)
-    (λ c κs. search needs)
-    returns-3)
+may-take-spec = tie.close (tie.spec returns (λ c κs. search needs) (λ c κs. search needs) returns-2 (λ c κs. search needs) (λ c κs. search needs) returns-3)

@@ -5,14 +5,14 @@ use mathlib.Core.Path.{sym, _∙_}
 use mathlib.Core.Logic.{⊎-elim}
 use Rattle.rows.specs.Rows.{rowsOf}
 use Rattle.cells.specs.laws.Cells.{class-read}
-use Rattle.variables.specs.laws.Unset.{Passed, none-unset, passed-outside, passed-other, passed-set, next-unset}
+use Rattle.variables.specs.laws.Unset.{NoneUnset, none-unset, passed-outside, passed-other, passed-set, next-unset}
 use native.Mathlib.Omega.{arith}
 use borrow.Author.Needs.{needs}
 use Rattle.variables.proofs.next_unset.Statement.{statement}
 use Rattle.variables.proofs.next_unset.Tie as tie
 
 abbrev Inv-loop : tie.InvT-loop
-Inv-loop t n names below u from y₀ y = (from ≤ y) × ((y ≤ n) × Passed (rowsOf t) names u below from y)
+Inv-loop t n names below u from y₀ y = (from ≤ y) × ((y ≤ n) × NoneUnset (rowsOf t) names u below from y)
 
 abbrev μ-loop : tie.MeasureT-loop
 μ-loop t n names below u from y₀ y = n - y
@@ -50,19 +50,4 @@ returns-2 c =
     none-unset (s .args .t .now) (s .args .n) (s .pre .0) (s .args .names .now) (s .args .u) (s .args .below .now) (s .args .from) (c .loop-test .left) (l .loop .inv .1 .1)
 
 pub next-unset-spec : {M : Type 1} → statement M
-next-unset-spec =
-    tie.close
-    (tie.spec
-    Inv-loop
-    μ-loop
-    (λ c. search needs)
-    (λ c. search needs)
-    (λ c κs. search needs)
-    (λ c κs. search needs)
-    (λ c. search needs)
-    (λ c. search needs)
-    returns
-    (λ c. search needs)
-    (λ c. search needs)
-    loop-again
-    returns-2)
+next-unset-spec = tie.close (tie.spec Inv-loop μ-loop (λ c. search needs) (λ c. search needs) (λ c κs. search needs) (λ c κs. search needs) (λ c. search needs) (λ c. search needs) returns (λ c. search needs) (λ c. search needs) loop-again returns-2)

@@ -49,20 +49,4 @@ returns-2 c =
     next-none (s .args .t .now) (s .args .n) (s .args .runs) (s .pre .0) (s .args .x) (s .pre .1 .0) (s .args .r) (s .args .w) (l .loop .y) (l .loop .v) (l .loop .inv .1) (c .loop-test .left)
 
 pub next-value-spec : {M : Type 1} → statement M
-next-value-spec =
-    tie.close
-    (tie.spec
-    Inv-loop
-    μ-loop
-    (λ c κs. search needs)
-    loop-holds
-    (λ c κs. search needs)
-    (λ c κs. search needs)
-    (λ c κs. search needs)
-    (λ c κs. search needs)
-    (λ c. search needs)
-    returns
-    (λ c. search needs)
-    loop-less
-    loop-again
-    returns-2)
+next-value-spec = tie.close (tie.spec Inv-loop μ-loop (λ c κs. search needs) loop-holds (λ c κs. search needs) (λ c κs. search needs) (λ c κs. search needs) (λ c κs. search needs) (λ c. search needs) returns (λ c. search needs) loop-less loop-again returns-2)

@@ -23,7 +23,7 @@ use Rattle.rows.specs.laws.Table.{table-good}
 use Rattle.cells.specs.Cells.{secondOf}
 use Rattle.cells.specs.laws.Cells.{parts-referred, row-there, row-decodes, left-lower, second-lower}
 use Rattle.cells.specs.laws.Shape.{sized-shape}
-use Rattle.variables.specs.Variables.{Beneath, Marked, Settled}
+use Rattle.variables.specs.Variables.{Beneath, In, ClosedFrom}
 
 -- a test that is true passes
 true-passes : {b : Bool} → b ≡ true → T b
@@ -75,30 +75,30 @@ module _ {rows : List Row} (good : GoodTable rows) where
       (beneath-iff good z i f .0 t)
 
   -- what lies beneath a marked row is marked, if the marks are closed
-  closed-below : {x : ℕ} {below : List Bool} → Settled rows x 0 below → (y i : ℕ) → i < length rows → Marked below i → T (beneath rows y i) → Marked below y
-  closed-below {x} {below} s y = row-induction good (λ i. Marked below i → T (beneath rows y i) → Marked below y) λ i row e deeper m t.
+  closed-below : {x : ℕ} {below : List Bool} → ClosedFrom rows x 0 below → (y i : ℕ) → i < length rows → In below i → T (beneath rows y i) → In below y
+  closed-below {x} {below} s y = row-induction good (λ i. In below i → T (beneath rows y i) → In below y) λ i row e deeper m t.
       ⊎-elim (λ (q : y ≡ i). rw q m) (λ w. deeper (w .0) (w .1) (s .closed i row e (omega arith) m (w .0) (w .1)) (w .2)) (beneath-iff good y i e .0 t)
 
 -- a mark that is set
-marked-set : (below : List Bool) (a y : ℕ) → Marked below y → length below ≡ 96 → a < 96 → Marked (set below a true) y
+marked-set : (below : List Bool) (a y : ℕ) → In below y → length below ≡ 96 → a < 96 → In (set below a true) y
 marked-set below a y m size l = go (ℕ-discrete y a)
   where
-    go : Dec (y ≡ a) → Marked (set below a true) y
+    go : Dec (y ≡ a) → In (set below a true) y
     go (yes e) = rw e (getD-set-same below a true false (omega arith))
     go (no d) = getD-set-other below a y true false d ∙ m
 
 -- a mark after one is set is that one, or was there
-set-marked : (below : List Bool) (a y : ℕ) → Marked (set below a true) y → (y ≡ a) ⊎ Marked below y
+set-marked : (below : List Bool) (a y : ℕ) → In (set below a true) y → (y ≡ a) ⊎ In below y
 set-marked below a y m = go (ℕ-discrete y a)
   where
-    go : Dec (y ≡ a) → (y ≡ a) ⊎ Marked below y
+    go : Dec (y ≡ a) → (y ≡ a) ⊎ In below y
     go (yes e) = inl e
     go (no d) = inr (sym (getD-set-other below a y true false d) ∙ m)
 
 module _ {rows : List Row} {x : ℕ} where
   -- one mark more, of a row below those that are settled
-  settled-set : {from a : ℕ} {below : List Bool} → a < from → a < 96 → T (beneath rows a x) → Settled rows x from below → Settled rows x from (set below a true)
-  settled-set {from} {a} {below} low small t s = record {
+  closed-set : {from a : ℕ} {below : List Bool} → a < from → a < 96 → T (beneath rows a x) → ClosedFrom rows x from below → ClosedFrom rows x from (set below a true)
+  closed-set {from} {a} {below} low small t s = record {
     size = length-set below a true ∙ s .size;
     within = s .within;
     top = marked-set below a x (s .top) (s .size) small;
@@ -107,9 +107,9 @@ module _ {rows : List Row} {x : ℕ} where
   }
 
   -- one row more is settled
-  settled-more : {r : ℕ} {below : List Bool} → Settled rows x (r + 1) below → ((row : Row) → getElem? rows r ≡ some row → Marked below r → (q : ℕ) → List·Memᴰ q (refersTo row) → Marked below q)
-      → Settled rows x r below
-  settled-more {r} {below} s h = record {
+  closed-more : {r : ℕ} {below : List Bool} → ClosedFrom rows x (r + 1) below → ((row : Row) → getElem? rows r ≡ some row → In below r → (q : ℕ) → List·Memᴰ q (refersTo row) → In below q)
+      → ClosedFrom rows x r below
+  closed-more {r} {below} s h = record {
     size = s .size;
     within = s .within;
     top = s .top;
@@ -118,8 +118,8 @@ module _ {rows : List Row} {x : ℕ} where
   }
 
 -- the pass begins with the row itself
-pub settled-start : (rows : List Row) (x : ℕ) → GoodTable rows → x < length rows → Settled rows x (x + 1) (set (replicate 96 false) x true)
-settled-start rows x good l = record {
+pub closed-start : (rows : List Row) (x : ℕ) → GoodTable rows → x < length rows → ClosedFrom rows x (x + 1) (set (replicate 96 false) x true)
+closed-start rows x good l = record {
   size = length-set (replicate 96 false) x true;
   within = l;
   top = getD-set-same (replicate 96 false) x true false (omega (arith, good .few));
@@ -127,24 +127,24 @@ settled-start rows x good l = record {
   closed = λ z row e k m r h. ⊎-elim (λ (q : z ≡ x). absurd (omega arith)) (λ n. absurd (none z (getElem-below rows z e) n)) (set-marked (replicate 96 false) x z m);
 }
   where
-    none : (y : ℕ) → y < length rows → Marked (replicate 96 false) y → ⊥
+    none : (y : ℕ) → y < length rows → In (replicate 96 false) y → ⊥
     none y k m = false≢true (sym (getD-replicate 96 y false false (omega (arith, good .few))) ∙ m)
 
 module _ (bytes : List ℕ) (n : ℕ) (sized : Sized bytes n) (r : ℕ) (low : r < n) where
   -- a row that is not marked has nothing to mark
-  pub settled-unmarked : (below : List Bool) → getD below r false ≡ false → (x : ℕ) → Settled (rowsOf bytes) x (r + 1) below → Settled (rowsOf bytes) x r below
-  settled-unmarked below e x s = settled-more s (λ row f m. absurd (false≢true (sym e ∙ m)))
+  pub closed-unmarked : (below : List Bool) → getD below r false ≡ false → (x : ℕ) → ClosedFrom (rowsOf bytes) x (r + 1) below → ClosedFrom (rowsOf bytes) x r below
+  closed-unmarked below e x s = closed-more s (λ row f m. absurd (false≢true (sym e ∙ m)))
 
   -- nor has an atom
-  pub settled-atom : (below : List Bool) → getD bytes (3 * r) 0 < 8 → (x : ℕ) → Settled (rowsOf bytes) x (r + 1) below → Settled (rowsOf bytes) x r below
-  settled-atom below h x s = settled-more s λ row f m q k.
+  pub closed-atom : (below : List Bool) → getD bytes (3 * r) 0 < 8 → (x : ℕ) → ClosedFrom (rowsOf bytes) x (r + 1) below → ClosedFrom (rowsOf bytes) x r below
+  closed-atom below h x s = closed-more s λ row f m q k.
       let w = row-there bytes n 0 (sized-shape sized) r low in
       absurd (no-parts (row-decodes bytes n 0 (sized-shape sized) r low) h q (rw (← Option·some-injective (w .0) row (sym (w .1) ∙ f)) at k))
 
   -- a marked row marks its parts
-  pub settled-parts : (below : List Bool) → Marked below r → 8 ≤ getD bytes (3 * r) 0 → {a b : ℕ} → a ≡ getD bytes (3 * r + 1) 0 → b ≡ secondOf bytes r
-      → (x : ℕ) → Settled (rowsOf bytes) x (r + 1) below → Settled (rowsOf bytes) x r (set (set below a true) b true)
-  settled-parts below m h {a} {b} ea eb x s = settled-more both λ row f _ q k.
+  pub closed-parts : (below : List Bool) → In below r → 8 ≤ getD bytes (3 * r) 0 → {a b : ℕ} → a ≡ getD bytes (3 * r + 1) 0 → b ≡ secondOf bytes r
+      → (x : ℕ) → ClosedFrom (rowsOf bytes) x (r + 1) below → ClosedFrom (rowsOf bytes) x r (set (set below a true) b true)
+  closed-parts below m h {a} {b} ea eb x s = closed-more both λ row f _ q k.
       ⊎-elim (λ e. let f : q ≡ a = e ∙ sym ea in marked-set (set below a true) b q (rw f (getD-set-same below a true false (omega (arith, left-low, few)))) (one .size) (omega (arith, second-low, few)))
       (λ e. let f : q ≡ b = e ∙ sym eb in rw f (getD-set-same (set below a true) b true false (omega (arith, one .size, second-low, few))))
       (two-parts decodes h q (rw (← Option·some-injective own row (sym at-r ∙ f)) at k))
@@ -173,15 +173,15 @@ module _ (bytes : List ℕ) (n : ℕ) (sized : Sized bytes n) (r : ℕ) (low : r
       under : (q : ℕ) → List·Memᴰ q (refersTo own) → T (beneath (rowsOf bytes) q x)
       under q k = beneath-part (table-good bytes (sized .table)) r q at-r k x (s .within) (s .sound r (omega (arith, sized .count)) m)
 
-      one : Settled (rowsOf bytes) x (r + 1) (set below a true)
-      one = settled-set (omega (arith, left-low)) (omega (arith, left-low, few)) (under a (rw ea (refers .0))) s
+      one : ClosedFrom (rowsOf bytes) x (r + 1) (set below a true)
+      one = closed-set (omega (arith, left-low)) (omega (arith, left-low, few)) (under a (rw ea (refers .0))) s
 
-      both : Settled (rowsOf bytes) x (r + 1) (set (set below a true) b true)
-      both = settled-set (omega (arith, second-low)) (omega (arith, second-low, few)) (under b (rw eb (refers .1))) one
+      both : ClosedFrom (rowsOf bytes) x (r + 1) (set (set below a true) b true)
+      both = closed-set (omega (arith, second-low)) (omega (arith, second-low, few)) (under b (rw eb (refers .1))) one
 
 -- where every row is settled, the marks say what lies beneath
-pub settled-all : (bytes : List ℕ) (n : ℕ) → Sized bytes n → {x r : ℕ} {below : List Bool} → r ≡ 0 → Settled (rowsOf bytes) x r below → Beneath (rowsOf bytes) x below
-settled-all bytes n sized {x} {r} {below} z s = record {
+pub closed-all : (bytes : List ℕ) (n : ℕ) → Sized bytes n → {x r : ℕ} {below : List Bool} → r ≡ 0 → ClosedFrom (rowsOf bytes) x r below → Beneath (rowsOf bytes) x below
+closed-all bytes n sized {x} {r} {below} z s = record {
   size = s .size;
   each = λ y l. same-test (getD below y false) (beneath (rowsOf bytes) y x) (
     λ t. s .sound y l (passes-true (getD below y false) t),

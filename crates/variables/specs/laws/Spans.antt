@@ -27,7 +27,7 @@ use Rattle.rows.specs.Rows.{rowsOf}
 use Rattle.rows.specs.laws.Decode.{six-atom}
 use Rattle.cells.specs.Cells.{Shape, Canonical}
 use Rattle.cells.specs.laws.Cells.{row-there, row-decodes}
-use Rattle.variables.specs.Variables.{isFresh, firstRun, runCount, Higher, valuesFrom, Names, NotBefore, NextOf, hasNext, hasNone, MayTake, takes, takesNot}
+use Rattle.variables.specs.Variables.{isFresh, firstRun, runCount, Higher, valuesFrom, NamesAtom, NotBefore, NextOf, hasNext, hasNone, TellsValue, takes, takesNot}
 use Rattle.variables.specs.declared.NextValue.the-variants.{Value as isValue, Nothing}
 use Rattle.variables.specs.laws.Values.{valueAt, spanned, from-none, from-next, values-end, values-skip, values-next}
 
@@ -185,7 +185,7 @@ module _ (bytes : List ℕ) (n runs : ℕ) (shape : Shape bytes n runs) (x : ℕ
       rw (decodes-type (row-decodes bytes n runs shape x low) (rw (w .1) at e), v .1) (decodes-values runs type y (row-decodes bytes n runs shape y l))
 
   -- a row with a run that is a value names an atom
-  names-at : (y : ℕ) → y < n → (w : ℕ) → firstAt y ≤ w → w < firstAt y + countAt y → (b : Atom) × Names (rowsOf bytes) runs y w b
+  names-at : (y : ℕ) → y < n → (w : ℕ) → firstAt y ≤ w → w < firstAt y + countAt y → (b : Atom) × NamesAtom (rowsOf bytes) runs y w b
   names-at y l w a b =
       let v = row-there bytes n runs shape y l in
       let m = decodes-named runs (eqb (getD bytes (3 * x + 2) 0) 1) (row-decodes bytes n runs shape y l) w a b in
@@ -205,20 +205,20 @@ module _ (bytes : List ℕ) (n runs : ℕ) (shape : Shape bytes n runs) (x : ℕ
           λ p. t .1 (rw (o .2) (m .1 (omega (arith, shape .count), p .1, p .2))),
         )
 
-    takes-at : r < n → firstAt r ≤ w → w < firstAt r + countAt r → MayTake (rowsOf bytes) runs a r w true
+    takes-at : r < n → firstAt r ≤ w → w < firstAt r + countAt r → TellsValue (rowsOf bytes) runs a r w true
     takes-at l p q = let b = names-at r l w p q in takes (b .0) refl (passes-true _ (value-iff .1 (l, p, q))) (b .1)
 
-    takes-not : ((r < n) × (firstAt r ≤ w) × (w < firstAt r + countAt r) → ⊥) → MayTake (rowsOf bytes) runs a r w false
+    takes-not : ((r < n) × (firstAt r ≤ w) × (w < firstAt r + countAt r) → ⊥) → TellsValue (rowsOf bytes) runs a r w false
     takes-not d = takesNot refl (fails-false _ (λ t. d (value-iff .0 t)))
 
     -- a row that is absent, a run below the first, and any other
-    pub may-absent : n ≤ r → MayTake (rowsOf bytes) runs a r w false
+    pub may-absent : n ≤ r → TellsValue (rowsOf bytes) runs a r w false
     may-absent l = takes-not (λ p. omega (arith, p .0))
 
-    pub may-below : {first : ℕ} → first ≡ firstAt r → w < first → MayTake (rowsOf bytes) runs a r w false
+    pub may-below : {first : ℕ} → first ≡ firstAt r → w < first → TellsValue (rowsOf bytes) runs a r w false
     may-below f l = takes-not (λ p. omega (arith, p .1))
 
-    pub may-counted : {first count : ℕ} {answer : Bool} → r < n → first ≡ firstAt r → count ≡ countAt r → first ≤ w → answer ≡ ltb (w - first) count → MayTake (rowsOf bytes) runs a r w answer
+    pub may-counted : {first count : ℕ} {answer : Bool} → r < n → first ≡ firstAt r → count ≡ countAt r → first ≤ w → answer ≡ ltb (w - first) count → TellsValue (rowsOf bytes) runs a r w answer
     may-counted {first} {count} {answer = true} l f c h q = takes-at l (omega arith) (omega (arith, ltb-true (w - first) count (sym q)))
     may-counted {first} {count} {answer = false} l f c h q = takes-not (λ p. omega (arith, p .2, ltb-false (w - first) count (sym q)))
 

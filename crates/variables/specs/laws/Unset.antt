@@ -91,36 +91,36 @@ unset-false sets a h = go (variableAtom a) (assigned a sets) h
     go true (some v) h = refl
 
 -- no unset variable beneath a pattern has a row from one number up to another
-abbrev pub Passed : List Row → List ℕ → ℕ → List Bool → ℕ → ℕ → Type 0
-Passed rows names u below from y =
+abbrev pub NoneUnset : List Row → List ℕ → ℕ → List Bool → ℕ → ℕ → Type 0
+NoneUnset rows names u below from y =
     (pattern : ℕ) → Beneath rows pattern below → (sets : List (Atom × Value)) → TellsUnset rows names u sets → unsetFrom rows sets pattern from ≡ unsetFrom rows sets pattern y
 
 module _ (bytes : List ℕ) (n : ℕ) (sized : Sized bytes n) (names : List ℕ) (u : ℕ) (below : List Bool) (from : ℕ) where
   -- behind the last row
-  pub none-unset : {y : ℕ} → n ≤ y → Passed (rowsOf bytes) names u below from y → (pattern : ℕ) → Beneath (rowsOf bytes) pattern below → NextUnset (rowsOf bytes) names u pattern from n
+  pub none-unset : {y : ℕ} → n ≤ y → NoneUnset (rowsOf bytes) names u below from y → (pattern : ℕ) → Beneath (rowsOf bytes) pattern below → NextUnset (rowsOf bytes) names u pattern from n
   none-unset l passed pattern b = noNext (sized .count) (λ sets tells. passed pattern b sets tells ∙ unset-end (rowsOf bytes) sets pattern (omega (arith, sized .count)))
 
-  module _ (y : ℕ) (low : y < n) (passed : Passed (rowsOf bytes) names u below from y) where
+  module _ (y : ℕ) (low : y < n) (passed : NoneUnset (rowsOf bytes) names u below from y) where
     within : y < length (rowsOf bytes)
     within = omega (arith, sized .count)
 
     -- one row more
     passed-more : ((pattern : ℕ) → Beneath (rowsOf bytes) pattern below → (sets : List (Atom × Value)) → TellsUnset (rowsOf bytes) names u sets → unsetFrom (rowsOf bytes) sets pattern y ≡ unsetFrom (rowsOf bytes) sets pattern (suc y))
-        → Passed (rowsOf bytes) names u below from (y + 1)
+        → NoneUnset (rowsOf bytes) names u below from (y + 1)
     passed-more h pattern b sets tells = rw (add-one y) (passed pattern b sets tells ∙ h pattern b sets tells)
 
     -- a row that does not lie beneath the pattern
-    pub passed-outside : getD below y false ≡ false → Passed (rowsOf bytes) names u below from (y + 1)
+    pub passed-outside : getD below y false ≡ false → NoneUnset (rowsOf bytes) names u below from (y + 1)
     passed-outside e = passed-more (λ pattern b sets tells. unset-outside (rowsOf bytes) sets pattern within (sym (b .each y within) ∙ e))
 
     -- a row that is no variable
-    pub passed-other : (getD bytes (3 * y) 0 ≡ 6 → ⊥) → Passed (rowsOf bytes) names u below from (y + 1)
+    pub passed-other : (getD bytes (3 * y) 0 ≡ 6 → ⊥) → NoneUnset (rowsOf bytes) names u below from (y + 1)
     passed-other d = passed-more λ pattern b sets tells. unset-other (rowsOf bytes) sets pattern within λ a e.
         let w = row-there bytes n 0 (sized-shape sized) y low in
         unset-false sets a (λ t _. d (variable-six (row-decodes bytes n 0 (sized-shape sized) y low) a (rw (w .1) at e) t))
 
     -- a variable that is set
-    pub passed-set : {name : ℕ} → name ≡ getD names (cellOf y u) absent → (name ≡ absent → ⊥) → Passed (rowsOf bytes) names u below from (y + 1)
+    pub passed-set : {name : ℕ} → name ≡ getD names (cellOf y u) absent → (name ≡ absent → ⊥) → NoneUnset (rowsOf bytes) names u below from (y + 1)
     passed-set q d = passed-more λ pattern b sets tells. unset-other (rowsOf bytes) sets pattern within λ a e.
         unset-false sets a (λ t f. d (q ∙ tells y a e t .1 f))
 

@@ -1,11 +1,11 @@
--- `domains::domains` meets its contract. The loop's invariant: the domains of the variables below i hold their values, and those of the others hold every class.
+-- `domains::of_variables` meets its contract. The loop's invariant: the domains of the variables below i hold their values, and those of the others hold every class.
 -- The measure is how many variables are left. Assumes nothing.
 use Prim.Native.Nat.{_-_, _≤_}
 use Rattle.domains.specs.laws.Values.{DomainsTo, domains-start, domains-more}
 use native.Mathlib.Omega.{arith}
 use borrow.Author.Needs.{needs}
-use Rattle.domains.proofs.domains.Statement.{statement}
-use Rattle.domains.proofs.domains.Tie as tie
+use Rattle.domains.proofs.of_variables.Statement.{statement}
+use Rattle.domains.proofs.of_variables.Tie as tie
 
 abbrev Inv-loop : tie.InvT-loop
 Inv-loop t n runs classes marks only vars rows dom₀ i₀ dom i = (i ≤ vars .count) × DomainsTo t n runs classes marks only (vars .rows) i dom
@@ -34,18 +34,5 @@ loop-again c =
 returns : tie.Need-returns Inv-loop μ-loop
 returns c = λ i l. c .before .before .loop .inv .1 .done i (omega (arith, c .if1 .left))
 
-pub domains-spec : {M : Type 1} → statement M
-domains-spec =
-    tie.close
-    (tie.spec
-    Inv-loop
-    μ-loop
-    loop-holds
-    (λ c. search needs)
-    (λ c. search needs)
-    values-of-requires
-    (λ c κs. search needs)
-    (λ c. search needs)
-    (λ c. search needs)
-    loop-again
-    returns)
+pub of-variables-spec : {M : Type 1} → statement M
+of-variables-spec = tie.close (tie.spec Inv-loop μ-loop loop-holds (λ c. search needs) (λ c. search needs) values-of-requires (λ c κs. search needs) (λ c. search needs) (λ c. search needs) loop-again returns)
