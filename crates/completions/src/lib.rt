@@ -194,7 +194,7 @@ fn set_at(
     set
 }
 
-// The classes that variable i gets where row x is derivable.
+// The classes that variable i gets where the pattern is derivable.
 fn set_of(
     t: &[u8],
     classes: &[u16],
@@ -231,7 +231,7 @@ fn is_open(dom: &[bool; Domains::CELLS], i: usize) -> bool
     1 < domains::size(dom, i)
 }
 
-// The domains, each that has more than one class narrowed once to those that its variable gets where row x is derivable.
+// The domains, each that has more than one class narrowed once to those that its variable gets where the pattern is derivable.
 fn narrowed(
     dom: [bool; Domains::CELLS],
     t: &[u8],
@@ -393,7 +393,7 @@ fn tied(
     best
 }
 
-// Whether the variables may get classes of the domains with which row x is derivable.
+// Whether the variables may get classes of the domains with which the pattern is derivable.
 fn completable(
     dom: [bool; Domains::CELLS],
     t: &[u8],
