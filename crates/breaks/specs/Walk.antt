@@ -174,27 +174,12 @@ pub record SomeRead (file t : List ℕ) (plan : Plan) (course : Course) (own : L
   pub inside : choice .from ≤ plan .rows
   pub under : Beneath (rowsOf t) (choice .turn .event .row) (choice .under)
 
--- one of which some values are chosen, with the arrays that have them,
+-- one of which some values are chosen, with the arrays that have them:
 pub record SomeChoice (file t : List ℕ) (plan : Plan) (course : Course) (own names classes : List ℕ) (marks : List Bool) (at : ℕ) (choice : Choice) : Type 0 where
   pub read : SomeRead file t plan course own at choice
   pub xs : List Atom
   pub vs : List Value
   pub choosing : Choosing (read .sc) (read .d) (read .s) (read .a) (choice .from) xs vs names classes marks (choice .turn .values)
-
--- or with one value more, of which names and bytes are made, and classes and marks not yet:
-pub record SomeGrown (file t : List ℕ) (plan : Plan) (course : Course) (own names classes : List ℕ) (marks : List Bool) (at : ℕ) (choice : Choice) : Type 0 where
-  pub read : SomeRead file t plan course own at choice
-  pub xs : List Atom
-  pub vs : List Value
-  pub y : Atom
-  pub v : Value
-  pub from : ℕ
-  pub old : List ℕ
-  pub was : Setting (read .sc) (read .d) (read .a) (read .s .names) from xs vs old
-  pub arrays : PartArrays (read .sc) (read .d) (read .a) xs vs old classes marks
-  pub setting : Setting (read .sc) (read .d) (read .a) (read .s .names) (choice .from) (xs ++ (y ∷ [])) (vs ++ (v ∷ [])) names
-  pub takes : Takes (read .sc .rows) (length (read .sc .runs)) (xs ++ (y ∷ [])) (vs ++ (v ∷ []))
-  pub are : ValuesAre (vs ++ (v ∷ [])) (choice .turn .values)
 
 -- a move of which all values are chosen, and one that is allowed:
 pub record SomeMove (file t : List ℕ) (plan : Plan) (course : Course) (names classes : List ℕ) (marks : List Bool) (at : ℕ) (turn : Turn) : Type 0 where
@@ -230,9 +215,6 @@ FindsRead {plan = plan} {choice = choice} m vs reach before after w = Finds (m .
 
 abbrev pub FindsChoice : List ℕ → List ℕ → Plan → Course → List ℕ → List ℕ → List ℕ → List Bool → Reach → Choice → List ℕ → List ℕ → Walked → Type 0
 FindsChoice file t plan course own names classes marks reach choice before after w = (m : SomeChoice file t plan course own names classes marks (reach .at) choice) → FindsRead (m .read) (m .vs) reach before after w
-
-abbrev pub FindsGrown : List ℕ → List ℕ → Plan → Course → List ℕ → List ℕ → List ℕ → List Bool → Reach → Choice → List ℕ → List ℕ → Walked → Type 0
-FindsGrown file t plan course own names classes marks reach choice before after w = (m : SomeGrown file t plan course own names classes marks (reach .at) choice) → FindsRead (m .read) (m .vs ++ (m .v ∷ [])) reach before after w
 
 -- and those that go on with one move
 abbrev pub moveBranches : Scenario → definitions.State → Active → Turn → List Value → List (Move × definitions.State)

@@ -1,6 +1,6 @@
 // Search: the walk through the list of allowed traces in its order. States that were walked whole are remembered, and not walked again.
 ghost use Prim.Native.Nat.{_<_};
-ghost use Rattle.breaks.specs.Walk.{stateOf, SomeState, SomeClear, SomeChoice, SomeGrown, SomeMove, SomeStep, FindsFrom, FindsRun, FindsChoice, FindsGrown, FindsMove, FindsStep};
+ghost use Rattle.breaks.specs.Walk.{stateOf, SomeState, SomeClear, SomeChoice, SomeMove, SomeStep, FindsFrom, FindsRun, FindsChoice, FindsMove, FindsStep};
 ghost use Rattle.same.specs.Memory.{Remembers, Room};
 use answers::Walked;
 use breaks::Choice;
@@ -197,7 +197,17 @@ fn walk_values(
             NextValue::Value { row: y, run: w } => {
                 let own_names = state::copied(names);
                 let more = values::put(own_names, x, choice.turn.run + 1, y, w);
-                let found = walk_value(
+                let mut more_classes = state::copied(classes);
+                let more_marks = state::with_names(
+                    &mut more_classes,
+                    marks,
+                    &more,
+                    t,
+                    plan.rows,
+                    plan.runs.count,
+                    choice.turn.run + 1,
+                );
+                let found = walk_values(
                     trace,
                     memory,
                     file,
@@ -206,8 +216,8 @@ fn walk_values(
                     course,
                     own,
                     &more,
-                    classes,
-                    marks,
+                    &more_classes,
+                    more_marks,
                     Reach {
                         left: reach.left - count,
                         at: reach.at,
@@ -233,53 +243,6 @@ fn walk_values(
             }
         }
     }
-}
-
-// Walks on with one value more: names and bytes have it already, and here it is worked into classes and marks.
-fn walk_value(
-    trace: &mut [u8],
-    memory: &mut [u16],
-    file: &[u8],
-    t: &[u8],
-    plan: Plan,
-    course: Course,
-    own: &[u16],
-    names: &[u16],
-    classes: &[u16],
-    marks: [bool; 480],
-    reach: Reach,
-    choice: Choice,
-) -> Walked
-    requires { ⌜ SomeGrown (now file) (now t) plan course (now own) (now names) (now classes) marks (reach .at) choice ⌝ }
-    requires { ⌜ Room (now file) (now t) plan (now trace) (now memory) reach ⌝ }
-    ensures { λ w. ⌜ FindsGrown (now (file .entry)) (now (t .entry)) plan course (now (own .entry)) (now (names .entry)) (now (classes .entry)) marks reach choice
-        (now (trace .entry)) (now (trace .exit)) w ⌝ }
-    ensures { λ w. ⌜ Remembers (now (file .entry)) (now (t .entry)) plan (now (memory .exit)) ⌝ }
-{
-    let mut more = state::copied(classes);
-    let grown = state::with_names(
-        &mut more,
-        marks,
-        names,
-        t,
-        plan.rows,
-        plan.runs.count,
-        choice.turn.run + 1,
-    );
-    walk_values(
-        trace,
-        memory,
-        file,
-        t,
-        plan,
-        course,
-        own,
-        names,
-        &more,
-        grown,
-        reach,
-        choice,
-    )
 }
 
 // Walks through the traces that go on with one move, all its values being chosen, if it is allowed.

@@ -43,7 +43,7 @@ use Rattle.breaks.specs.declared.Choice.{Choice}
 use Rattle.breaks.specs.declared.Course.{Course}
 use Rattle.breaks.specs.declared.Plan.{Plan}
 use Rattle.breaks.specs.declared.Reach.{Reach}
-use Rattle.breaks.specs.Walk.{Finds, below, branches, ValuesAre, AtMove, Choosing, Chosen, SomeChoice, SomeGrown, SomeMove, readBranches, FindsRead, FindsChoice, FindsGrown, FindsMove}
+use Rattle.breaks.specs.Walk.{Finds, below, branches, ValuesAre, AtMove, Choosing, Chosen, SomeChoice, SomeMove, readBranches, FindsRead, FindsChoice, FindsMove}
 use Rattle.breaks.specs.laws.Entries.{valuesOf, branches-more, branches-pruned}
 use Rattle.breaks.specs.laws.Finds.{Passed, passed-none, passed-all, finds-size, passed-on, passed-stops}
 use Rattle.breaks.specs.laws.Walk.{finds-same}
@@ -273,30 +273,30 @@ module _ {file t : List ℕ} {plan : Plan} {course : Course} {own names classes 
         pub value-later : NotBefore row run y v
         value-later = value-is .notBefore
 
-        module _ {count : ℕ} (tried : Tried row run count) {more-names : List ℕ} (put : more-names ≡ set names (cellOf x (choice .turn .run + 1)) (cellOf y v))
-            {values : Values} (are : (vs : List Value) → ValuesAre vs (choice .turn .values) → ValuesAre (vs ++ (record { row = y; run = v } ∷ [])) values) where
-          abbrev longer : Choice
+        module _ {count : ℕ} (tried : Tried row run count) {more-names more-classes : List ℕ} (more-marks : List Bool) {values : Values} (put : more-names ≡ set names (cellOf x (choice .turn .run + 1)) (cellOf y v))
+            (refilled : Refilled (rowsOf t) (plan .runs .count) (choice .turn .run + 1) more-names classes more-classes) (settled : Settled (rowsOf t) (plan .runs .count) more-classes marks more-marks)
+            (are : (vs : List Value) → ValuesAre vs (choice .turn .values) → ValuesAre (vs ++ (record { row = y; run = v } ∷ [])) values) where
+          abbrev pub longer : Choice
           longer = record { turn = record { run = choice .turn .run; event = choice .turn .event; values = values }; under = choice .under; from = x + 1 }
 
-          pub grown : SomeGrown file t plan course own more-names classes marks (reach .at) longer
+          pub grown : SomeChoice file t plan course own more-names more-classes more-marks (reach .at) longer
           grown =
+              let r = m .read in
               let v′ : Value = record { row = y; run = v } in
+              let setting = setting-next (r .move) (r .isRead) (m .choosing) view more (tried .trying) v′ (value-is .atom) (value-is .names) (value-is .isNext) put in
               record {
-                read = record { sc = m .read .sc; d = m .read .d; s = m .read .s; ms = m .read .ms; a = m .read .a; move = m .read .move; isDone = m .read .isDone; isOwn = m .read .isOwn; isRead = m .read .isRead; inside = omega (arith, row-low); under = m .read .under };
-                xs = m .xs;
-                vs = m .vs;
-                y = its (m .read .move) (m .read .isRead) (m .choosing) view more .y;
-                v = v′;
-                from = choice .from;
-                old = names;
-                was = m .choosing .setting;
-                arrays = m .choosing .arrays;
-                setting = setting-next (m .read .move) (m .read .isRead) (m .choosing) view more (tried .trying) v′ (value-is .atom) (value-is .names) (value-is .isNext) put;
-                takes = takes-next (m .read .move) (m .read .isRead) (m .choosing) view more (tried .trying) v′ (value-is .atom) (value-is .names) (value-is .isNext);
-                are = are (m .vs) (m .choosing .are);
+                read = record { sc = r .sc; d = r .d; s = r .s; ms = r .ms; a = r .a; move = r .move; isDone = r .isDone; isOwn = r .isOwn; isRead = r .isRead; inside = omega (arith, row-low); under = r .under };
+                xs = m .xs ++ (its (r .move) (r .isRead) (m .choosing) view more .y ∷ []);
+                vs = m .vs ++ (v′ ∷ []);
+                choosing = record {
+                  setting = setting;
+                  arrays = part-more (r .move .next) (m .choosing .setting) (m .choosing .arrays) (r .move .clear .here .reached .given .shape) (its (r .move) (r .isRead) (m .choosing) view more .y) v′ setting refilled settled;
+                  takes = takes-next (r .move) (r .isRead) (m .choosing) view more (tried .trying) v′ (value-is .atom) (value-is .names) (value-is .isNext);
+                  are = are (m .vs) (m .choosing .are);
+                };
               }
 
-          module _ {b b′ : List ℕ} {w total : Walked} (found : FindsGrown file t plan course own more-names classes marks (record { left = reach .left - count; at = reach .at; depth = reach .depth }) longer b b′ w) (is : total ≡ behindAs count w) where
+          module _ {b b′ : List ℕ} {w total : Walked} (found : FindsChoice file t plan course own more-names more-classes more-marks (record { left = reach .left - count; at = reach .at; depth = reach .depth }) longer b b′ w) (is : total ≡ behindAs count w) where
             passed : Passed (m .read .sc) (reach .left) (below plan (m .read .sc) (reach .depth) (readBranches (m .read .sc) (m .read .d) (m .read .a) choice (m .vs)))
                 (below plan (m .read .sc) (reach .depth) (readBranches (m .read .sc) (m .read .d) (m .read .a) longer (m .vs ++ (record { row = y; run = v } ∷ [])))
                 ++ valuesOf plan (m .read .sc) (reach .depth) (m .read .d) (suc (choice .turn .run)) (m .read .a) (m .vs) (rest (m .read .move) (m .read .isRead) (m .choosing) view more)
@@ -315,23 +315,3 @@ module _ {file t : List ℕ} {plan : Plan} {course : Course} {own names classes 
             tried-on clean =
                 let on = passed-on (m .read .sc) (reach .left) _ _ _ _ passed (found grown) is clean in
                 (record { trying = trying-more (m .read .move) (m .read .isRead) (m .choosing) view more (tried .trying) (record { row = y; run = v }) (value-is .atom) (value-is .names) (value-is .isNext) (on .0) }, on .1, on .2)
-
--- classes and marks with one more value
-module _ {file t : List ℕ} {plan : Plan} {course : Course} {own names classes : List ℕ} {marks : List Bool} {choice : Choice} (reach : Reach) (m : SomeGrown file t plan course own names classes marks (reach .at) choice)
-    {more-classes : List ℕ} {more-marks : List Bool} (refilled : Refilled (rowsOf t) (plan .runs .count) (choice .turn .run + 1) names classes more-classes) (settled : Settled (rowsOf t) (plan .runs .count) more-classes marks more-marks) where
-  pub grown-choice : SomeChoice file t plan course own names more-classes more-marks (reach .at) choice
-  grown-choice = record {
-    read = m .read;
-    xs = m .xs ++ (m .y ∷ []);
-    vs = m .vs ++ (m .v ∷ []);
-    choosing = record {
-      setting = m .setting;
-      arrays = part-more (m .read .move .next) (m .was) (m .arrays) (m .read .move .clear .here .reached .given .shape) (m .y) (m .v) (m .setting) refilled settled;
-      takes = m .takes;
-      are = m .are;
-    };
-  }
-
-  pub grown-finds : {b b′ : List ℕ} {w : Walked} → FindsChoice file t plan course own names more-classes more-marks reach choice b b′ w → FindsRead (m .read) (m .vs ++ (m .v ∷ [])) reach b b′ w
-  unfolding grown-choice
-  grown-finds told = told grown-choice

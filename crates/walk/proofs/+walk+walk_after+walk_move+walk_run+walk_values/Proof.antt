@@ -1,4 +1,4 @@
--- The walk finds what the definitions list, in their order: `walk` from a state, `walk_run` for a run, `walk_values` and `walk_value` for the values of a read, `walk_move` and `walk_after` for one move.
+-- The walk finds what the definitions list, in their order: `walk` from a state, `walk_run` for a run, `walk_values` for the values of a read, `walk_move` and `walk_after` for one move.
 -- The measure is the depth, and within it the functions in their order and the rows left. Assumes nothing.
 use native.Mathlib.Omega.{arith}
 use borrow.Author.Needs.{needs}
@@ -7,7 +7,7 @@ use Prim.Native.Nat.{ℕ, suc, _+_, _*_, _-_, _<_, _≤_}
 use mathlib.Core.Path.{_≡_, refl, sym, ap, _∙_}
 use mathlib.Core.List.{List}
 use mathlib.Core.Option.{none}
-use lib.ListN.{length, getD}
+use lib.ListN.{length, getD, length-set}
 use Rattle.semantics.specs.Verdict.{broken}
 use Rattle.cells.specs.laws.Shape.{shape-sized}
 use Rattle.variables.specs.laws.Values.{value-falls}
@@ -25,22 +25,19 @@ use borrow.Fn.Kinds.{In}
 use borrow.Fn.PlainCycle.{Measures, is, falls, and}
 use Rattle.walk.proofs.walk.Reads as walk
 use Rattle.walk.proofs.walk.Kinds as walk-kinds
-use Rattle.walk.proofs.+walk+walk_after+walk_move+walk_run+walk_value+walk_values.Lts-walk as walk-lts
+use Rattle.walk.proofs.+walk+walk_after+walk_move+walk_run+walk_values.Lts-walk as walk-lts
 use Rattle.walk.proofs.walk_after.Reads as walk-after
 use Rattle.walk.proofs.walk_after.Kinds as walk-after-kinds
-use Rattle.walk.proofs.+walk+walk_after+walk_move+walk_run+walk_value+walk_values.Lts-walk_after as walk-after-lts
+use Rattle.walk.proofs.+walk+walk_after+walk_move+walk_run+walk_values.Lts-walk_after as walk-after-lts
 use Rattle.walk.proofs.walk_move.Reads as walk-move
 use Rattle.walk.proofs.walk_move.Kinds as walk-move-kinds
-use Rattle.walk.proofs.+walk+walk_after+walk_move+walk_run+walk_value+walk_values.Lts-walk_move as walk-move-lts
+use Rattle.walk.proofs.+walk+walk_after+walk_move+walk_run+walk_values.Lts-walk_move as walk-move-lts
 use Rattle.walk.proofs.walk_run.Reads as walk-run
 use Rattle.walk.proofs.walk_run.Kinds as walk-run-kinds
-use Rattle.walk.proofs.+walk+walk_after+walk_move+walk_run+walk_value+walk_values.Lts-walk_run as walk-run-lts
-use Rattle.walk.proofs.walk_value.Reads as walk-value
-use Rattle.walk.proofs.walk_value.Kinds as walk-value-kinds
-use Rattle.walk.proofs.+walk+walk_after+walk_move+walk_run+walk_value+walk_values.Lts-walk_value as walk-value-lts
+use Rattle.walk.proofs.+walk+walk_after+walk_move+walk_run+walk_values.Lts-walk_run as walk-run-lts
 use Rattle.walk.proofs.walk_values.Reads as walk-values
 use Rattle.walk.proofs.walk_values.Kinds as walk-values-kinds
-use Rattle.walk.proofs.+walk+walk_after+walk_move+walk_run+walk_value+walk_values.Lts-walk_values as walk-values-lts
+use Rattle.walk.proofs.+walk+walk_after+walk_move+walk_run+walk_values.Lts-walk_values as walk-values-lts
 use Rattle.breaks.proofs.no_values.Reads as no-values-reads
 use Rattle.breaks.proofs.with_value.Reads as with-value-reads
 use Rattle.breaks.proofs.write_before.Reads as write-before-reads
@@ -66,8 +63,8 @@ use Rattle.values.proofs.put.Reads as put-reads
 use Rattle.variables.proofs.beneath.Reads as beneath-reads
 use Rattle.variables.proofs.next_unset.Reads as next-unset-reads
 use Rattle.variables.proofs.next_value.Reads as next-value-reads
-use Rattle.walk.proofs.+walk+walk_after+walk_move+walk_run+walk_value+walk_values.{statement}
-use Rattle.walk.proofs.+walk+walk_after+walk_move+walk_run+walk_value+walk_values.Tie.{close}
+use Rattle.walk.proofs.+walk+walk_after+walk_move+walk_run+walk_values.{statement}
+use Rattle.walk.proofs.+walk+walk_after+walk_move+walk_run+walk_values.Tie.{close}
 
 abbrev μ-walk : Measures 6 walk-kinds.ps ℕ
 μ-walk κs a = (a .1 .1 .1 .1 .1 .1 .1 .1 .1 .0) .depth * 400
@@ -80,9 +77,6 @@ abbrev μ-walk-move : Measures 6 walk-move-kinds.ps ℕ
 
 abbrev μ-walk-run : Measures 6 walk-run-kinds.ps ℕ
 μ-walk-run κs a = (a .1 .1 .1 .1 .1 .1 .1 .1 .1 .0) .depth * 400 + 300
-
-abbrev μ-walk-value : Measures 7 walk-value-kinds.ps ℕ
-μ-walk-value κs a = (a .1 .1 .1 .1 .1 .1 .1 .1 .1 .1 .0) .depth * 400 + 4 + 2 * ((a .1 .1 .1 .1 .0) .rows - (a .1 .1 .1 .1 .1 .1 .1 .1 .1 .1 .1 .0) .from)
 
 abbrev μ-walk-values : Measures 7 walk-values-kinds.ps ℕ
 μ-walk-values κs a = (a .1 .1 .1 .1 .1 .1 .1 .1 .1 .1 .0) .depth * 400 + 3 + 2 * ((a .1 .1 .1 .1 .0) .rows - (a .1 .1 .1 .1 .1 .1 .1 .1 .1 .1 .1 .0) .from)
@@ -111,12 +105,6 @@ walk-run-at t = and 6 walk-run-kinds.ps (is 6 walk-run-kinds.ps μ-walk-run t) w
 abbrev walk-run-below : ℕ → In 6 walk-run-kinds.ps
 walk-run-below t = and 6 walk-run-kinds.ps (falls 6 walk-run-kinds.ps _<_ μ-walk-run t) walk-run.Pre
 
-abbrev walk-value-at : ℕ → In 7 walk-value-kinds.ps
-walk-value-at t = and 7 walk-value-kinds.ps (is 7 walk-value-kinds.ps μ-walk-value t) walk-value.Pre
-
-abbrev walk-value-below : ℕ → In 7 walk-value-kinds.ps
-walk-value-below t = and 7 walk-value-kinds.ps (falls 7 walk-value-kinds.ps _<_ μ-walk-value t) walk-value.Pre
-
 abbrev walk-values-at : ℕ → In 7 walk-values-kinds.ps
 walk-values-at t = and 7 walk-values-kinds.ps (is 7 walk-values-kinds.ps μ-walk-values t) walk-values.Pre
 
@@ -135,11 +123,8 @@ walk-move-env t = (is-allowed-reads.Asked, is-allowed-reads.Learnt, walk-after-b
 abbrev walk-run-env : ℕ → walk-run-lts.Claims
 walk-run-env t = (event-of-reads.Asked, event-of-reads.Learnt, no-values-reads.Asked, no-values-reads.Learnt, beneath-reads.Asked, beneath-reads.Learnt, walk-values-below t, walk-values.Post, walk-move-below t, walk-move.Post)
 
-abbrev walk-value-env : ℕ → walk-value-lts.Claims
-walk-value-env t = (copied-reads.Asked, copied-reads.Learnt, with-names-reads.Asked, with-names-reads.Learnt, walk-values-below t, walk-values.Post)
-
 abbrev walk-values-env : ℕ → walk-values-lts.Claims
-walk-values-env t = (next-unset-reads.Asked, next-unset-reads.Learnt, walk-move-below t, walk-move.Post, may-be-read-reads.Asked, may-be-read-reads.Learnt, next-value-reads.Asked, next-value-reads.Learnt, copied-reads.Asked, copied-reads.Learnt, put-reads.Asked, put-reads.Learnt, with-value-reads.Asked, with-value-reads.Learnt, walk-value-below t, walk-value.Post, behind-reads.Asked, behind-reads.Learnt, is-clean-reads.Asked, is-clean-reads.Learnt, count-of-reads.Asked, count-of-reads.Learnt)
+walk-values-env t = (next-unset-reads.Asked, next-unset-reads.Learnt, walk-move-below t, walk-move.Post, may-be-read-reads.Asked, may-be-read-reads.Learnt, next-value-reads.Asked, next-value-reads.Learnt, copied-reads.Asked, copied-reads.Learnt, put-reads.Asked, put-reads.Learnt, with-names-reads.Asked, with-names-reads.Learnt, with-value-reads.Asked, with-value-reads.Learnt, walk-values-below t, walk-values.Post, behind-reads.Asked, behind-reads.Learnt, is-clean-reads.Asked, is-clean-reads.Learnt, count-of-reads.Asked, count-of-reads.Learnt)
 
 abbrev walk-Inv-loop : walk-lts.InvT-loop
 walk-Inv-loop trace₀ memory₀ file t plan course names classes marks reach count₀ k₀ trace memory count k =
@@ -384,29 +369,6 @@ walk-run-returns-3 t c = (
   c .before .before .before .before .walk-move .ensures .1,
 )
 
-walk-value-copied-requires : (t : ℕ) → walk-value-lts.Need-copied-requires (walk-value-env t) (walk-value-at t) walk-value.Post
-walk-value-copied-requires t c κs = c .before .before .before .before .before .before .before .pre .1 .0 .arrays .classed .size
-
-walk-value-add-with-names : (t : ℕ) → walk-value-lts.Need-add-with-names (walk-value-env t) (walk-value-at t) walk-value.Post
-walk-value-add-with-names t c = let m = c .before .before .before .before .before .before .before .before .before .before .pre .1 .0 .read in record { fits = omega (arith, m .move .clear .here .reached .given .runs .few, m .move .due .isRun) }
-
-walk-value-with-names-requires : (t : ℕ) → walk-value-lts.Need-with-names-requires (walk-value-env t) (walk-value-at t) walk-value.Post
-walk-value-with-names-requires t c κs =
-    let m = c .before .before .before .before .before .before .before .before .before .before .pre .1 .0 in
-    (m .read .move .clear .here .reached .given .shape, (ap length (c .before .before .copied .ensures) ∙ m .arrays .classed .size, (m .setting .size, omega (arith, m .read .move .due .isRun))))
-
-walk-value-walk-values-requires : (t : ℕ) → walk-value-lts.Need-walk-values-requires (walk-value-env t) (walk-value-at t) walk-value.Post
-walk-value-walk-values-requires t c κs =
-    let s = c .before .before .before .before .before .before .before .before .before .before .before .before .before .before .before in
-    let grown = c .before .before .before .before .with-names .ensures in
-    (omega (arith, s .pre .0), (of-values.grown-choice (s .args .reach) (s .pre .1 .0) (rw (c .before .before .before .before .before .before .before .copied .ensures) at (grown .0)) (grown .1), s .pre .1 .1))
-
-walk-value-returns : (t : ℕ) → walk-value-lts.Need-returns (walk-value-env t) (walk-value-at t) walk-value.Post
-walk-value-returns t c = (
-  λ m. let grown = c .before .before .before .before .before .before .before .before .before .with-names .ensures in of-values.grown-finds (c .before .before .before .before .before .before .before .before .before .before .before .before .before .before .before .before .before .before .before .before .args .reach) m (rw (c .before .before .before .before .before .before .before .before .before .before .before .before .copied .ensures) at (grown .0)) (grown .1) (c .before .before .before .before .walk-values .ensures .0),
-  c .before .before .before .before .walk-values .ensures .1,
-)
-
 walk-values-add-next-unset : (t : ℕ) → walk-values-lts.Need-add-next-unset (walk-values-env t) (walk-values-at t) walk-values.Post walk-values-Inv-loop walk-values-μ-loop
 walk-values-add-next-unset t c = let m = c .before .before .before .before .before .before .before .before .before .before .before .before .before .pre .1 .0 .read in record { fits = omega (arith, m .move .clear .here .reached .given .runs .few, m .move .due .isRun) }
 
@@ -477,97 +439,113 @@ walk-values-put-requires t c κs =
     let given = m .read .move .clear .here .reached .given in
     (omega (arith, of-values.row-low unset (s .args .reach) m more, given .shape .few), (omega (arith, given .runs .few, m .read .move .due .isRun), (omega (arith, low .0, given .shape .few), low .1)))
 
+walk-values-copied-requires-2 : (t : ℕ) → walk-values-lts.Need-copied-requires-2 (walk-values-env t) (walk-values-at t) walk-values.Post walk-values-Inv-loop walk-values-μ-loop
+walk-values-copied-requires-2 t c κs = c .before .before .before .before .before .before .before .before .before .before .before .before .before .before .before .before .before .before .before .before .before .before .before .before .before .before .pre .1 .0 .choosing .arrays .classed .size
+
+walk-values-add-with-names : (t : ℕ) → walk-values-lts.Need-add-with-names (walk-values-env t) (walk-values-at t) walk-values.Post walk-values-Inv-loop walk-values-μ-loop
+walk-values-add-with-names t c = let m = c .before .before .before .before .before .before .before .before .before .before .before .before .before .before .before .before .before .before .before .before .before .before .before .before .before .before .before .before .before .before .pre .1 .0 .read in record { fits = omega (arith, m .move .clear .here .reached .given .runs .few, m .move .due .isRun) }
+
+walk-values-with-names-requires : (t : ℕ) → walk-values-lts.Need-with-names-requires (walk-values-env t) (walk-values-at t) walk-values.Post walk-values-Inv-loop walk-values-μ-loop
+walk-values-with-names-requires t c κs =
+    let m = c .before .before .before .before .before .before .before .before .before .before .before .before .before .before .before .before .before .before .before .before .before .before .before .before .before .before .before .before .before .before .pre .1 .0 in
+    let size = ap length (c .before .before .before .before .put .ensures) ∙ length-set (c .before .before .before .before .before .before .copied .result) _ _ ∙ ap length (c .before .before .before .before .before .before .copied .ensures) ∙ m .choosing .arrays .sized in
+    (m .read .move .clear .here .reached .given .shape, (ap length (c .before .before .before .copied2 .ensures) ∙ m .choosing .arrays .classed .size, (size, omega (arith, m .read .move .due .isRun))))
+
+walk-values-sub-t40 : (t : ℕ) → walk-values-lts.Need-sub-t40 (walk-values-env t) (walk-values-at t) walk-values.Post walk-values-Inv-loop walk-values-μ-loop
+walk-values-sub-t40 t c = omega (arith, c .before .before .before .before .before .before .before .before .before .before .before .before .before .before .before .before .before .before .loop .inv .1)
+
 walk-values-with-value-requires : (t : ℕ) → walk-values-lts.Need-with-value-requires (walk-values-env t) (walk-values-at t) walk-values.Post walk-values-Inv-loop walk-values-μ-loop
 walk-values-with-value-requires t c κs =
-    let s = c .before .before .before .before .before .before .before .before .before .before .before .before .before .before .before .before .before .before .before .before .before .before .before .before .before .before .before .before .before .before in
+    let s = c .before .before .before .before .before .before .before .before .before .before .before .before .before .before .before .before .before .before .before .before .before .before .before .before .before .before .before .before .before .before .before .before .before .before .before .before .before in
     let m = s .pre .1 .0 in
-    let unset = c .before .before .before .before .before .before .before .before .before .before .before .before .before .before .before .before .next-unset .ensures in
-    let more = c .before .before .before .before .before .before .before .before .before .before .before .before .before .before .if1 .left in
-    let low = of-values.value-within unset (s .args .reach) m more (c .before .before .before .before .before .before .before .before .before .before .next-value .ensures) (c .before .before .before .before .before .before .before .before .next .given .1) in
+    let unset = c .before .before .before .before .before .before .before .before .before .before .before .before .before .before .before .before .before .before .before .before .before .before .before .next-unset .ensures in
+    let more = c .before .before .before .before .before .before .before .before .before .before .before .before .before .before .before .before .before .before .before .before .before .if1 .left in
+    let low = of-values.value-within unset (s .args .reach) m more (c .before .before .before .before .before .before .before .before .before .before .before .before .before .before .before .before .before .next-value .ensures) (c .before .before .before .before .before .before .before .before .before .before .before .before .before .before .before .next .given .1) in
     (of-values.few-chosen unset (s .args .reach) m more, (omega (arith, low .0, m .read .move .clear .here .reached .given .shape .few), omega (arith, low .1)))
 
-walk-values-add-t49 : (t : ℕ) → walk-values-lts.Need-add-t49 (walk-values-env t) (walk-values-at t) walk-values.Post walk-values-Inv-loop walk-values-μ-loop
-walk-values-add-t49 t c =
-    let s = c .before .before .before .before .before .before .before .before .before .before .before .before .before .before .before .before .before .before .before .before .before .before .before .before .before .before .before .before .before .before .before in
+walk-values-add-t57 : (t : ℕ) → walk-values-lts.Need-add-t57 (walk-values-env t) (walk-values-at t) walk-values.Post walk-values-Inv-loop walk-values-μ-loop
+walk-values-add-t57 t c =
+    let s = c .before .before .before .before .before .before .before .before .before .before .before .before .before .before .before .before .before .before .before .before .before .before .before .before .before .before .before .before .before .before .before .before .before .before .before .before .before .before in
     let m = s .pre .1 .0 in
-    record { fits = omega (arith, of-values.row-low (c .before .before .before .before .before .before .before .before .before .before .before .before .before .before .before .before .before .next-unset .ensures) (s .args .reach) m (c .before .before .before .before .before .before .before .before .before .before .before .before .before .before .before .if1 .left), m .read .move .clear .here .reached .given .shape .few) }
+    record { fits = omega (arith, of-values.row-low (c .before .before .before .before .before .before .before .before .before .before .before .before .before .before .before .before .before .before .before .before .before .before .before .before .next-unset .ensures) (s .args .reach) m (c .before .before .before .before .before .before .before .before .before .before .before .before .before .before .before .before .before .before .before .before .before .before .if1 .left), m .read .move .clear .here .reached .given .shape .few) }
 
-walk-values-walk-value-requires : (t : ℕ) → walk-values-lts.Need-walk-value-requires (walk-values-env t) (walk-values-at t) walk-values.Post walk-values-Inv-loop walk-values-μ-loop
-walk-values-walk-value-requires t c κs =
-    let s = c .before .before .before .before .before .before .before .before .before .before .before .before .before .before .before .before .before .before .before .before .before .before .before .before .before .before .before .before .before .before .before in
+walk-values-walk-values-requires : (t : ℕ) → walk-values-lts.Need-walk-values-requires (walk-values-env t) (walk-values-at t) walk-values.Post walk-values-Inv-loop walk-values-μ-loop
+walk-values-walk-values-requires t c κs =
+    let s = c .before .before .before .before .before .before .before .before .before .before .before .before .before .before .before .before .before .before .before .before .before .before .before .before .before .before .before .before .before .before .before .before .before .before .before .before .before .before in
     let m = s .pre .1 .0 in
-    let l = c .before .before .before .before .before .before .before .before .before .before .before .before .loop in
-    let unset = c .before .before .before .before .before .before .before .before .before .before .before .before .before .before .before .before .before .next-unset .ensures in
-    let more = c .before .before .before .before .before .before .before .before .before .before .before .before .before .before .before .if1 .left in (
+    let l = c .before .before .before .before .before .before .before .before .before .before .before .before .before .before .before .before .before .before .before .loop in
+    let unset = c .before .before .before .before .before .before .before .before .before .before .before .before .before .before .before .before .before .before .before .before .before .before .before .before .next-unset .ensures in
+    let more = c .before .before .before .before .before .before .before .before .before .before .before .before .before .before .before .before .before .before .before .before .before .before .if1 .left in (
       omega (arith, s .pre .0, of-values.row-low unset (s .args .reach) m more, of-values.row-from unset (s .args .reach) m more),
-      (of-values.grown unset (s .args .reach) m more (c .before .before .before .before .before .before .before .before .before .before .before .next-value .ensures) (c .before .before .before .before .before .before .before .before .before .next .given .1) (l .inv .3 m unset more) (rw (c .before .before .before .before .before .before .before .copied .ensures) at (c .before .before .before .before .before .put .ensures)) (c .with-value .ensures), room-on (s .pre .1 .1) (l .inv .0) (l .inv .4) _ (omega arith) (omega arith)),
+      (of-values.grown unset (s .args .reach) m more (c .before .before .before .before .before .before .before .before .before .before .before .before .before .before .before .before .before .before .next-value .ensures) (c .before .before .before .before .before .before .before .before .before .before .before .before .before .before .before .before .next .given .1) (l .inv .3 m unset more) (c .before .before .before .before .before .before .before .with-names .result) (rw (c .before .before .before .before .before .before .before .before .before .before .before .before .before .before .copied .ensures) at (c .before .before .before .before .before .before .before .before .before .before .before .before .put .ensures)) (rw (c .before .before .before .before .before .before .before .before .before .before .before .copied2 .ensures) at (c .before .before .before .before .before .before .before .with-names .ensures .0)) (c .before .before .before .before .before .before .before .with-names .ensures .1) (c .with-value .ensures), room-on (s .pre .1 .1) (l .inv .0) (l .inv .4) _ (omega arith) (omega arith)),
     )
 
 walk-values-behind-requires : (t : ℕ) → walk-values-lts.Need-behind-requires (walk-values-env t) (walk-values-at t) walk-values.Post walk-values-Inv-loop walk-values-μ-loop
 walk-values-behind-requires t c κs =
-    let s = c .before .before .before .before .before .before .before .before .before .before .before .before .before .before .before .before .before .before .before .before .before .before .before .before .before .before .before .before .before .before .before .before .before .before .before .before in
+    let s = c .before .before .before .before .before .before .before .before .before .before .before .before .before .before .before .before .before .before .before .before .before .before .before .before .before .before .before .before .before .before .before .before .before .before .before .before .before .before .before .before .before .before .before in
     let m = s .pre .1 .0 in
-    let l = c .before .before .before .before .before .before .before .before .before .before .before .before .before .before .before .before .before .loop in
-    let unset = c .before .before .before .before .before .before .before .before .before .before .before .before .before .before .before .before .before .before .before .before .before .before .next-unset .ensures in
-    let more = c .before .before .before .before .before .before .before .before .before .before .before .before .before .before .before .before .before .before .before .before .if1 .left in
-    let size = of-values.tried-size unset (s .args .reach) m more (c .before .before .before .before .before .before .before .before .before .before .before .before .before .before .before .before .next-value .ensures) (c .before .before .before .before .before .before .before .before .before .before .before .before .before .before .next .given .1) (l .inv .3 m unset more) (rw (c .before .before .before .before .before .before .before .before .before .before .before .before .copied .ensures) at (c .before .before .before .before .before .before .before .before .before .before .put .ensures)) (c .before .before .before .before .before .with-value .ensures) (c .before .before .before .before .walk-value .ensures .0) refl in
+    let l = c .before .before .before .before .before .before .before .before .before .before .before .before .before .before .before .before .before .before .before .before .before .before .before .before .loop in
+    let unset = c .before .before .before .before .before .before .before .before .before .before .before .before .before .before .before .before .before .before .before .before .before .before .before .before .before .before .before .before .before .next-unset .ensures in
+    let more = c .before .before .before .before .before .before .before .before .before .before .before .before .before .before .before .before .before .before .before .before .before .before .before .before .before .before .before .if1 .left in
+    let size = of-values.tried-size unset (s .args .reach) m more (c .before .before .before .before .before .before .before .before .before .before .before .before .before .before .before .before .before .before .before .before .before .before .before .next-value .ensures) (c .before .before .before .before .before .before .before .before .before .before .before .before .before .before .before .before .before .before .before .before .before .next .given .1) (l .inv .3 m unset more) (c .before .before .before .before .before .before .before .before .before .before .before .before .with-names .result) (rw (c .before .before .before .before .before .before .before .before .before .before .before .before .before .before .before .before .before .before .before .copied .ensures) at (c .before .before .before .before .before .before .before .before .before .before .before .before .before .before .before .before .before .put .ensures)) (rw (c .before .before .before .before .before .before .before .before .before .before .before .before .before .before .before .before .copied2 .ensures) at (c .before .before .before .before .before .before .before .before .before .before .before .before .with-names .ensures .0)) (c .before .before .before .before .before .before .before .before .before .before .before .before .with-names .ensures .1) (c .before .before .before .before .before .with-value .ensures) (c .before .before .before .before .walk-values .ensures .0) refl in
     (omega (arith, l .inv .1, s .pre .1 .1 .budget), omega (arith, size, s .pre .1 .1 .budget))
 
 walk-values-same-length-5 : (t : ℕ) → walk-values-lts.Need-same-length-5 (walk-values-env t) (walk-values-at t) walk-values.Post walk-values-Inv-loop walk-values-μ-loop
-walk-values-same-length-5 t c = omega (arith, c .before .before .before .before .before .before .trace2 .given, ap length (c .before .before .before .before .before .before .before .before .before .before .before .before .before .before .before .before .before .before .before .before .loop .inv .0))
+walk-values-same-length-5 t c = omega (arith, c .before .before .before .before .before .before .trace2 .given, ap length (c .before .before .before .before .before .before .before .before .before .before .before .before .before .before .before .before .before .before .before .before .before .before .before .before .before .before .before .loop .inv .0))
 
 walk-values-same-length-6 : (t : ℕ) → walk-values-lts.Need-same-length-6 (walk-values-env t) (walk-values-at t) walk-values.Post walk-values-Inv-loop walk-values-μ-loop
-walk-values-same-length-6 t c = omega (arith, c .before .before .before .before .before .before .before .walk-value .ensures .1 .size, c .before .before .before .before .before .before .before .before .before .before .before .before .before .before .before .before .before .before .before .before .before .before .before .before .before .before .before .before .before .before .before .before .before .before .before .before .before .before .before .pre .1 .1 .remembers .size)
+walk-values-same-length-6 t c = omega (arith, c .before .before .before .before .before .before .before .walk-values .ensures .1 .size, c .before .before .before .before .before .before .before .before .before .before .before .before .before .before .before .before .before .before .before .before .before .before .before .before .before .before .before .before .before .before .before .before .before .before .before .before .before .before .before .before .before .before .before .before .before .before .pre .1 .1 .remembers .size)
 
 walk-values-returns-4 : (t : ℕ) → walk-values-lts.Need-returns-4 (walk-values-env t) (walk-values-at t) walk-values.Post walk-values-Inv-loop walk-values-μ-loop
 walk-values-returns-4 t c = (
-  λ m. let s = c .before .before .before .before .before .before .before .before .before .before .before .before .before .before .before .before .before .before .before .before .before .before .before .before .before .before .before .before .before .before .before .before .before .before .before .before .before .before .before in
-      let l = c .before .before .before .before .before .before .before .before .before .before .before .before .before .before .before .before .before .before .before .before .loop in
-      let unset = c .before .before .before .before .before .before .before .before .before .before .before .before .before .before .before .before .before .before .before .before .before .before .before .before .before .next-unset .ensures in
-      let more = c .before .before .before .before .before .before .before .before .before .before .before .before .before .before .before .before .before .before .before .before .before .before .before .if1 .left in
-      rw (← l .inv .0) (of-values.tried-stops unset (s .args .reach) m more (c .before .before .before .before .before .before .before .before .before .before .before .before .before .before .before .before .before .before .before .next-value .ensures) (c .before .before .before .before .before .before .before .before .before .before .before .before .before .before .before .before .before .next .given .1) (l .inv .3 m unset more) (rw (c .before .before .before .before .before .before .before .before .before .before .before .before .before .before .before .copied .ensures) at (c .before .before .before .before .before .before .before .before .before .before .before .before .before .put .ensures)) (c .before .before .before .before .before .before .before .before .with-value .ensures) (c .before .before .before .before .before .before .before .walk-value .ensures .0) (c .before .before .behind .ensures) (sym (c .before .is-clean .ensures) ∙ not-true _ (c .if3 .taken))),
-  c .before .before .before .before .before .before .before .walk-value .ensures .1,
+  λ m. let s = c .before .before .before .before .before .before .before .before .before .before .before .before .before .before .before .before .before .before .before .before .before .before .before .before .before .before .before .before .before .before .before .before .before .before .before .before .before .before .before .before .before .before .before .before .before .before in
+      let l = c .before .before .before .before .before .before .before .before .before .before .before .before .before .before .before .before .before .before .before .before .before .before .before .before .before .before .before .loop in
+      let unset = c .before .before .before .before .before .before .before .before .before .before .before .before .before .before .before .before .before .before .before .before .before .before .before .before .before .before .before .before .before .before .before .before .next-unset .ensures in
+      let more = c .before .before .before .before .before .before .before .before .before .before .before .before .before .before .before .before .before .before .before .before .before .before .before .before .before .before .before .before .before .before .if1 .left in
+      rw (← l .inv .0) (of-values.tried-stops unset (s .args .reach) m more (c .before .before .before .before .before .before .before .before .before .before .before .before .before .before .before .before .before .before .before .before .before .before .before .before .before .before .next-value .ensures) (c .before .before .before .before .before .before .before .before .before .before .before .before .before .before .before .before .before .before .before .before .before .before .before .before .next .given .1) (l .inv .3 m unset more) (c .before .before .before .before .before .before .before .before .before .before .before .before .before .before .before .with-names .result) (rw (c .before .before .before .before .before .before .before .before .before .before .before .before .before .before .before .before .before .before .before .before .before .before .copied .ensures) at (c .before .before .before .before .before .before .before .before .before .before .before .before .before .before .before .before .before .before .before .before .put .ensures)) (rw (c .before .before .before .before .before .before .before .before .before .before .before .before .before .before .before .before .before .before .before .copied2 .ensures) at (c .before .before .before .before .before .before .before .before .before .before .before .before .before .before .before .with-names .ensures .0)) (c .before .before .before .before .before .before .before .before .before .before .before .before .before .before .before .with-names .ensures .1) (c .before .before .before .before .before .before .before .before .with-value .ensures) (c .before .before .before .before .before .before .before .walk-values .ensures .0) (c .before .before .behind .ensures) (sym (c .before .is-clean .ensures) ∙ not-true _ (c .if3 .taken))),
+  c .before .before .before .before .before .before .before .walk-values .ensures .1,
 )
 
 walk-values-add-run : (t : ℕ) → walk-values-lts.Need-add-run (walk-values-env t) (walk-values-at t) walk-values.Post walk-values-Inv-loop walk-values-μ-loop
 walk-values-add-run t c =
-    let s = c .before .before .before .before .before .before .before .before .before .before .before .before .before .before .before .before .before .before .before .before .before .before .before .before .before .before .before .before .before .before .before .before .before .before .before .before .before .before .before .before in
-    record { fits = omega (arith, of-values.value-within (c .before .before .before .before .before .before .before .before .before .before .before .before .before .before .before .before .before .before .before .before .before .before .before .before .before .before .next-unset .ensures) (s .args .reach) (s .pre .1 .0) (c .before .before .before .before .before .before .before .before .before .before .before .before .before .before .before .before .before .before .before .before .before .before .before .before .if1 .left) (c .before .before .before .before .before .before .before .before .before .before .before .before .before .before .before .before .before .before .before .before .next-value .ensures) (c .before .before .before .before .before .before .before .before .before .before .before .before .before .before .before .before .before .before .next .given .1) .1) }
+    let s = c .before .before .before .before .before .before .before .before .before .before .before .before .before .before .before .before .before .before .before .before .before .before .before .before .before .before .before .before .before .before .before .before .before .before .before .before .before .before .before .before .before .before .before .before .before .before .before in
+    record { fits = omega (arith, of-values.value-within (c .before .before .before .before .before .before .before .before .before .before .before .before .before .before .before .before .before .before .before .before .before .before .before .before .before .before .before .before .before .before .before .before .before .next-unset .ensures) (s .args .reach) (s .pre .1 .0) (c .before .before .before .before .before .before .before .before .before .before .before .before .before .before .before .before .before .before .before .before .before .before .before .before .before .before .before .before .before .before .before .if1 .left) (c .before .before .before .before .before .before .before .before .before .before .before .before .before .before .before .before .before .before .before .before .before .before .before .before .before .before .before .next-value .ensures) (c .before .before .before .before .before .before .before .before .before .before .before .before .before .before .before .before .before .before .before .before .before .before .before .before .before .next .given .1) .1) }
 
 walk-values-loop-less : (t : ℕ) → walk-values-lts.Need-loop-less (walk-values-env t) (walk-values-at t) walk-values.Post walk-values-Inv-loop walk-values-μ-loop
 walk-values-loop-less t c =
-    let s = c .before .before .before .before .before .before .before .before .before .before .before .before .before .before .before .before .before .before .before .before .before .before .before .before .before .before .before .before .before .before .before .before .before .before .before .before .before .before .before .before in
+    let s = c .before .before .before .before .before .before .before .before .before .before .before .before .before .before .before .before .before .before .before .before .before .before .before .before .before .before .before .before .before .before .before .before .before .before .before .before .before .before .before .before .before .before .before .before .before .before .before in
     let m = s .pre .1 .0 in
-    let unset = c .before .before .before .before .before .before .before .before .before .before .before .before .before .before .before .before .before .before .before .before .before .before .before .before .before .before .next-unset .ensures in
-    let more = c .before .before .before .before .before .before .before .before .before .before .before .before .before .before .before .before .before .before .before .before .before .before .before .before .if1 .left in
-    let low = of-values.value-within unset (s .args .reach) m more (c .before .before .before .before .before .before .before .before .before .before .before .before .before .before .before .before .before .before .before .before .next-value .ensures) (c .before .before .before .before .before .before .before .before .before .before .before .before .before .before .before .before .before .before .next .given .1) in
-    value-falls (s .args .plan .rows) _ _ _ _ (of-values.value-later unset (s .args .reach) m more (c .before .before .before .before .before .before .before .before .before .before .before .before .before .before .before .before .before .before .before .before .next-value .ensures) (c .before .before .before .before .before .before .before .before .before .before .before .before .before .before .before .before .before .before .next .given .1)) (low .0) (low .1)
+    let unset = c .before .before .before .before .before .before .before .before .before .before .before .before .before .before .before .before .before .before .before .before .before .before .before .before .before .before .before .before .before .before .before .before .before .next-unset .ensures in
+    let more = c .before .before .before .before .before .before .before .before .before .before .before .before .before .before .before .before .before .before .before .before .before .before .before .before .before .before .before .before .before .before .before .if1 .left in
+    let low = of-values.value-within unset (s .args .reach) m more (c .before .before .before .before .before .before .before .before .before .before .before .before .before .before .before .before .before .before .before .before .before .before .before .before .before .before .before .next-value .ensures) (c .before .before .before .before .before .before .before .before .before .before .before .before .before .before .before .before .before .before .before .before .before .before .before .before .before .next .given .1) in
+    value-falls (s .args .plan .rows) _ _ _ _ (of-values.value-later unset (s .args .reach) m more (c .before .before .before .before .before .before .before .before .before .before .before .before .before .before .before .before .before .before .before .before .before .before .before .before .before .before .before .next-value .ensures) (c .before .before .before .before .before .before .before .before .before .before .before .before .before .before .before .before .before .before .before .before .before .before .before .before .before .next .given .1)) (low .0) (low .1)
 
 walk-values-loop-again : (t : ℕ) → walk-values-lts.Need-loop-again (walk-values-env t) (walk-values-at t) walk-values.Post walk-values-Inv-loop walk-values-μ-loop
 walk-values-loop-again t c =
-    let s = c .before .before .before .before .before .before .before .before .before .before .before .before .before .before .before .before .before .before .before .before .before .before .before .before .before .before .before .before .before .before .before .before .before .before .before .before .before .before .before .before in
-    let l = c .before .before .before .before .before .before .before .before .before .before .before .before .before .before .before .before .before .before .before .before .before .loop in
+    let s = c .before .before .before .before .before .before .before .before .before .before .before .before .before .before .before .before .before .before .before .before .before .before .before .before .before .before .before .before .before .before .before .before .before .before .before .before .before .before .before .before .before .before .before .before .before .before .before in
+    let l = c .before .before .before .before .before .before .before .before .before .before .before .before .before .before .before .before .before .before .before .before .before .before .before .before .before .before .before .before .loop in
     let m = s .pre .1 .0 in
-    let unset = c .before .before .before .before .before .before .before .before .before .before .before .before .before .before .before .before .before .before .before .before .before .before .before .before .before .before .next-unset .ensures in
-    let more = c .before .before .before .before .before .before .before .before .before .before .before .before .before .before .before .before .before .before .before .before .before .before .before .before .if1 .left in
-    let value = c .before .before .before .before .before .before .before .before .before .before .before .before .before .before .before .before .before .before .before .before .next-value .ensures in
-    let put = rw (c .before .before .before .before .before .before .before .before .before .before .before .before .before .before .before .before .copied .ensures) at (c .before .before .before .before .before .before .before .before .before .before .before .before .before .before .put .ensures) in
-    let told = c .before .before .before .before .before .before .before .before .walk-value .ensures .0 in
+    let unset = c .before .before .before .before .before .before .before .before .before .before .before .before .before .before .before .before .before .before .before .before .before .before .before .before .before .before .before .before .before .before .before .before .before .next-unset .ensures in
+    let more = c .before .before .before .before .before .before .before .before .before .before .before .before .before .before .before .before .before .before .before .before .before .before .before .before .before .before .before .before .before .before .before .if1 .left in
+    let value = c .before .before .before .before .before .before .before .before .before .before .before .before .before .before .before .before .before .before .before .before .before .before .before .before .before .before .before .next-value .ensures in
+    let put = rw (c .before .before .before .before .before .before .before .before .before .before .before .before .before .before .before .before .before .before .before .before .before .before .before .copied .ensures) at (c .before .before .before .before .before .before .before .before .before .before .before .before .before .before .before .before .before .before .before .before .before .put .ensures) in
+    let refilled = rw (c .before .before .before .before .before .before .before .before .before .before .before .before .before .before .before .before .before .before .before .before .copied2 .ensures) at (c .before .before .before .before .before .before .before .before .before .before .before .before .before .before .before .before .with-names .ensures .0) in
+    let settled = c .before .before .before .before .before .before .before .before .before .before .before .before .before .before .before .before .with-names .ensures .1 in
+    let told = c .before .before .before .before .before .before .before .before .walk-values .ensures .0 in
     let clean = sym (c .before .before .is-clean .ensures) ∙ not-false _ (c .before .if3 .left) in
-    let first = of-values.tried-on unset (s .args .reach) m more value (c .before .before .before .before .before .before .before .before .before .before .before .before .before .before .before .before .before .before .next .given .1) (l .inv .3 m unset more) put (c .before .before .before .before .before .before .before .before .before .with-value .ensures) told (c .before .before .before .behind .ensures) clean in (
+    let first = of-values.tried-on unset (s .args .reach) m more value (c .before .before .before .before .before .before .before .before .before .before .before .before .before .before .before .before .before .before .before .before .before .before .before .before .before .next .given .1) (l .inv .3 m unset more) (c .before .before .before .before .before .before .before .before .before .before .before .before .before .before .before .before .with-names .result) put refilled settled (c .before .before .before .before .before .before .before .before .before .with-value .ensures) told (c .before .before .before .behind .ensures) clean in (
       first .1 ∙ l .inv .0,
       omega (arith, first .2, c .count-of .ensures),
-      omega (arith, of-values.value-within unset (s .args .reach) m more value (c .before .before .before .before .before .before .before .before .before .before .before .before .before .before .before .before .before .before .next .given .1) .0),
-      (λ m unset more. rw (c .count-of .ensures) (of-values.tried-on unset (s .args .reach) m more value (c .before .before .before .before .before .before .before .before .before .before .before .before .before .before .before .before .before .before .next .given .1) (l .inv .3 m unset more) put (c .before .before .before .before .before .before .before .before .before .with-value .ensures) told (c .before .before .before .behind .ensures) clean .0)),
-      c .before .before .before .before .before .before .before .before .walk-value .ensures .1,
+      omega (arith, of-values.value-within unset (s .args .reach) m more value (c .before .before .before .before .before .before .before .before .before .before .before .before .before .before .before .before .before .before .before .before .before .before .before .before .before .next .given .1) .0),
+      (λ m unset more. rw (c .count-of .ensures) (of-values.tried-on unset (s .args .reach) m more value (c .before .before .before .before .before .before .before .before .before .before .before .before .before .before .before .before .before .before .before .before .before .before .before .before .before .next .given .1) (l .inv .3 m unset more) (c .before .before .before .before .before .before .before .before .before .before .before .before .before .before .before .before .with-names .result) put refilled settled (c .before .before .before .before .before .before .before .before .before .with-value .ensures) told (c .before .before .before .behind .ensures) clean .0)),
+      c .before .before .before .before .before .before .before .before .walk-values .ensures .1,
     )
 
-pub +walk+walk-after+walk-move+walk-run+walk-value+walk-values-spec : {M : Type 1} → statement M
-+walk+walk-after+walk-move+walk-run+walk-value+walk-values-spec =
-    close μ-walk μ-walk-after μ-walk-move μ-walk-run μ-walk-value μ-walk-values
+pub +walk+walk-after+walk-move+walk-run+walk-values-spec : {M : Type 1} → statement M
++walk+walk-after+walk-move+walk-run+walk-values-spec =
+    close μ-walk μ-walk-after μ-walk-move μ-walk-run μ-walk-values
     (λ t. walk-lts.spec (walk-env t) (walk-at t) walk.Post walk-Inv-loop walk-μ-loop (walk-broken-requires t) (λ c κs. search needs) (λ c κs. search needs) (walk-returns t) (λ c κs. search needs) (walk-loop-holds t) (λ c. search needs) (walk-sub-t26 t) (walk-walk-run-requires t) (walk-behind-requires t) (λ c κs. search needs) (walk-same-length t) (walk-same-length-2 t) (walk-returns-2 t) (λ c κs. search needs) (λ c. search needs) (λ c. search needs) (walk-loop-again t) (walk-same-length-3 t) (walk-same-length-4 t) (walk-returns-3 t))
     (λ t. walk-after-lts.spec (walk-after-env t) (walk-after-at t) walk-after.Post (walk-after-advance-requires t) (walk-after-key-of-requires t) (walk-after-look-up-requires t) (λ c κs. search needs) (λ c. search needs) (walk-after-returns t) (walk-after-perform-requires t) (walk-after-mul-bytes t) (walk-after-add-bytes t) (walk-after-add-keep t) (walk-after-walk-requires t) (λ c κs. search needs) (walk-after-keep-requires t) (walk-after-write-before-requires t) (walk-after-after-step-requires t) (λ c. search needs) (λ c. search needs) (walk-after-returns-2 t))
     (λ t. walk-move-lts.spec (walk-move-env t) (walk-move-at t) walk-move.Post (walk-move-is-allowed-requires t) (walk-move-returns t) (walk-move-walk-after-requires t) (λ c. search needs) (λ c. search needs) (walk-move-returns-2 t))
     (λ t. walk-run-lts.spec (walk-run-env t) (walk-run-at t) walk-run.Post (λ c. search needs) (λ c. search needs) (λ c. search needs) (λ c. search needs) (walk-run-returns t) (walk-run-event-of-requires t) (λ c κs. search needs) (walk-run-beneath-requires t) (walk-run-walk-values-requires t) (λ c. search needs) (λ c. search needs) (walk-run-returns-2 t) (walk-run-walk-move-requires t) (λ c. search needs) (λ c. search needs) (walk-run-returns-3 t))
-    (λ t. walk-value-lts.spec (walk-value-env t) (walk-value-at t) walk-value.Post (walk-value-copied-requires t) (λ c. search needs) (walk-value-add-with-names t) (walk-value-with-names-requires t) (λ c. search needs) (walk-value-walk-values-requires t) (λ c. search needs) (λ c. search needs) (walk-value-returns t))
-    λ t. walk-values-lts.spec (walk-values-env t) (walk-values-at t) walk-values.Post walk-values-Inv-loop walk-values-μ-loop (λ c. search needs) (walk-values-add-next-unset t) (walk-values-next-unset-requires t) (walk-values-walk-move-requires t) (λ c. search needs) (λ c. search needs) (walk-values-returns t) (walk-values-may-be-read-requires t) (walk-values-returns-2 t) (walk-values-loop-holds t) (walk-values-next-value-requires t) (λ c. search needs) (walk-values-same-length-3 t) (walk-values-same-length-4 t) (walk-values-returns-3 t) (λ c. search needs) (walk-values-copied-requires t) (walk-values-add-put t) (walk-values-put-requires t) (λ c. search needs) (λ c. search needs) (walk-values-with-value-requires t) (walk-values-add-t49 t) (walk-values-walk-value-requires t) (walk-values-behind-requires t) (λ c κs. search needs) (walk-values-same-length-5 t) (walk-values-same-length-6 t) (walk-values-returns-4 t) (λ c κs. search needs) (walk-values-add-run t) (walk-values-loop-less t) (walk-values-loop-again t)
+    λ t. walk-values-lts.spec (walk-values-env t) (walk-values-at t) walk-values.Post walk-values-Inv-loop walk-values-μ-loop (λ c. search needs) (walk-values-add-next-unset t) (walk-values-next-unset-requires t) (walk-values-walk-move-requires t) (λ c. search needs) (λ c. search needs) (walk-values-returns t) (walk-values-may-be-read-requires t) (walk-values-returns-2 t) (walk-values-loop-holds t) (walk-values-next-value-requires t) (λ c. search needs) (walk-values-same-length-3 t) (walk-values-same-length-4 t) (walk-values-returns-3 t) (λ c. search needs) (walk-values-copied-requires t) (walk-values-add-put t) (walk-values-put-requires t) (walk-values-copied-requires-2 t) (λ c. search needs) (λ c. search needs) (walk-values-add-with-names t) (walk-values-with-names-requires t) (λ c. search needs) (λ c. search needs) (walk-values-sub-t40 t) (walk-values-with-value-requires t) (walk-values-add-t57 t) (walk-values-walk-values-requires t) (walk-values-behind-requires t) (λ c κs. search needs) (walk-values-same-length-5 t) (walk-values-same-length-6 t) (walk-values-returns-4 t) (λ c κs. search needs) (walk-values-add-run t) (walk-values-loop-less t) (walk-values-loop-again t)
