@@ -3,6 +3,7 @@ ghost use mathlib.Core.Path.{_≡_};
 ghost use Prim.Native.Nat.{_+_, _*_, _<_, _≤_};
 ghost use lib.ListN.{length, getD};
 ghost use Rattle.cells.specs.Cells.{cellOf, cellCount, absent, Shape, secondOf, sameParts, Tells, Matches, Found, FoundInRow};
+use rows::Kind;
 
 // The cells: 96 rows by runs 0 to 4.
 pub struct Cells {}
@@ -26,7 +27,7 @@ pub fn second_of(t: &[u8], r: usize) -> usize
     requires { ⌜ 3 * r + 2 < length (now t) ⌝ }
     ensures { λ s. ⌜ (s ≡ secondOf (now (t .entry)) r) × (s < 256) ⌝ }
 {
-    if rows::kind_of(t, r) < 10 {
+    if rows::kind_of(t, r) < Kind::SHARED_KEY {
         return rows::left_of(t, r);
     }
     rows::right_of(t, r)

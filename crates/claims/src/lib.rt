@@ -14,6 +14,7 @@ use answers::ClaimKind;
 use answers::Claimed;
 use cells::Cells;
 use cells::cell;
+use records::Event;
 use runs::Runs;
 use state::State;
 
@@ -27,7 +28,7 @@ fn claims_derivable(file: &[u8], r: Runs, marks: &[bool], k: usize, j: usize) ->
         return false;
     }
     let e = runs::event_of(file, r, k, j);
-    if e.kind == 2 {
+    if e.kind == Event::CLAIM {
         let c = cell(e.row, k + 1);
         return marks[c];
     }

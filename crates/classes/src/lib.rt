@@ -10,6 +10,7 @@ use cells::Cells;
 use cells::cell;
 use cells::found;
 use cells::second_of;
+use rows::Kind;
 
 // The class of row x in run u, from the classes of its parts: a name, a class that is there already, or the cell itself.
 fn class_of(
@@ -26,7 +27,7 @@ fn class_of(
 {
     let c = cell(x, u);
     let kind = rows::kind_of(t, x);
-    if kind < 8 {
+    if kind < Kind::FIRST_MADE {
         return names[c];
     }
     let a = classes[cell(rows::left_of(t, x), u)];

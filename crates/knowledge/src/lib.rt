@@ -9,6 +9,7 @@ ghost use Rattle.knowledge.specs.Marks.{Settled, LearnsCell, Learnt};
 ghost use Rattle.knowledge.specs.Steps.{classAt, Gathered, Spread, Opening, Gained, GainedAt, RowGained, Reaches, Finished};
 use cells::Cells;
 use cells::cell;
+use rows::Kind;
 
 // The class of row r in run u.
 pub fn class_at(classes: &[u16], r: usize, u: usize) -> u16
@@ -78,7 +79,7 @@ fn build_row(marks: &mut [bool], t: &[u8], n: usize, runs: usize, classes: &[u16
     requires { ⌜ (length (now marks) ≡ cellCount) × (Shape (now t) n runs × ((length (now classes) ≡ cellCount) × (x < n))) ⌝ }
     ensures { λ _. ⌜ Reaches (now (t .entry)) n runs (now (classes .entry)) (now (marks .entry)) (now (marks .exit)) ⌝ }
 {
-    if rows::kind_of(t, x) < 11 {
+    if rows::kind_of(t, x) < Kind::PAIR {
         return;
     }
     let l = rows::left_of(t, x);
@@ -131,11 +132,11 @@ fn opens(marks: &[bool], t: &[u8], n: usize, runs: usize, classes: &[u16], key: 
         return false;
     }
     let kind = rows::kind_of(t, x);
-    if kind == 8 {
+    if kind == Kind::PUBLIC_KEY {
         let a = class_at(classes, rows::left_of(t, x), u);
         return is_marked(marks, cells::found(t, n, runs, classes, 9, a, a));
     }
-    if kind == 9 {
+    if kind == Kind::SECRET_KEY {
         let a = class_at(classes, rows::left_of(t, x), u);
         return is_marked(marks, cells::found(t, n, runs, classes, 8, a, a));
     }
@@ -160,7 +161,7 @@ fn given(
 {
     let has_left = is_marked(marks, left);
     if is_marked(marks, whole) {
-        if kind == 11 {
+        if kind == Kind::PAIR {
             if has_left {
                 if is_marked(marks, right) {
                     return Cells::ABSENT;
@@ -191,7 +192,7 @@ fn gain(marks: &[bool], t: &[u8], n: usize, runs: usize, classes: &[u16], x: usi
     ensures { λ r. ⌜ GainedAt (now (t .entry)) n runs (now (classes .entry)) (now (marks .entry)) x u r ⌝ }
 {
     let kind = rows::kind_of(t, x);
-    if kind < 11 {
+    if kind < Kind::PAIR {
         return Cells::ABSENT;
     }
     let whole = class_at(classes, x, u);

@@ -7,6 +7,7 @@ ghost use Rattle.semantics.specs.Value.{Reading};
 ghost use Rattle.semantics.specs.Runs.{badKnowledgeFrom};
 ghost use Rattle.rows.specs.Rows.{placeAs, rowsOf, Sized};
 ghost use Rattle.lists.specs.Lists.{Bars, Valued, clearAt, hasValue};
+use rows::Kind;
 use rows::Place;
 
 // Whether a row has a value if atoms of the kinds from low to high have none, given which of the rows below it have one.
@@ -15,14 +16,14 @@ fn clear_row(t: &[u8], n: usize, clear: &[bool], r: usize, low: usize, high: usi
     ensures { λ b. ⌜ b ≡ clearAt low high (now (t .entry)) (now (clear .entry)) r ⌝ }
 {
     let kind = rows::kind_of(t, r);
-    if kind < 8 {
+    if kind < Kind::FIRST_MADE {
         if kind < low {
             return true;
         }
         return high < kind;
     }
     if clear[rows::left_of(t, r)] {
-        if kind < 10 {
+        if kind < Kind::SHARED_KEY {
             return true;
         }
         return clear[rows::right_of(t, r)];
@@ -74,6 +75,6 @@ pub fn bad_knowledge(b: &[u8], base: usize, t: &[u8], n: usize) -> Place
     requires { ⌜ Sized (now t) n × (base ≤ 65536) ⌝ }
     ensures { λ p. ⌜ p ≡ placeAs (badKnowledgeFrom (rowsOf (now (t .entry))) base 0 (now (b .entry))) ⌝ }
 {
-    let clear = clear_rows(t, n, 5, 7);
+    let clear = clear_rows(t, n, Kind::ROLE, Kind::LOCAL);
     unfit_row(b, base, n, &clear)
 }

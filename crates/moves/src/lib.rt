@@ -12,6 +12,7 @@ ghost use Rattle.cells.specs.Cells.{Shape, cellCount};
 ghost use Rattle.state.specs.State.{Due, NextMove, Ready};
 use cells::Cells;
 use cells::cell;
+use records::Event;
 use runs::RunEvent;
 use state::State;
 
@@ -22,7 +23,7 @@ pub fn is_allowed(classes: &[u16], marks: &[bool; Cells::COUNT], k: usize, e: Ru
     ensures { λ b. ⌜ ((t : List ℕ) (n runs : ℕ) (sc : Scenario) (d : definitions.State) (s : State) (a : Active) (vs : List Value) (names : List ℕ) → Shape t n runs → Due n runs k (e .own) (e .peer) (e .row) → NextMove t runs k e sc d s a → length (s .done) ≡ 4 → Ready sc d a vs names (now (classes .entry)) (now (marks .entry)) → ((e .kind ≡ 1 → ⊥) → vs ≡ []) → b ≡ present (performed sc d a vs)) ⌝ }
 {
     let c = cell(e.row, k + 1);
-    if e.kind == 1 {
+    if e.kind == Event::READ {
         let own = e.own;
         let peer = e.peer;
         if marks[own] {
@@ -33,7 +34,7 @@ pub fn is_allowed(classes: &[u16], marks: &[bool; Cells::COUNT], k: usize, e: Ru
         }
         return false;
     }
-    if e.kind == 0 {
+    if e.kind == Event::SEND {
         return classes[c] != Cells::ABSENT;
     }
     true

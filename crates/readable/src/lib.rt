@@ -5,6 +5,7 @@ ghost use Rattle.cells.specs.Cells.{Shape};
 ghost use Rattle.role_level.specs.RoleLevel.{RoleClasses};
 ghost use Rattle.role_marks.specs.Sure.{SureRows, Notes, Answers};
 use cells::Cells;
+use rows::Kind;
 
 // Whether the term of row x is readable: derivable, a variable, a pair of which each part is readable with the other known,
 // or an encryption whose key's inverse is derivable and whose content is readable. A row is sure if it is readable with these
@@ -30,10 +31,10 @@ pub fn is_readable(
         return true;
     }
     let kind = rows::kind_of(t, x);
-    if kind == 6 {
+    if kind == Kind::VARIABLE {
         return true;
     }
-    if kind == 11 {
+    if kind == Kind::PAIR {
         if role_marks::is_kept(&marks, &notes[..], n, x) {
             return true;
         }
@@ -62,7 +63,7 @@ pub fn is_readable(
         role_marks::keep(&marks, &mut notes[..], n, x);
         return true;
     }
-    if kind == 12 {
+    if kind == Kind::ENCRYPTED {
         if role_marks::inverse_known(&marks, t, n, rows::right_of(t, x)) {
             notes[x] = 0;
             return is_readable(

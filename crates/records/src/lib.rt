@@ -11,6 +11,7 @@ ghost use Rattle.semantics.specs.Runs.{runLength, runRecords, atomAt, isAgent, 
 ghost use Rattle.rows.specs.Rows.{placeAs, rowsOf, Sized};
 ghost use Rattle.lists.specs.Lists.{Valued};
 ghost use Rattle.records.specs.Records.{partAt, recordAt, eventAt, agentsIn, RoleAt, TellsGood};
+use rows::Kind;
 use rows::Place;
 use table::Table;
 
@@ -21,6 +22,17 @@ impl Limits {
     pub const MOST_RUNS: usize = 4;
 
     pub const MOST_EVENTS: usize = 8;
+}
+
+// The kinds of events.
+pub struct Event {}
+
+impl Event {
+    pub const SEND: usize = 0;
+
+    pub const READ: usize = 1;
+
+    pub const CLAIM: usize = 2;
 }
 
 // The length of the role record at the front, by its own counts.
@@ -139,7 +151,7 @@ pub fn bad_role(b: &[u8], base: usize, t: &[u8], n: usize) -> Place
     requires { ⌜ Sized (now t) n × (base ≤ 65536) ⌝ }
     ensures { λ p. ⌜ p ≡ placeAs (badRole (rowsOf (now (t .entry))) (roleRecords (partAt base (now (b .entry))))) ⌝ }
 {
-    let clear = lists::clear_rows(t, n, 6, 6);
+    let clear = lists::clear_rows(t, n, Kind::VARIABLE, Kind::VARIABLE);
     let roles = roles_present(b);
     let mut i = 0;
     let mut at = 0;
@@ -161,7 +173,7 @@ pub fn absent_role(t: &[u8], n: usize, roles: usize, base: usize) -> Place
 {
     let mut r = 0;
     while r < n {
-        if rows::kind_of(t, r) == 5 {
+        if rows::kind_of(t, r) == Kind::ROLE {
             if roles <= rows::left_of(t, r) {
                 return Place::At(base + 3 * r);
             }

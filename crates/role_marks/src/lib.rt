@@ -9,6 +9,7 @@ ghost use Rattle.role_level.specs.RoleLevel.{RoleClasses};
 ghost use Rattle.role_marks.specs.Marks.{RowMarked, NameKnown, InverseKnown, Learns};
 ghost use Rattle.role_marks.specs.Sure.{noteCount, Gains, Opens, InBoth, Shared, Added, SlotStands, KeptFor, SlotFilled, Stored};
 use cells::Cells;
+use rows::Kind;
 
 // Notes: a hint for each row, the row of each of 128 slots, and each slot's marks.
 pub struct Notes {}
@@ -41,7 +42,7 @@ pub fn name_known(marks: &[bool], t: &[u8], n: usize, i: usize) -> bool
     requires { ⌜ Shape (now t) n 0 × (length (now marks) ≡ cellCount) ⌝ }
     ensures { λ r. ⌜ NameKnown (rowsOf (now (t .entry))) (now (marks .entry)) i r ⌝ }
 {
-    row_marked(marks, t, n, 5, i)
+    row_marked(marks, t, n, Kind::ROLE, i)
 }
 
 // Whether the inverse of the term of row k is derivable: the other key of that agent, or the term itself.
@@ -50,11 +51,11 @@ pub fn inverse_known(marks: &[bool], t: &[u8], n: usize, k: usize) -> bool
     ensures { λ r. ⌜ InverseKnown (rowsOf (now (t .entry))) (now (marks .entry)) k r × Opens (rowsOf (now (t .entry))) (now (marks .entry)) k r ⌝ }
 {
     let kind = rows::kind_of(t, k);
-    if kind == 8 {
-        return row_marked(marks, t, n, 9, rows::left_of(t, k));
+    if kind == Kind::PUBLIC_KEY {
+        return row_marked(marks, t, n, Kind::SECRET_KEY, rows::left_of(t, k));
     }
-    if kind == 9 {
-        return row_marked(marks, t, n, 8, rows::left_of(t, k));
+    if kind == Kind::SECRET_KEY {
+        return row_marked(marks, t, n, Kind::PUBLIC_KEY, rows::left_of(t, k));
     }
     marks[k]
 }
@@ -133,11 +134,11 @@ pub fn content_of(marks: &[bool], t: &[u8], n: usize, x: usize) -> usize
     if marks[x] {
         return 0;
     }
-    if rows::kind_of(t, x) != 12 {
+    if rows::kind_of(t, x) != Kind::ENCRYPTED {
         return 0;
     }
     let mut y = rows::left_of(t, x);
-    while rows::kind_of(t, y) == 12 {
+    while rows::kind_of(t, y) == Kind::ENCRYPTED {
         y = rows::left_of(t, y);
     }
     y
@@ -165,7 +166,7 @@ fn follow(
     }
     way[x] = true;
     let kind = rows::kind_of(t, x);
-    if kind == 11 {
+    if kind == Kind::PAIR {
         let l = rows::left_of(t, x);
         let s = rows::right_of(t, x);
         if notes[x] == 1 {
@@ -178,7 +179,7 @@ fn follow(
         }
         return 96;
     }
-    if kind == 12 {
+    if kind == Kind::ENCRYPTED {
         if notes[x] != 3 {
             return follow(
                 &mut more[..],
@@ -219,10 +220,10 @@ pub fn gives_up(
         if meets(&known, &way, n) {
             return false;
         }
-        if rows::kind_of(t, end) == 12 {
+        if rows::kind_of(t, end) == Kind::ENCRYPTED {
             return !inverse_known(&known, t, n, rows::right_of(t, end));
         }
-        return rows::kind_of(t, end) != 6;
+        return rows::kind_of(t, end) != Kind::VARIABLE;
     }
     false
 }

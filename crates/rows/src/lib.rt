@@ -81,7 +81,7 @@ pub fn is_agent(t: &[u8], n: usize, r: usize) -> bool
     if n <= r {
         return false;
     }
-    kind_of(t, r) <= 2
+    kind_of(t, r) <= Kind::UNTRUSTED
 }
 
 // Whether a row is a trusted agent's.
@@ -92,5 +92,5 @@ pub fn is_trusted(t: &[u8], n: usize, r: usize) -> bool
     if n <= r {
         return false;
     }
-    kind_of(t, r) == 1
+    kind_of(t, r) == Kind::TRUSTED
 }

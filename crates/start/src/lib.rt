@@ -7,6 +7,7 @@ ghost use Rattle.role_level.specs.RoleLevel.{ListedBelow};
 ghost use Rattle.start.specs.Start.{AreAgents, FirstName, Entered, StartMarks};
 use cells::Cells;
 use cells::cell;
+use rows::Kind;
 
 // The name of row r in run u, for the agents of that run and before any variable is set.
 fn name_of(t: &[u8], n: usize, r: usize, u: usize, agents: &[u8]) -> u16
@@ -14,20 +15,20 @@ fn name_of(t: &[u8], n: usize, r: usize, u: usize, agents: &[u8]) -> u16
     ensures { λ name. ⌜ FirstName (rowsOf (now (t .entry))) u (now (agents .entry)) r name ⌝ }
 {
     let kind = rows::kind_of(t, r);
-    if kind < 5 {
+    if kind < Kind::ROLE {
         return r as u16;
     }
     if u == 0 {
         return Cells::ABSENT;
     }
-    if kind == 5 {
+    if kind == Kind::ROLE {
         let i = rows::left_of(t, r);
         if i < agents.len() {
             return rows::wide(agents[i]) as u16;
         }
         return Cells::ABSENT;
     }
-    if kind == 7 {
+    if kind == Kind::LOCAL {
         return cell(r, u) as u16;
     }
     Cells::ABSENT
@@ -62,7 +63,7 @@ fn intruder_marks(t: &[u8], n: usize) -> [bool; Cells::COUNT]
     let mut marks = [false; 480];
     let mut r = 0;
     while r < n {
-        if rows::kind_of(t, r) == 4 {
+        if rows::kind_of(t, r) == Kind::INTRUDER {
             marks[r] = true;
         }
         r += 1;

@@ -16,6 +16,7 @@ ghost use Rattle.state.specs.Start.{Agents};
 ghost use Rattle.state.specs.State.{Given, IsState, Due, NextMove, Ready, Performed};
 use cells::Cells;
 use cells::cell;
+use records::Event;
 use runs::RunEvent;
 use runs::Runs;
 
@@ -142,10 +143,10 @@ pub fn perform(
     requires { ⌜ Shape (now t) n runs × (Due n runs k (e .own) (e .peer) (e .row) × (length (now classes) ≡ cellCount)) ⌝ }
     ensures { λ moved. ⌜ ((sc : Scenario) (d : definitions.State) (s : State) (a : Active) (vs : List Value) (names : List ℕ) → NextMove (now (t .entry)) runs k e sc d s a → length (s .done) ≡ 4 → Ready sc d a vs names (now (classes .entry)) marks → ((e .kind ≡ 1 → ⊥) → vs ≡ []) → Performed sc d a vs (s .done) k names (now (classes .entry)) moved) ⌝ }
 {
-    if e.kind == 1 {
+    if e.kind == Event::READ {
         return was_read(marks, k, e);
     }
-    if e.kind == 0 {
+    if e.kind == Event::SEND {
         return sent(classes, marks, t, n, runs, k, e);
     }
     Moved {

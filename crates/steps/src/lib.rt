@@ -9,6 +9,7 @@ ghost use Rattle.cells.specs.Cells.{Shape, cellCount};
 ghost use Rattle.state.specs.State.{Given, IsState};
 ghost use Rattle.steps.specs.Steps.{StepDone, Worked};
 use cells::Cells;
+use records::Event;
 use runs::RunEvent;
 use runs::Runs;
 use state::State;
@@ -34,7 +35,7 @@ fn worked(
     requires { ⌜ Shape (now t) n runs × ((length (now classes) ≡ cellCount) × ((length (now names) ≡ cellCount) × (k < runs))) ⌝ }
     ensures { λ more. ⌜ Worked (rowsOf (now (t .entry))) runs k (e .kind) (now (names .entry)) (now (classes .entry)) marks (now (classes .exit)) more ⌝ }
 {
-    if e.kind == 1 {
+    if e.kind == Event::READ {
         return state::with_names(&mut classes[..], marks, names, t, n, runs, k + 1);
     }
     marks

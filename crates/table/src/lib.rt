@@ -8,6 +8,7 @@ ghost use Rattle.semantics.specs.Table.{rowsFrom, agentLike, noPair, variableRo
 ghost use Rattle.rows.specs.Rows.{IsTable, decodedAt, rowsOf};
 ghost use Rattle.table.specs.Check.{fitsDecoded, repeatsDecoded, sameBytes, numberOr, judgedAs};
 use answers::Refusal;
+use rows::Kind;
 
 // The limits of a table.
 pub struct Table {}
@@ -50,7 +51,7 @@ fn no_pair(t: &[u8], i: usize, a: usize) -> bool
     if i <= a {
         return false;
     }
-    rows::kind_of(t, a) != 11
+    rows::kind_of(t, a) != Kind::PAIR
 }
 
 // Whether the bytes of row i are a row of the table of kinds that fits the rows below it.
@@ -131,7 +132,7 @@ fn with_variable(t: &[u8], i: usize, variables: usize) -> usize
     requires { ⌜ (3 * i + 2 < length (now t)) × (variables ≤ 8) ⌝ }
     ensures { λ r. ⌜ (getD (now (t .entry)) (3 * i) 0 ≡ 6 → r ≡ variables + 1) × ((getD (now (t .entry)) (3 * i) 0 ≡ 6 → ⊥) → r ≡ variables) ⌝ }
 {
-    if rows::kind_of(t, i) == 6 {
+    if rows::kind_of(t, i) == Kind::VARIABLE {
         return variables + 1;
     }
     variables

@@ -8,6 +8,7 @@ use breaks::Course;
 use breaks::Plan;
 use breaks::Reach;
 use breaks::Turn;
+use records::Event;
 use variables::NextValue;
 
 // Walks through the traces from a state on. How far the runs have come and the marks go by value; names and classes, which only a read changes, are lent. The
@@ -97,7 +98,7 @@ fn walk_run(
         event,
         values: breaks::no_values(),
     };
-    if event.kind == 1 {
+    if event.kind == Event::READ {
         let under = variables::beneath(t, plan.rows, event.row);
         return walk_values(
             trace,

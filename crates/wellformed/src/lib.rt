@@ -10,6 +10,7 @@ ghost use Rattle.role_level.specs.RoleLevel.{RoleClasses};
 ghost use Rattle.wellformed.specs.WellFormed.{WellFormedEvent, EventLearns, GoodRecord, IllRole};
 ghost use Rattle.records.specs.Records.{partAt};
 use cells::Cells;
+use records::Event;
 use role_marks::Notes;
 use rows::Place;
 
@@ -30,12 +31,12 @@ fn is_well_formed(
     if !role_marks::name_known(&marks, t, n, own) {
         return false;
     }
-    if kind != 2 {
+    if kind != Event::CLAIM {
         if !role_marks::name_known(&marks, t, n, peer) {
             return false;
         }
     }
-    if kind == 1 {
+    if kind == Event::READ {
         let mut notes = [0u8; Notes::COUNT];
         return readable::is_readable(marks, [false; 480], t, n, classes, &mut notes, false, x);
     }
@@ -54,7 +55,7 @@ fn event_learned(
     requires { ⌜ Shape (now t) n 0 × (RoleClasses (rowsOf (now t)) (now classes) × (x < n)) ⌝ }
     ensures { λ r. ⌜ EventLearns (rowsOf (now (t .entry))) event x marks r ⌝ }
 {
-    if event == 1 {
+    if event == Event::READ {
         return role_marks::learned(marks, t, n, classes, x);
     }
     marks
