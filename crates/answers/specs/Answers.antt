@@ -123,3 +123,9 @@ abbrev pub walkedAs : List Entry → Finding → Walked
 walkedAs es (found p e c) = walking.Broken (breakAs p (e .0) c)
 walkedAs es nothing = walking.Clean (length es)
 walkedAs es cut = walking.Cut
+
+-- the verdict by what a walk through the whole list found with a budget
+abbrev pub answered : ℕ → Walked → Verdict
+answered budget (walking.Broken b) = searching.Broken b
+answered budget (walking.Clean m) = searching.Held m
+answered budget walking.Cut = searching.Stopped budget

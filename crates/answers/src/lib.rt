@@ -1,11 +1,8 @@
 // What the operations answer, by value, and the last steps to Search's answer: refusal 10, and the verdict by what the walk found.
 ghost use mathlib.Core.Path.{_≡_};
-ghost use mathlib.Core.List.{List};
-ghost use Prim.Native.Nat.{ℕ};
-ghost use lib.ListN.{length};
 ghost use Rattle.semantics.specs.Answer.{checked};
-ghost use Rattle.semantics.specs.Verdict.{Entry, Finding, verdictFrom, shortBuffer};
-ghost use Rattle.answers.specs.Answers.{checkedAs, verdictAs, walkedAs};
+ghost use Rattle.semantics.specs.Verdict.{shortBuffer};
+ghost use Rattle.answers.specs.Answers.{checkedAs, answered};
 
 // "A refusal is a number and a place, the offset of the item's first byte"
 pub struct Refusal {
@@ -118,7 +115,7 @@ pub fn check_buffer(trace: &[u8]) -> Checked
 
 // The verdict by what the walk through the whole list found with a budget.
 pub fn verdict_of(walked: Walked, budget: usize) -> Verdict
-    ensures { λ r. ⌜ ((es : List Entry) (f : Finding) → walked ≡ walkedAs es f → r ≡ verdictAs (verdictFrom (length es) budget f)) ⌝ }
+    ensures { λ r. ⌜ r ≡ answered budget walked ⌝ }
 {
     match walked {
         Walked::Broken(b) => Verdict::Broken(b),

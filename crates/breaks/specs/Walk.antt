@@ -13,7 +13,7 @@ use Rattle.semantics.specs.State as definitions
 use Rattle.semantics.specs.State.{Value, Active, active}
 use Rattle.semantics.specs.Moves.{Move, choices, performed, toSet, branch, movesOfRun, full, movesIn}
 use Rattle.semantics.specs.Tree.{listed}
-use Rattle.semantics.specs.Verdict.{Entry, Finding, found, nothing, cut, walked, broken, valueBytes, traceBytes}
+use Rattle.semantics.specs.Verdict.{Entry, Finding, found, nothing, cut, walked, broken, valueBytes, traceBytes, traceList}
 use Rattle.semantics.specs.Allowed.{Takes, AllowedTrace}
 use Rattle.rows.specs.Rows.{rowsOf}
 use Rattle.runs.specs.declared.RunEvent.{RunEvent}
@@ -51,6 +51,10 @@ bufferAs before at cut = before
 pub record Finds (sc : Scenario) (left : ℕ) (es : List Entry) (before : List ℕ) (at : ℕ) (after : List ℕ) (w : Walked) : Type 0 where
   pub answer : w ≡ walkedAs es (walked (judged sc) left es)
   pub buffer : after ≡ bufferAs before at (walked (judged sc) left es)
+
+-- what a walk through the whole list promises
+abbrev pub FindsAll : Scenario → ℕ → List ℕ → List ℕ → Walked → Type 0
+FindsAll sc left before after w = Finds sc left (traceList full sc) before 0 after w
 
 -- an entry after one more move
 abbrev pub afterMove : Move → Entry → Entry

@@ -8,6 +8,8 @@ use lib.ListN.{length}
 use Rattle.semantics.specs.Roles.{secrecy}
 use Rattle.semantics.specs.Answer.{Answer, refused, accepted}
 use Rattle.semantics.specs.Scenario.{Scenario}
+use Rattle.semantics.specs.Roles as roles
+use Rattle.semantics.specs.State as states
 use Rattle.semantics.specs.Verdict as verdicts
 use Rattle.semantics.specs.Verdict.{brokenAt, held, stopped, traceBytes}
 use Rattle.semantics.specs.Packing.{heldWord, stoppedWord, acceptedWord, derivableWord, notDerivableWord, noClaimWord, wordAlone, packedRefusal, packedNumber, packedClaim, packedBreak, packedKind, packedDerived, packedOpened, packedReplayed, packedSearched}
@@ -69,10 +71,10 @@ pub kind-two : (k : ClaimKind) → packedCodeKind k ≡ 2
 kind-two Secrecy = refl
 
 -- the two agree
-packed-kind : (k : verdicts.ClaimKind) → packedCodeKind (kindAs k) ≡ packedKind k
+packed-kind : (k : roles.ClaimKind) → packedCodeKind (kindAs k) ≡ packedKind k
 packed-kind secrecy = refl
 
-pub packed-replayed : (a : Answer (Option verdicts.Claim)) → packedReplaying (replayedAs a) ≡ packedReplayed a
+pub packed-replayed : (a : Answer (Option states.Claim)) → packedReplaying (replayedAs a) ≡ packedReplayed a
 packed-replayed (refused r) = refl
 packed-replayed (accepted none) = refl
 packed-replayed (accepted (some c)) = ap (packedClaim (c .run) (c .event)) (packed-kind (c .kind))

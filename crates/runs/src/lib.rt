@@ -3,13 +3,12 @@ ghost use mathlib.Core.Path.{_≡_};
 ghost use mathlib.Core.List.{List};
 ghost use Prim.Native.Nat.{ℕ, _+_, _<_};
 ghost use lib.ListN.{length, getD};
-ghost use Rattle.semantics.specs.Answer.{accepted};
 ghost use Rattle.semantics.specs.Basic.{every};
 ghost use Rattle.semantics.specs.Runs.{atomAt, isTrusted};
 ghost use Rattle.semantics.specs.Guarantee.{Guarantee};
-ghost use Rattle.semantics.specs.Scenario.{Scenario, opened};
+ghost use Rattle.semantics.specs.Scenario.{Scenario};
 ghost use Rattle.rows.specs.Rows.{rowsOf, Sized};
-ghost use Rattle.answers.specs.Answers.{layoutOf};
+ghost use Rattle.answers.specs.Answers.{scenarioIn, Accepts};
 ghost use Rattle.runs.specs.Runs.{RunsAt, IsRun, AgentsAt, FindsEvents, Reads, TellsTrusted};
 use answers::Layout;
 
@@ -53,8 +52,8 @@ fn events_from(file: &[u8], start: usize) -> Events
 
 // Where the runs of an accepted file stand.
 pub fn runs_of(file: &[u8], l: Layout) -> Runs
-    requires { ⌜ ((sc : Scenario) × (opened (now file) ≡ accepted sc) × (l ≡ layoutOf (now file) sc)) ⌝ }
-    ensures { λ r. ⌜ ((sc : Scenario) → opened (now (file .entry)) ≡ accepted sc → RunsAt (now (file .entry)) sc r) ⌝ }
+    requires { ⌜ Accepts (now file) l ⌝ }
+    ensures { λ r. ⌜ RunsAt (now (file .entry)) (scenarioIn (now (file .entry))) r ⌝ }
 {
     let count = l.runs.count;
     let roles = l.roles.count;

@@ -4,13 +4,10 @@ ghost use Prim.Native.Nat.{ℕ, _<_, _≤_};
 ghost use lib.ListN.{length, getD, take};
 ghost use Rattle.semantics.specs.Basic.{total};
 ghost use Rattle.semantics.specs.Answer.{accepted};
-ghost use Rattle.semantics.specs.Scenario.{Scenario, opened};
-ghost use Rattle.semantics.specs.State.{initial, eventsLeft};
-ghost use Rattle.semantics.specs.Moves.{full, movesIn};
-ghost use Rattle.semantics.specs.Tree.{listed};
+ghost use Rattle.semantics.specs.Moves.{full};
 ghost use Rattle.semantics.specs.Verdict.{verdict, searched, written, bufferAfter};
-ghost use Rattle.answers.specs.Answers.{layoutOf, scenarioIn, Accepts, verdictAs, searchedAs};
-ghost use Rattle.breaks.specs.Walk.{Finds};
+ghost use Rattle.answers.specs.Answers.{scenarioIn, Accepts, verdictAs, searchedAs};
+ghost use Rattle.breaks.specs.Walk.{FindsAll};
 use answers::Checked;
 use answers::Layout;
 use answers::Opened;
@@ -39,8 +36,8 @@ fn event_count(r: Runs) -> usize
 
 // Walks through the whole list of an accepted file, with a memory that is empty at first.
 fn walk_all(trace: &mut [u8], file: &[u8], l: Layout, left: usize) -> Walked
-    requires { ⌜ ((sc : Scenario) × (opened (now file) ≡ accepted sc) × (l ≡ layoutOf (now file) sc)) × ((128 ≤ length (now trace)) × (left < 4294967296)) ⌝ }
-    ensures { λ w. ⌜ ((sc : Scenario) → opened (now (file .entry)) ≡ accepted sc → l ≡ layoutOf (now (file .entry)) sc → Finds sc left (listed (movesIn full sc) (eventsLeft sc (initial sc)) (initial sc)) (now (trace .entry)) 0 (now (trace .exit)) w) ⌝ }
+    requires { ⌜ Accepts (now file) l × ((128 ≤ length (now trace)) × (left < 4294967296)) ⌝ }
+    ensures { λ w. ⌜ FindsAll (scenarioIn (now (file .entry))) left (now (trace .entry)) (now (trace .exit)) w ⌝ }
 {
     let runs = runs::runs_of(file, l);
     let rows = l.terms.count;

@@ -14,19 +14,11 @@ use Rattle.answers.specs.declared.Refusal.{Refusal}
 use Rattle.answers.specs.declared.Layout.{Layout}
 use Rattle.answers.specs.declared.Checked.{Checked}
 use Rattle.answers.specs.declared.Checked.the-variants.{Refused, Passed}
-use Rattle.answers.specs.declared.Verdict.{Verdict}
-use Rattle.answers.specs.declared.Verdict.the-variants.{Broken, Held, Stopped}
 use Rattle.answers.specs.declared.Walked.{Walked}
-use Rattle.answers.specs.declared.Walked.the-variants as walking
-use Rattle.answers.specs.Answers.{numbered, checkedAs, layoutOf, openedAs, scenarioOr, scenarioIn, Accepts, verdictAs, walkedAs}
+use Rattle.answers.specs.Answers.{numbered, checkedAs, layoutOf, openedAs, scenarioOr, scenarioIn, Accepts, verdictAs, walkedAs, answered}
 use Rattle.answers.specs.declared.Opened.the-variants as opening
 
--- what a walk answers, as Search answers it
-abbrev pub answered : ℕ → Walked → Verdict
-answered budget (walking.Broken b) = Broken b
-answered budget (walking.Clean m) = Held m
-answered budget walking.Cut = Stopped budget
-
+-- what a walk through the whole list finds is answered with the verdict
 pub answer-found : (es : List Entry) (budget : ℕ) (f : Finding) {w : Walked} → w ≡ walkedAs es f → answered budget w ≡ verdictAs (verdictFrom (length es) budget f)
 answer-found es budget f e = ap (answered budget) e ∙ go f
   where

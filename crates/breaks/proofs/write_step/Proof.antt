@@ -54,7 +54,4 @@ returns c =
 
 pub write-step-spec : {M : Type 1} → statement M
 write-step-spec =
-    tie.close
-    (tie.spec
-    Inv-loop μ-loop (λ c. search needs) (λ c. search needs) (λ c. search needs) (λ c. search needs) (λ c. search needs) slice-write-trace-2 loop-holds (λ c. search needs) (λ c. search needs) (λ c. search needs) slice-write-trace-3
-    (λ c. search needs) (λ c. omega arith) loop-again same-length returns)
+    tie.close (tie.spec Inv-loop μ-loop (λ c. search needs) (λ c. search needs) (λ c. search needs) (λ c. search needs) (λ c. search needs) slice-write-trace-2 loop-holds (λ c. search needs) (λ c. search needs) (λ c. search needs) slice-write-trace-3 (λ c. search needs) (λ c. omega arith) loop-again same-length returns)

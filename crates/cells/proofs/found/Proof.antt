@@ -44,14 +44,4 @@ returns-2 c = none-found (c .before .before .before .before .args .t .now) (c .b
 
 pub found-spec : {M : Type 1} → statement M
 found-spec =
-    tie.close
-    (tie.spec
-    Inv-loop
-    μ-loop
-    loop-holds
-    found-in-row-requires
-    returns
-    add-x
-    loop-less
-    loop-again
-    returns-2)
+    tie.close (tie.spec Inv-loop μ-loop loop-holds found-in-row-requires returns add-x loop-less loop-again returns-2)

@@ -75,19 +75,4 @@ returns-3 c = hasNoRun (λ w l e. c .before .loop .inv .1 w (omega arith)) refl
 
 pub found-in-row-spec : {M : Type 1} → statement M
 found-in-row-spec =
-    tie.close
-    (tie.spec
-    Inv-loop
-    μ-loop
-    kind-of-requires
-    returns
-    loop-holds
-    matches-at-requires
-    cell-requires
-    mul-result
-    shared-slice-read-result
-    returns-2
-    add-w
-    loop-less
-    loop-again
-    returns-3)
+    tie.close (tie.spec Inv-loop μ-loop kind-of-requires returns loop-holds matches-at-requires cell-requires mul-result shared-slice-read-result returns-2 add-w loop-less loop-again returns-3)

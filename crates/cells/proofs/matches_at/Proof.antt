@@ -74,19 +74,4 @@ returns-2 c =
 
 pub matches-at-spec : {M : Type 1} → statement M
 matches-at-spec =
-    tie.close
-    (tie.spec
-    cell-requires
-    mul-if1
-    shared-slice-read-if1
-    returns
-    left-of-requires
-    cell-requires-2
-    mul-first
-    shared-slice-read-first
-    second-of-requires
-    cell-requires-3
-    mul-second
-    shared-slice-read-second
-    same-parts-requires
-    returns-2)
+    tie.close (tie.spec cell-requires mul-if1 shared-slice-read-if1 returns left-of-requires cell-requires-2 mul-first shared-slice-read-first second-of-requires cell-requires-3 mul-second shared-slice-read-second same-parts-requires returns-2)

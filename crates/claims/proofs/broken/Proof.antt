@@ -62,6 +62,4 @@ returns-2 c sc d s′ given is same own =
 
 pub broken-spec : {M : Type 1} → statement M
 broken-spec =
-    tie.close
-    (tie.spec
-    Inv-loop μ-loop loop-holds (λ c. search needs) (λ c. search needs) (λ c. search needs) broken-in-run-requires (λ c. search needs) returns (λ c. search needs) (λ c. search needs) (λ c. omega (arith, c .before .before .before .before .loop-test .taken)) loop-again returns-2)
+    tie.close (tie.spec Inv-loop μ-loop loop-holds (λ c. search needs) (λ c. search needs) (λ c. search needs) broken-in-run-requires (λ c. search needs) returns (λ c. search needs) (λ c. search needs) (λ c. omega (arith, c .before .before .before .before .loop-test .taken)) loop-again returns-2)

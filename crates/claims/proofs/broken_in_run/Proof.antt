@@ -61,17 +61,4 @@ returns-3 c sc d run p at same made =
 
 pub broken-in-run-spec : {M : Type 1} → statement M
 broken-in-run-spec =
-    tie.close
-    (tie.spec
-    Inv-loop
-    μ-loop
-    all-trusted-requires
-    loop-holds
-    (λ c. search needs)
-    claims-derivable-requires
-    (λ c. omega (arith, numbered (entry (c .before .before .before .before .before))))
-    returns
-    (λ c. search needs)
-    loop-again
-    returns-2
-    returns-3)
+    tie.close (tie.spec Inv-loop μ-loop all-trusted-requires loop-holds (λ c. search needs) claims-derivable-requires (λ c. omega (arith, numbered (entry (c .before .before .before .before .before)))) returns (λ c. search needs) loop-again returns-2 returns-3)

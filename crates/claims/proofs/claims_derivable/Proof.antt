@@ -28,14 +28,4 @@ returns-3 c sc d run p at trusts =
 
 pub claims-derivable-spec : {M : Type 1} → statement M
 claims-derivable-spec =
-    tie.close
-    (tie.spec
-    (λ c. search needs)
-    (λ c. search needs)
-    returns
-    (λ c κs. search needs)
-    (λ c. search needs)
-    cell-requires
-    (λ c. search needs)
-    returns-2
-    returns-3)
+    tie.close (tie.spec (λ c. search needs) (λ c. search needs) returns (λ c κs. search needs) (λ c. search needs) cell-requires (λ c. search needs) returns-2 returns-3)

@@ -36,24 +36,4 @@ returns-5 c = let s = c .before .before .before .before .before .before .before 
 
 pub class-of-spec : {M : Type 1} → statement M
 class-of-spec =
-    tie.close
-    (tie.spec
-    (λ c κs. search needs)
-    (λ c κs. search needs)
-    (λ c. search needs)
-    (λ c. search needs)
-    returns
-    (λ c κs. search needs)
-    cell-requires-2
-    (λ c. search needs)
-    (λ c. search needs)
-    returns-2
-    (λ c κs. search needs)
-    cell-requires-3
-    (λ c. search needs)
-    (λ c. search needs)
-    returns-3
-    (λ c κs. search needs)
-    (λ c. search needs)
-    returns-4
-    returns-5)
+    tie.close (tie.spec (λ c κs. search needs) (λ c κs. search needs) (λ c. search needs) (λ c. search needs) returns (λ c κs. search needs) cell-requires-2 (λ c. search needs) (λ c. search needs) returns-2 (λ c κs. search needs) cell-requires-3 (λ c. search needs) (λ c. search needs) returns-3 (λ c κs. search needs) (λ c. search needs) returns-4 returns-5)

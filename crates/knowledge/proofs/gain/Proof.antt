@@ -27,14 +27,4 @@ returns-2 c =
 
 pub gain-spec : {M : Type 1} → statement M
 gain-spec =
-    tie.close
-    (tie.spec
-    (λ c κs. search needs)
-    returns
-    (λ c κs. search needs)
-    (λ c κs. search needs)
-    class-at-requires-2
-    (λ c κs. search needs)
-    class-at-requires-3
-    (λ c κs. search needs)
-    returns-2)
+    tie.close (tie.spec (λ c κs. search needs) returns (λ c κs. search needs) (λ c κs. search needs) class-at-requires-2 (λ c κs. search needs) class-at-requires-3 (λ c κs. search needs) returns-2)

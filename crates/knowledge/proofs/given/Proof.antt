@@ -34,19 +34,4 @@ returns-9 c = whole-idle (is-off (c .before .before .is-marked2 .ensures) (c .be
 
 pub given-spec : {M : Type 1} → statement M
 given-spec =
-    tie.close
-    (tie.spec
-    (λ c κs. search needs)
-    (λ c κs. search needs)
-    (λ c κs. search needs)
-    returns
-    returns-2
-    returns-3
-    returns-4
-    (λ c κs. search needs)
-    returns-5
-    returns-6
-    (λ c κs. search needs)
-    returns-7
-    returns-8
-    returns-9)
+    tie.close (tie.spec (λ c κs. search needs) (λ c κs. search needs) (λ c κs. search needs) returns returns-2 returns-3 returns-4 (λ c κs. search needs) returns-5 returns-6 (λ c κs. search needs) returns-7 returns-8 returns-9)

@@ -43,20 +43,4 @@ returns-5 c =
 
 pub opens-spec : {M : Type 1} → statement M
 opens-spec =
-    tie.close
-    (tie.spec
-    returns
-    returns-2
-    (λ c κs. search needs)
-    (λ c κs. search needs)
-    class-at-requires
-    (λ c κs. search needs)
-    (λ c κs. search needs)
-    returns-3
-    (λ c κs. search needs)
-    class-at-requires-2
-    (λ c κs. search needs)
-    (λ c κs. search needs)
-    returns-4
-    (λ c κs. search needs)
-    returns-5)
+    tie.close (tie.spec returns returns-2 (λ c κs. search needs) (λ c κs. search needs) class-at-requires (λ c κs. search needs) (λ c κs. search needs) returns-3 (λ c κs. search needs) class-at-requires-2 (λ c κs. search needs) (λ c κs. search needs) returns-4 (λ c κs. search needs) returns-5)

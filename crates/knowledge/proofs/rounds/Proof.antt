@@ -50,23 +50,4 @@ returns c = record {
 
 pub rounds-spec : {M : Type 1} → statement M
 rounds-spec =
-    tie.close
-    (tie.spec
-    Inv-loop
-    μ-loop
-    Inv-rounds
-    μ-rounds
-    rounds-holds
-    (λ c. search needs)
-    (λ c κs. search needs)
-    loop-holds
-    (λ c. search needs)
-    (λ c κs. search needs)
-    (λ c. search needs)
-    (λ c. search needs)
-    rounds-less
-    rounds-again
-    (λ c. search needs)
-    (λ c. search needs)
-    loop-again
-    returns)
+    tie.close (tie.spec Inv-loop μ-loop Inv-rounds μ-rounds rounds-holds (λ c. search needs) (λ c κs. search needs) loop-holds (λ c. search needs) (λ c κs. search needs) (λ c. search needs) (λ c. search needs) rounds-less rounds-again (λ c. search needs) (λ c. search needs) loop-again returns)

@@ -27,14 +27,4 @@ returns-2 c = rowIdles (omega arith) (λ w l. c .before .loop .inv .1 w (omega (
 
 pub row-gain-spec : {M : Type 1} → statement M
 row-gain-spec =
-    tie.close
-    (tie.spec
-    Inv-loop
-    μ-loop
-    loop-holds
-    (λ c κs. search needs)
-    returns
-    (λ c. search needs)
-    (λ c. search needs)
-    loop-again
-    returns-2)
+    tie.close (tie.spec Inv-loop μ-loop loop-holds (λ c κs. search needs) returns (λ c. search needs) (λ c. search needs) loop-again returns-2)

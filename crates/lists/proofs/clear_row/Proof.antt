@@ -35,15 +35,4 @@ returns-5 c = let l = c .before .before in
 
 pub clear-row-spec : {M : Type 1} → statement M
 clear-row-spec =
-    tie.close
-    (tie.spec
-    (λ c κs. search needs)
-    returns
-    returns-2
-    (λ c κs. search needs)
-    shared-slice-read-if3
-    returns-3
-    (λ c κs. search needs)
-    shared-slice-read-result
-    returns-4
-    returns-5)
+    tie.close (tie.spec (λ c κs. search needs) returns returns-2 (λ c κs. search needs) shared-slice-read-if3 returns-3 (λ c κs. search needs) shared-slice-read-result returns-4 returns-5)

@@ -32,5 +32,4 @@ returns c = let s = c .before .before .before in filled-all (s .args .t1) (s .ar
 
 pub key-of-spec : {M : Type 1} → statement M
 key-of-spec =
-    tie.close
-    (tie.spec Inv-loop μ-loop (λ c. search needs) cast-key (λ c. search needs) (λ c. search needs) cast-key-2 (λ c. search needs) (λ c. search needs) cast-key-3 (λ c. search needs) (λ c. search needs) cast-key-4 (λ c. search needs) (λ c. search needs) (λ c. search needs) (λ c. search needs) (λ c κs. search needs) (λ c. search needs) (λ c. search needs) loop-again returns)
+    tie.close (tie.spec Inv-loop μ-loop (λ c. search needs) cast-key (λ c. search needs) (λ c. search needs) cast-key-2 (λ c. search needs) (λ c. search needs) cast-key-3 (λ c. search needs) (λ c. search needs) cast-key-4 (λ c. search needs) (λ c. search needs) (λ c. search needs) (λ c. search needs) (λ c κs. search needs) (λ c. search needs) (λ c. search needs) loop-again returns)

@@ -31,17 +31,4 @@ returns-5 c t n runs sc d s a vs names shape due next size ready only =
 
 pub is-allowed-spec : {M : Type 1} → statement M
 is-allowed-spec =
-    tie.close
-    (tie.spec
-    (λ c. search needs)
-    (λ c κs. search needs)
-    (λ c. search needs)
-    (λ c. search needs)
-    (λ c. search needs)
-    returns
-    returns-2
-    returns-3
-    (λ c. search needs)
-    (λ c. search needs)
-    returns-4
-    returns-5)
+    tie.close (tie.spec (λ c. search needs) (λ c κs. search needs) (λ c. search needs) (λ c. search needs) (λ c. search needs) returns returns-2 returns-3 (λ c. search needs) (λ c. search needs) returns-4 returns-5)

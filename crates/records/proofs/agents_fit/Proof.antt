@@ -51,17 +51,4 @@ returns-2 c = let l = c .before in
 
 pub agents-fit-spec : {M : Type 1} → statement M
 agents-fit-spec =
-    tie.close
-    (tie.spec
-    Inv-loop
-    μ-loop
-    (λ c. search needs)
-    (λ c. search needs)
-    (λ c. search needs)
-    (λ c κs. search needs)
-    (λ c κs. search needs)
-    returns
-    (λ c. search needs)
-    (λ c. search needs)
-    loop-again
-    returns-2)
+    tie.close (tie.spec Inv-loop μ-loop (λ c. search needs) (λ c. search needs) (λ c. search needs) (λ c κs. search needs) (λ c κs. search needs) returns (λ c. search needs) (λ c. search needs) loop-again returns-2)

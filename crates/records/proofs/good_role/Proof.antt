@@ -40,18 +40,4 @@ returns-5 c = let d = c .before .before .before .before in
 
 pub good-role-spec : {M : Type 1} → statement M
 good-role-spec =
-    tie.close
-    (tie.spec
-    (λ c κs. search needs)
-    returns
-    returns-2
-    (λ c. search needs)
-    (λ c κs. search needs)
-    (λ c. search needs)
-    (λ c. search needs)
-    (λ c κs. search needs)
-    returns-3
-    (λ c κs. search needs)
-    returns-4
-    (λ c κs. search needs)
-    returns-5)
+    tie.close (tie.spec (λ c κs. search needs) returns returns-2 (λ c. search needs) (λ c κs. search needs) (λ c. search needs) (λ c. search needs) (λ c κs. search needs) returns-3 (λ c κs. search needs) returns-4 (λ c κs. search needs) returns-5)

@@ -23,13 +23,4 @@ returns-4 c = let s = c .before .before .before .before .before .before .before 
 
 pub good-run-spec : {M : Type 1} → statement M
 good-run-spec =
-    tie.close
-    (tie.spec
-    (λ c. search needs)
-    returns
-    returns-2
-    (λ c. search needs)
-    (λ c κs. search needs)
-    returns-3
-    (λ c κs. search needs)
-    returns-4)
+    tie.close (tie.spec (λ c. search needs) returns returns-2 (λ c. search needs) (λ c κs. search needs) returns-3 (λ c κs. search needs) returns-4)

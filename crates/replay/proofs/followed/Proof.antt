@@ -28,7 +28,7 @@ block-of-requires-2 c κs = let p = c .before .before .before .before in (opened
 -- what the file gives
 given : (c : tie.After-block-of Inv-loop μ-loop)
     → Given (c .before .before .before .before .args .file .now) (c .block-of .result .now) (c .before .before .before .before .args .l .terms .count) (c .before .runs-of .result) (scenarioIn (c .before .before .before .before .args .file .now))
-given c = let p = c .before .before .before .before .pre in given-layout _ _ (p .isOpened) (p .layout) (c .before .runs-of .ensures _ (p .isOpened)) (c .block-of .ensures)
+given c = let p = c .before .before .before .before .pre in given-layout _ _ (p .isOpened) (p .layout) (c .before .runs-of .ensures) (c .block-of .ensures)
 
 initial-requires : tie.Need-initial-requires Inv-loop μ-loop
 initial-requires c κs = let p = c .before .before .before .before .before .pre in (_, (given (c .before), opened-knowledge _ _ (p .isOpened) (c .block-of2 .ensures)))

@@ -31,10 +31,4 @@ returns c =
 
 pub classes-of-spec : {M : Type 1} → statement M
 classes-of-spec =
-    tie.close
-    (tie.spec
-    own-names-requires
-    slice-aggregate-refill
-    slice-aggregate-refill-2
-    refill-requires
-    returns)
+    tie.close (tie.spec own-names-requires slice-aggregate-refill slice-aggregate-refill-2 refill-requires returns)

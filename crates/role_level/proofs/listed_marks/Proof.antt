@@ -60,15 +60,4 @@ returns c = record { listed = listed-all (c .before .before .before .args .n) (c
 
 pub listed-marks-spec : {M : Type 1} → statement M
 listed-marks-spec =
-    tie.close
-    (tie.spec
-    Inv-loop
-    μ-loop
-    loop-holds
-    shared-slice-read-wide
-    wide-requires
-    array-write-marks
-    add-i
-    loop-less
-    loop-again
-    returns)
+    tie.close (tie.spec Inv-loop μ-loop loop-holds shared-slice-read-wide wide-requires array-write-marks add-i loop-less loop-again returns)

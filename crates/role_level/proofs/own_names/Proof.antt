@@ -49,15 +49,4 @@ returns c = record { size = c .before .loop .inv .1; own = λ r l. c .before .lo
 
 pub own-names-spec : {M : Type 1} → statement M
 own-names-spec =
-    tie.close
-    (tie.spec
-    Inv-loop
-    μ-loop
-    loop-holds
-    cast-names
-    mul-names
-    array-write-names
-    add-r
-    loop-less
-    loop-again
-    returns)
+    tie.close (tie.spec Inv-loop μ-loop loop-holds cast-names mul-names array-write-names add-r loop-less loop-again returns)

@@ -34,18 +34,4 @@ loop-again c =
 
 pub content-of-spec : {M : Type 1} → statement M
 content-of-spec =
-    tie.close
-    (tie.spec
-    Inv-loop
-    μ-loop
-    (λ c. search needs)
-    (λ c. search needs)
-    (λ c κs. search needs)
-    (λ c. search needs)
-    (λ c κs. search needs)
-    loop-holds
-    (λ c κs. search needs)
-    (λ c κs. search needs)
-    loop-less
-    loop-again
-    (λ c. search needs))
+    tie.close (tie.spec Inv-loop μ-loop (λ c. search needs) (λ c. search needs) (λ c κs. search needs) (λ c. search needs) (λ c κs. search needs) loop-holds (λ c κs. search needs) (λ c κs. search needs) loop-less loop-again (λ c. search needs))

@@ -22,17 +22,4 @@ returns-2 c = λ e. absurd (false≢true e)
 
 pub is-kept-spec : {M : Type 1} → statement M
 is-kept-spec =
-    tie.close
-    (tie.spec
-    Inv-loop
-    μ-loop
-    (λ c. search needs)
-    (λ c. search needs)
-    (λ c. search needs)
-    (λ c κs. search needs)
-    (λ c κs. search needs)
-    returns
-    (λ c. search needs)
-    (λ c. search needs)
-    (λ c. search needs)
-    returns-2)
+    tie.close (tie.spec Inv-loop μ-loop (λ c. search needs) (λ c. search needs) (λ c. search needs) (λ c κs. search needs) (λ c κs. search needs) returns (λ c. search needs) (λ c. search needs) (λ c. search needs) returns-2)

@@ -54,24 +54,4 @@ returns c = let p = c .before .before in
 
 pub event-of-spec : {M : Type 1} → statement M
 event-of-spec =
-    tie.close
-    (tie.spec
-    (λ c. search needs)
-    (λ c. search needs)
-    (λ c. search needs)
-    (λ c. search needs)
-    mul-at-2
-    add-at
-    shared-slice-read-wide
-    (λ c κs. search needs)
-    shared-slice-read-wide-2
-    (λ c κs. search needs)
-    agent-of-requires
-    add-wide
-    shared-slice-read-wide-3
-    (λ c κs. search needs)
-    agent-of-requires-2
-    add-wide-2
-    shared-slice-read-wide-4
-    (λ c κs. search needs)
-    returns)
+    tie.close (tie.spec (λ c. search needs) (λ c. search needs) (λ c. search needs) (λ c. search needs) mul-at-2 add-at shared-slice-read-wide (λ c κs. search needs) shared-slice-read-wide-2 (λ c κs. search needs) agent-of-requires add-wide shared-slice-read-wide-3 (λ c κs. search needs) agent-of-requires-2 add-wide-2 shared-slice-read-wide-4 (λ c κs. search needs) returns)

@@ -32,19 +32,4 @@ returns c = let s = c .before .before .before .before .before .before .before .b
 
 pub events-from-spec : {M : Type 1} → statement M
 events-from-spec =
-    tie.close
-    (tie.spec
-    block-of-requires
-    start-of-requires
-    shared-slice-read-wide
-    (λ c κs. search needs)
-    role-at-requires
-    (λ c. search needs)
-    (λ c. search needs)
-    (λ c κs. search needs)
-    (λ c. search needs)
-    (λ c. search needs)
-    (λ c. search needs)
-    shared-slice-read-wide-3
-    (λ c κs. search needs)
-    returns)
+    tie.close (tie.spec block-of-requires start-of-requires shared-slice-read-wide (λ c κs. search needs) role-at-requires (λ c. search needs) (λ c. search needs) (λ c κs. search needs) (λ c. search needs) (λ c. search needs) (λ c. search needs) shared-slice-read-wide-3 (λ c κs. search needs) returns)

@@ -5,6 +5,7 @@ use mathlib.Core.Path.{_≡_, ap}
 use borrow.Author.Needs.{needs}
 use Rattle.semantics.specs.Answer.{accepted}
 use Rattle.semantics.specs.Scenario.{Scenario, opened}
+use Rattle.answers.specs.Answers.{layoutOf, scenarioIn}
 use Rattle.answers.specs.declared.Layout.{Layout}
 use Rattle.runs.specs.laws.Found.{SomeRun, start-inside}
 use Rattle.runs.specs.laws.Listed.{FoundTo, few-runs, few-roles, found-none, found-run, found-more, found-all}
@@ -18,20 +19,24 @@ Inv-loop file count roles starts₀ firsts₀ events₀ k₀ start₀ starts fir
 abbrev μ-loop : tie.MeasureT-loop
 μ-loop file count roles starts₀ firsts₀ events₀ k₀ start₀ starts firsts events k start = count - k
 
+-- the scenario of the file
+abbrev accepts : (s : tie.Start Inv-loop μ-loop) → (sc : Scenario) × (opened (s .args .file .now) ≡ accepted sc) × (s .args .l ≡ layoutOf (s .args .file .now) sc)
+accepts s = (scenarioIn (s .args .file .now), s .pre .isOpened, s .pre .layout)
+
 loop-holds : tie.Need-loop-holds Inv-loop μ-loop
 loop-holds c = let s = c .before in
     let file = s .args .file .now in (
       omega arith,
-      omega (arith, few-runs file (s .pre .0) (s .pre .1), ap (λ (l : Layout). l .runs .count) (s .pre .2)),
-      omega (arith, few-roles file (s .pre .0) (s .pre .1), ap (λ (l : Layout). l .roles .count) (s .pre .2)),
-      λ sc e. found-none file sc e (s .pre),
+      omega (arith, few-runs file (accepts s .0) (accepts s .1), ap (λ (l : Layout). l .runs .count) (accepts s .2)),
+      omega (arith, few-roles file (accepts s .0) (accepts s .1), ap (λ (l : Layout). l .roles .count) (accepts s .2)),
+      λ sc e. found-none file sc e (accepts s),
     )
 
 -- the run at the offset
 someRun : (c : tie.In-loop Inv-loop μ-loop) → SomeRun (c .before .before .before .args .file .now) (c .before .loop .start)
 someRun c = let l = c .before in
     let s = l .before .before in
-    (s .pre .0, l .loop .k, found-run (s .args .file .now) (s .pre .0) (s .pre .1) (l .loop .inv .3 (s .pre .0) (s .pre .1)) (c .loop-test .taken))
+    (accepts s .0, l .loop .k, found-run (s .args .file .now) (accepts s .0) (accepts s .1) (l .loop .inv .3 (accepts s .0) (accepts s .1)) (c .loop-test .taken))
 
 events-from-requires : tie.Need-events-from-requires Inv-loop μ-loop
 events-from-requires c κs = someRun c
@@ -47,25 +52,9 @@ loop-again c = let l = c .before .before in
 
 returns : tie.Need-returns Inv-loop μ-loop
 returns c = let l = c .before in
-    λ sc e. found-all (l .before .before .args .file .now) sc e (l .loop .inv .3 sc e) (c .loop-test .left)
+    let w = accepts (l .before .before) in
+    found-all (l .before .before .args .file .now) (w .0) (w .1) (l .loop .inv .3 (w .0) (w .1)) (c .loop-test .left)
 
 pub runs-of-spec : {M : Type 1} → statement M
 runs-of-spec =
-    tie.close
-    (tie.spec
-    Inv-loop
-    μ-loop
-    loop-holds
-    events-from-requires
-    (λ c. search needs)
-    (λ c. search needs)
-    (λ c. search needs)
-    (λ c. search needs)
-    (λ c. search needs)
-    (λ c. search needs)
-    (λ c. search needs)
-    add-start-2
-    (λ c. search needs)
-    (λ c. search needs)
-    loop-again
-    returns)
+    tie.close (tie.spec Inv-loop μ-loop loop-holds events-from-requires (λ c. search needs) (λ c. search needs) (λ c. search needs) (λ c. search needs) (λ c. search needs) (λ c. search needs) (λ c. search needs) add-start-2 (λ c. search needs) (λ c. search needs) loop-again returns)

@@ -9,16 +9,15 @@ use Rattle.semantics.specs.Answer.{accepted}
 use Rattle.semantics.specs.Runs.{Run}
 use Rattle.semantics.specs.Scenario.{Scenario, opened}
 use Rattle.semantics.specs.State.{Progress, initial, eventsLeft}
-use Rattle.semantics.specs.Moves.{full, movesIn}
-use Rattle.semantics.specs.Tree.{listed, stays}
-use Rattle.semantics.specs.Verdict.{traceBytes}
+use Rattle.semantics.specs.Tree.{stays}
+use Rattle.semantics.specs.Verdict.{traceBytes, traceList}
 use Rattle.state.specs.State.{Given, IsState}
 use Rattle.state.specs.declared.State.{State}
 use Rattle.memory.specs.laws.Words.{zeros-read}
 use Rattle.answers.specs.declared.Walked.{Walked}
 use Rattle.breaks.specs.declared.Plan.{Plan}
 use Rattle.breaks.specs.declared.Reach.{Reach}
-use Rattle.breaks.specs.Walk.{stateOf, nextIn, Finds, SomeState, FindsFrom}
+use Rattle.breaks.specs.Walk.{stateOf, nextIn, FindsAll, SomeState, FindsFrom}
 
 -- no run has made an event before any move
 first-done : (rs : List Run) (k : ℕ) (p : Progress) → getElem? (map (λ run. record { done = 0; values = [] }) rs) k ≡ some p → 0 ≡ p .done
@@ -43,6 +42,6 @@ module _ {file t : List ℕ} (plan : Plan) {sc : Scenario} {s : State} (isOpened
 
   -- what is found from it on is what is found in the list of all traces
   pub first-finds : {left depth : ℕ} → depth ≡ eventsLeft sc (initial sc) → {b b′ : List ℕ} {w : Walked} → FindsFrom file t plan (stateOf (record { done = done }) (s .names) (s .classes) (s .marks)) (record { left = left; at = 0; depth = depth }) b b′ w
-      → Finds sc left (listed (movesIn full sc) (eventsLeft sc (initial sc)) (initial sc)) b 0 b′ w
-  unfolding nextIn state-first
+      → FindsAll sc left b b′ w
+  unfolding nextIn traceList state-first
   first-finds e told = rw (← e) (told state-first)

@@ -31,15 +31,4 @@ returns c = let same : c .before .loop .k ≡ c .before .before .args .t1 .count
 
 pub event-count-spec : {M : Type 1} → statement M
 event-count-spec =
-    tie.close
-    (tie.spec
-    Inv-loop
-    μ-loop
-    (λ c. search needs)
-    (λ c. search needs)
-    (λ c. search needs)
-    add-sum
-    (λ c. search needs)
-    (λ c. search needs)
-    loop-again
-    returns)
+    tie.close (tie.spec Inv-loop μ-loop (λ c. search needs) (λ c. search needs) (λ c. search needs) add-sum (λ c. search needs) (λ c. search needs) loop-again returns)

@@ -13,43 +13,43 @@ use Rattle.search.proofs.walk_all.Statement.{statement}
 use Rattle.search.proofs.walk_all.Tie as tie
 
 block-of-requires : tie.Need-block-of-requires
-block-of-requires c κs = let p = c .before .before .before .pre .0 in (opened-framed _ (p .0) (p .1), omega arith)
+block-of-requires c κs = let p = c .before .before .before .pre .0 in (opened-framed _ _ (p .isOpened), omega arith)
 
 block-of-requires-2 : tie.Need-block-of-requires-2
-block-of-requires-2 c κs = let p = c .before .before .before .before .pre .0 in (opened-framed _ (p .0) (p .1), omega arith)
+block-of-requires-2 c κs = let p = c .before .before .before .before .pre .0 in (opened-framed _ _ (p .isOpened), omega arith)
 
 initial-requires : tie.Need-initial-requires
 initial-requires c κs =
     let p = c .before .before .before .before .before .pre .0 in
-    (p .0, (given-layout _ (p .0) (p .1) (p .2) (c .before .before .runs-of .ensures (p .0) (p .1)) (c .before .block-of .ensures), opened-knowledge _ (p .0) (p .1) (c .block-of2 .ensures)))
+    (_, (given-layout _ _ (p .isOpened) (p .layout) (c .before .before .runs-of .ensures) (c .before .block-of .ensures), opened-knowledge _ _ (p .isOpened) (c .block-of2 .ensures)))
 
 variable-rows-requires : tie.Need-variable-rows-requires
 variable-rows-requires c κs =
     let p = c .before .before .before .before .before .before .before .before .before .pre .0 in
-    let shape = given-layout _ (p .0) (p .1) (p .2) (c .before .before .before .before .before .before .runs-of .ensures (p .0) (p .1)) (c .before .before .before .before .before .block-of .ensures) .shape in
+    let shape = given-layout _ _ (p .isOpened) (p .layout) (c .before .before .before .before .before .before .runs-of .ensures) (c .before .before .before .before .before .block-of .ensures) .shape in
     record { table = shape .table; count = shape .count; size = shape .size; few = shape .few }
 
 slice-aggregate-walk-3 : tie.Need-slice-aggregate-walk-3
 slice-aggregate-walk-3 c =
     let p = c .before .before .before .before .before .before .before .before .before .before .before .before .before .before .pre .0 in
-    let given = given-layout _ (p .0) (p .1) (p .2) (c .before .before .before .before .before .before .before .before .before .before .before .runs-of .ensures (p .0) (p .1)) (c .before .before .before .before .before .before .before .before .before .before .block-of .ensures) in
-    let state = c .before .before .before .before .before .before .before .before .initial .ensures (p .0) given (opened-knowledge _ (p .0) (p .1) (c .before .before .before .before .before .before .before .before .before .block-of2 .ensures)) in
+    let given = given-layout _ _ (p .isOpened) (p .layout) (c .before .before .before .before .before .before .before .before .before .before .before .runs-of .ensures) (c .before .before .before .before .before .before .before .before .before .before .block-of .ensures) in
+    let state = c .before .before .before .before .before .before .before .before .initial .ensures _ given (opened-knowledge _ _ (p .isOpened) (c .before .before .before .before .before .before .before .before .before .block-of2 .ensures)) in
     search (needs, state .arrays .classed .size)
 
 event-count-requires : tie.Need-event-count-requires
 event-count-requires c κs =
     let p = c .before .before .before .before .before .before .before .before .before .before .before .before .before .before .pre .0 in
-    let runs = c .before .before .before .before .before .before .before .before .before .before .before .runs-of .ensures (p .0) (p .1) in
+    let runs = c .before .before .before .before .before .before .before .before .before .before .before .runs-of .ensures in
     (runs .few, runs .small)
 
 walk-requires : tie.Need-walk-requires
 walk-requires c κs =
     let start = c .before .before .before .before .before .before .before .before .before .before .before .before .before .before .before in
     let p = start .pre .0 in
-    let runs = c .before .before .before .before .before .before .before .before .before .before .before .before .runs-of .ensures (p .0) (p .1) in
-    let given = given-layout _ (p .0) (p .1) (p .2) runs (c .before .before .before .before .before .before .before .before .before .before .before .block-of .ensures) in
-    let state = c .before .before .before .before .before .before .before .before .before .initial .ensures (p .0) given (opened-knowledge _ (p .0) (p .1) (c .before .before .before .before .before .before .before .before .before .before .block-of2 .ensures)) in (
-      state-first _ (p .1) given state refl,
+    let runs = c .before .before .before .before .before .before .before .before .before .before .before .before .runs-of .ensures in
+    let given = given-layout _ _ (p .isOpened) (p .layout) runs (c .before .before .before .before .before .before .before .before .before .before .before .block-of .ensures) in
+    let state = c .before .before .before .before .before .before .before .before .before .initial .ensures _ given (opened-knowledge _ _ (p .isOpened) (c .before .before .before .before .before .before .before .before .before .before .block-of2 .ensures)) in (
+      state-first _ (p .isOpened) given state refl,
       record { buffer = start .pre .1 .0; budget = start .pre .1 .1; moves = omega (arith, c .event-count .ensures .1); remembers = remembers-start _ _ _ (c .before .before .before .before .before .variable-rows .ensures) refl },
     )
 
@@ -57,12 +57,13 @@ events-size : (c : tie.After-runs-of) → length (c .runs-of .result .events) �
 events-size c = search needs
 
 returns : tie.Need-returns
-returns c sc o l =
-    let runs = c .before .before .before .before .before .before .before .before .before .before .before .before .before .before .before .before .runs-of .ensures sc o in
-    let given = given-layout _ sc o l runs (c .before .before .before .before .before .before .before .before .before .before .before .before .before .before .before .block-of .ensures) in
-    let state = c .before .before .before .before .before .before .before .before .before .before .before .before .before .initial .ensures sc given (opened-knowledge _ sc o (c .before .before .before .before .before .before .before .before .before .before .before .before .before .before .block-of2 .ensures)) in
-    let depth = c .before .before .before .before .event-count .ensures .0 ∙ total-left _ sc _ runs (events-size (c .before .before .before .before .before .before .before .before .before .before .before .before .before .before .before .before)) in
-    first-finds _ o given state refl depth (c .before .before .before .walk .ensures .0)
+returns c =
+    let p = c .before .before .before .before .before .before .before .before .before .before .before .before .before .before .before .before .before .before .before .pre .0 in
+    let runs = c .before .before .before .before .before .before .before .before .before .before .before .before .before .before .before .before .runs-of .ensures in
+    let given = given-layout _ _ (p .isOpened) (p .layout) runs (c .before .before .before .before .before .before .before .before .before .before .before .before .before .before .before .block-of .ensures) in
+    let state = c .before .before .before .before .before .before .before .before .before .before .before .before .before .initial .ensures _ given (opened-knowledge _ _ (p .isOpened) (c .before .before .before .before .before .before .before .before .before .before .before .before .before .before .block-of2 .ensures)) in
+    let depth = c .before .before .before .before .event-count .ensures .0 ∙ total-left _ _ _ runs (events-size (c .before .before .before .before .before .before .before .before .before .before .before .before .before .before .before .before)) in
+    first-finds _ (p .isOpened) given state refl depth (c .before .before .before .walk .ensures .0)
 
 pub walk-all-spec : {M : Type 1} → statement M
 walk-all-spec = tie.close (tie.spec (λ c κs. search needs) block-of-requires block-of-requires-2 initial-requires variable-rows-requires (λ c. search needs) (λ c. search needs) slice-aggregate-walk-3 event-count-requires walk-requires (λ c. search needs) returns)

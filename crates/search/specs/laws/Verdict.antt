@@ -18,8 +18,8 @@ use Rattle.semantics.specs.Moves.{full, movesIn}
 use Rattle.semantics.specs.Tree.{listed, stays}
 use Rattle.semantics.specs.Verdict.{Entry, Finding, found, nothing, cut, walked, Verdict, verdictFrom, verdict, traceList, traceBytes, shortBuffer, searched, written, bufferAfter, searchedIn, bufferIn}
 use Rattle.semantics.specs.laws.Open.{opened-inverts}
-use Rattle.answers.specs.Answers.{scenarioIn, checkedAs, openedAs, verdictAs, searchedAs, walkedAs}
-use Rattle.answers.specs.laws.Answers.{opened-refused}
+use Rattle.answers.specs.Answers.{scenarioIn, checkedAs, openedAs, verdictAs, searchedAs, answered}
+use Rattle.answers.specs.laws.Answers.{opened-refused, answer-found}
 use Rattle.answers.specs.declared.Refusal.{Refusal}
 use Rattle.answers.specs.declared.Checked.the-variants as checking
 use Rattle.answers.specs.declared.Opened.the-variants as opening
@@ -40,15 +40,14 @@ module _ (sc : Scenario) (before : List ℕ) where
   buffer-found size budget nothing = refl
   buffer-found size budget cut = refl
 
-  -- the verdict, by a walk through all traces with the file's budget and what is answered to it
-  pub verdict-walked : {after : List ℕ} {w : Walked} {left : ℕ} → left ≡ sc .budget → {depth : ℕ} → depth ≡ eventsLeft sc (initial sc) → Finds sc left (listed (movesIn full sc) depth (initial sc)) before 0 after w
-      → {r : CodeVerdict} → ((es : List Entry) (f : Finding) → w ≡ walkedAs es f → r ≡ verdictAs (verdictFrom (length es) left f)) → (r ≡ verdictAs (verdict full sc)) × (after ≡ written before (accepted (verdict full sc)))
-  unfolding verdict traceList
-  verdict-walked {left = left} e {depth} l finds answers =
-      let es = listed (movesIn full sc) depth (initial sc) in
-      let whole : verdictFrom (length es) left (walked (judged sc) left es) ≡ verdict full sc =
-      (λ i. verdictFrom (length (listed (movesIn full sc) (l i) (initial sc))) (e i) (walked (judged sc) (e i) (listed (movesIn full sc) (l i) (initial sc)))) in (
-        answers es (walked (judged sc) left es) (finds .answer) ∙ ap verdictAs whole,
+  -- the verdict, by a walk through the whole list with the file's budget and what is answered to it
+  pub verdict-walked : {after : List ℕ} {w : Walked} {left : ℕ} → left ≡ sc .budget → Finds sc left (traceList full sc) before 0 after w → {r : CodeVerdict} → r ≡ answered left w
+      → (r ≡ verdictAs (verdict full sc)) × (after ≡ written before (accepted (verdict full sc)))
+  unfolding verdict
+  verdict-walked {left = left} e finds answer =
+      let es = traceList full sc in
+      let whole : verdictFrom (length es) left (walked (judged sc) left es) ≡ verdict full sc = (λ i. verdictFrom (length es) (e i) (walked (judged sc) (e i) es)) in (
+        answer ∙ answer-found es left (walked (judged sc) left es) (finds .answer) ∙ ap verdictAs whole,
         finds .buffer ∙ buffer-found (length es) left (walked (judged sc) left es) ∙ ap (λ (v : Verdict). written before (accepted v)) whole,
       )
 
@@ -59,8 +58,9 @@ module _ (file : List ℕ) (sc : Scenario) (isOpened : opened file ≡ accepted 
   opened-budget e = e ∙ sym (ap (λ (x : Scenario). x .budget) (opened-inverts file sc isOpened .scenario))
 
 -- the walk with no budget
-pub first-cut : (sc : Scenario) {left : ℕ} → left ≡ 0 → (depth : ℕ) (before : List ℕ) → Finds sc left (listed (movesIn full sc) depth (initial sc)) before 0 before walking.Cut
-first-cut sc {left} z depth before = walk-cut (movesIn full sc) sc left (initial sc) before 0 depth z
+pub first-cut : (sc : Scenario) {left : ℕ} → left ≡ 0 → (before : List ℕ) → Finds sc left (traceList full sc) before 0 before walking.Cut
+unfolding traceList
+first-cut sc {left} z before = walk-cut (movesIn full sc) sc left (initial sc) before 0 (eventsLeft sc (initial sc)) z
 
 module _ (file buffer : List ℕ) where
   -- a refused file

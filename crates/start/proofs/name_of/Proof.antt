@@ -41,7 +41,4 @@ returns-6 c =
 
 pub name-of-spec : {M : Type 1} → statement M
 name-of-spec =
-    tie.close
-    (tie.spec
-    (λ c κs. search needs) (λ c. search needs) returns returns-2 (λ c κs. search needs) (λ c. search needs) (λ c κs. search needs) (λ c. search needs) returns-3 returns-4 (λ c κs. search needs)
-    (λ c. search needs) returns-5 returns-6)
+    tie.close (tie.spec (λ c κs. search needs) (λ c. search needs) returns returns-2 (λ c κs. search needs) (λ c. search needs) (λ c κs. search needs) (λ c. search needs) returns-3 returns-4 (λ c κs. search needs) (λ c. search needs) returns-5 returns-6)

@@ -41,5 +41,4 @@ returns c =
 
 pub start-marks-spec : {M : Type 1} → statement M
 start-marks-spec =
-    tie.close
-    (tie.spec Inv-loop μ-loop (λ c κs. search needs) loop-holds (λ c. search needs) (λ c κs. search needs) array-write-marks (λ c. search needs) (λ c. omega arith) loop-again returns)
+    tie.close (tie.spec Inv-loop μ-loop (λ c κs. search needs) loop-holds (λ c. search needs) (λ c κs. search needs) array-write-marks (λ c. search needs) (λ c. omega arith) loop-again returns)

@@ -34,6 +34,4 @@ returns-2 c sc runs good =
 
 pub agents-of-spec : {M : Type 1} → statement M
 agents-of-spec =
-    tie.close
-    (tie.spec
-    (λ c. search needs) (λ c. search needs) (λ c. search needs) returns (λ c. search needs) (λ c. search needs) (λ c. search needs) add-first add-end (λ c. search needs) (λ c. search needs) part-result-end-2 returns-2)
+    tie.close (tie.spec (λ c. search needs) (λ c. search needs) (λ c. search needs) returns (λ c. search needs) (λ c. search needs) (λ c. search needs) add-first add-end (λ c. search needs) (λ c. search needs) part-result-end-2 returns-2)

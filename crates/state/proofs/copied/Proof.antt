@@ -35,5 +35,4 @@ returns c =
 
 pub copied-spec : {M : Type 1} → statement M
 copied-spec =
-    tie.close
-    (tie.spec Inv-loop μ-loop (λ c. (omega arith, length-replicate {A = ℕ} 480 0, refl)) (λ c. search needs) (λ c. search needs) (λ c. search needs) (λ c. search needs) (λ c. search needs) (λ c. omega (arith, c .before .loop-test .taken)) loop-again returns)
+    tie.close (tie.spec Inv-loop μ-loop (λ c. (omega arith, length-replicate {A = ℕ} 480 0, refl)) (λ c. search needs) (λ c. search needs) (λ c. search needs) (λ c. search needs) (λ c. search needs) (λ c. omega (arith, c .before .loop-test .taken)) loop-again returns)

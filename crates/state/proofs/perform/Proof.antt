@@ -28,6 +28,4 @@ returns-3 c sc d s a vs names next size ready only =
 
 pub perform-spec : {M : Type 1} → statement M
 perform-spec =
-    tie.close
-    (tie.spec
-    was-read-requires returns (λ c κs. search needs) returns-2 returns-3)
+    tie.close (tie.spec was-read-requires returns (λ c κs. search needs) returns-2 returns-3)

@@ -18,6 +18,4 @@ returns-3 c t n runs sc d s a vs names classes shape due next size ready kind = 
 
 pub was-read-spec : {M : Type 1} → statement M
 was-read-spec =
-    tie.close
-    (tie.spec
-    (λ c. search needs) (λ c κs. search needs) (λ c. search needs) (λ c. search needs) (λ c. search needs) returns returns-2 returns-3)
+    tie.close (tie.spec (λ c. search needs) (λ c κs. search needs) (λ c. search needs) (λ c. search needs) (λ c. search needs) returns returns-2 returns-3)

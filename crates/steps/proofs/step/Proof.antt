@@ -113,6 +113,4 @@ returns-7 c sc d given state =
 
 pub step-spec : {M : Type 1} → statement M
 step-spec =
-    tie.close
-    (tie.spec
-    returns (λ c. search needs) (λ c κs. search needs) (λ c. search needs) (λ c κs. search needs) (λ c. search needs) (λ c. search needs) returns-2 returns-3 returns-4 (λ c. search needs) (λ c. search needs) (λ c. search needs) (λ c. search needs) (λ c. search needs) returns-5 event-of-requires (λ c. search needs) (λ c. search needs) (λ c. search needs) valued-requires slice-aggregate-worked (λ c. search (needs, c .before .before .before .before .before .before .before .valued .ok)) worked-requires (λ c. search needs) perform-requires advance-requires returns-6 returns-7)
+    tie.close (tie.spec returns (λ c. search needs) (λ c κs. search needs) (λ c. search needs) (λ c κs. search needs) (λ c. search needs) (λ c. search needs) returns-2 returns-3 returns-4 (λ c. search needs) (λ c. search needs) (λ c. search needs) (λ c. search needs) (λ c. search needs) returns-5 event-of-requires (λ c. search needs) (λ c. search needs) (λ c. search needs) valued-requires slice-aggregate-worked (λ c. search (needs, c .before .before .before .before .before .before .before .valued .ok)) worked-requires (λ c. search needs) perform-requires advance-requires returns-6 returns-7)

@@ -67,25 +67,4 @@ returns-2 c = let l = c .before in
 
 pub ill-formed-spec : {M : Type 1} → statement M
 ill-formed-spec =
-    tie.close
-    (tie.spec
-    Inv-loop
-    μ-loop
-    (λ c κs. search needs)
-    loop-holds
-    (λ c. search needs)
-    (λ c. search needs)
-    (λ c. search needs)
-    (λ c. search needs)
-    ill-formed-role-requires
-    (λ c. search needs)
-    (λ c. search needs)
-    add-t19
-    returns
-    (λ c. search needs)
-    (λ c κs. search needs)
-    (λ c. search needs)
-    (λ c. search needs)
-    (λ c. search needs)
-    loop-again
-    returns-2)
+    tie.close (tie.spec Inv-loop μ-loop (λ c κs. search needs) loop-holds (λ c. search needs) (λ c. search needs) (λ c. search needs) (λ c. search needs) ill-formed-role-requires (λ c. search needs) (λ c. search needs) add-t19 returns (λ c. search needs) (λ c κs. search needs) (λ c. search needs) (λ c. search needs) (λ c. search needs) loop-again returns-2)

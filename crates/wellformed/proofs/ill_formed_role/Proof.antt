@@ -97,35 +97,4 @@ returns-2 c = let l = c .before in
 
 pub ill-formed-role-spec : {M : Type 1} → statement M
 ill-formed-role-spec =
-    tie.close
-    (tie.spec
-    Inv-loop
-    μ-loop
-    (λ c. search needs)
-    (λ c κs. search needs)
-    (λ c. search needs)
-    (λ c. search needs)
-    (λ c. search needs)
-    (λ c. search needs)
-    (λ c. search needs)
-    marks-of-requires
-    (λ c. search needs)
-    (λ c κs. search needs)
-    loop-holds
-    (λ c. search needs)
-    (λ c. search needs)
-    shared-slice-read-wide-3
-    (λ c κs. search needs)
-    (λ c. search needs)
-    shared-slice-read-wide-4
-    (λ c κs. search needs)
-    (λ c. search needs)
-    shared-slice-read-wide-5
-    (λ c κs. search needs)
-    is-well-formed-requires
-    returns
-    event-learned-requires
-    (λ c. search needs)
-    (λ c. search needs)
-    loop-again
-    returns-2)
+    tie.close (tie.spec Inv-loop μ-loop (λ c. search needs) (λ c κs. search needs) (λ c. search needs) (λ c. search needs) (λ c. search needs) (λ c. search needs) (λ c. search needs) marks-of-requires (λ c. search needs) (λ c κs. search needs) loop-holds (λ c. search needs) (λ c. search needs) shared-slice-read-wide-3 (λ c κs. search needs) (λ c. search needs) shared-slice-read-wide-4 (λ c κs. search needs) (λ c. search needs) shared-slice-read-wide-5 (λ c κs. search needs) is-well-formed-requires returns event-learned-requires (λ c. search needs) (λ c. search needs) loop-again returns-2)

@@ -41,16 +41,4 @@ returns-4 c =
 
 pub is-well-formed-spec : {M : Type 1} → statement M
 is-well-formed-spec =
-    tie.close
-    (tie.spec
-    (λ c. search needs)
-    (λ c κs. search needs)
-    returns
-    (λ c. search needs)
-    (λ c κs. search needs)
-    returns-2
-    (λ c. search needs)
-    is-readable-requires
-    returns-3
-    (λ c. search needs)
-    returns-4)
+    tie.close (tie.spec (λ c. search needs) (λ c κs. search needs) returns (λ c. search needs) (λ c κs. search needs) returns-2 (λ c. search needs) is-readable-requires returns-3 (λ c. search needs) returns-4)

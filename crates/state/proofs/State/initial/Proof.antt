@@ -65,7 +65,4 @@ returns c sc given e =
 
 pub initial-spec : {M : Type 1} → statement M
 initial-spec =
-    tie.close
-    (tie.spec
-    Inv-loop μ-loop loop-holds agents-of-requires entered-requires (λ c. search needs) (λ c. search needs) refill-requires (λ c. search needs) (λ c. omega arith) loop-again start-marks-requires (λ c. search needs)
-    settle-requires returns)
+    tie.close (tie.spec Inv-loop μ-loop loop-holds agents-of-requires entered-requires (λ c. search needs) (λ c. search needs) refill-requires (λ c. search needs) (λ c. omega arith) loop-again start-marks-requires (λ c. search needs) settle-requires returns)
