@@ -20,12 +20,12 @@ use Rattle.completions.specs.declared.Pattern.{Pattern}
 
 -- the table, classes and marks of a partial choice, and the pattern that is read
 pub record Scene (bytes classes : List ℕ) (marks : List Bool) (pattern : Pattern) : Type 0 where
-  pub shape : Shape bytes (pattern .rows) (pattern .runs)
+  pub shape : Shape bytes (pattern .scope .rows) (pattern .scope .runs)
   pub classed : length classes ≡ cellCount
   pub marked : length marks ≡ cellCount
-  pub run : pattern .run ≤ pattern .runs
-  pub row : pattern .row < pattern .rows
-  pub low : AreVariables bytes (pattern .rows) (pattern .vars)
+  pub run : pattern .scope .run ≤ pattern .scope .runs
+  pub row : pattern .row < pattern .scope .rows
+  pub low : AreVariables bytes (pattern .scope .rows) (pattern .vars)
 
 -- the new value of a row is that of a cell which its variable may take
 pub record TakesCell {bytes : List ℕ} {n runs : ℕ} {classes : List ℕ} {u : ℕ} (s : Extension bytes n runs classes u) (q : ℕ) : Type 0 where
@@ -39,10 +39,10 @@ pub record TakesCell {bytes : List ℕ} {n runs : ℕ} {classes : List ℕ} {u :
 
 -- A completion: readings that grow from those for which classes and marks are right, and give each variable a value that it may take.
 pub record Completion (bytes classes : List ℕ) (marks : List Bool) (pattern : Pattern) : Type 0 where
-  pub extension : Extension bytes (pattern .rows) (pattern .runs) classes (pattern .run)
+  pub extension : Extension bytes (pattern .scope .rows) (pattern .scope .runs) classes (pattern .scope .run)
   pub known : List Term
-  pub exact : Exact (rowsOf bytes) (pattern .runs) (extension .old) known marks
-  pub celled : Celled (rowsOf bytes) (pattern .runs) (extension .old) known
+  pub exact : Exact (rowsOf bytes) (pattern .scope .runs) (extension .old) known marks
+  pub celled : Celled (rowsOf bytes) (pattern .scope .runs) (extension .old) known
   pub filled : (i : ℕ) → i < pattern .vars .count → TakesCell extension (getD (pattern .vars .rows) i 0)
 
 module _ {bytes classes : List ℕ} {marks : List Bool} {pattern : Pattern} (k : Completion bytes classes marks pattern) where
@@ -56,11 +56,11 @@ module _ {bytes classes : List ℕ} {marks : List Bool} {pattern : Pattern} (k :
 
   -- the new value of a row is derivable
   abbrev pub GetsDerivable : ℕ → Type 0
-  GetsDerivable r = (t : Term) × Has bytes (k .extension .new) r (pattern .run) t × Derives (k .known) t
+  GetsDerivable r = (t : Term) × Has bytes (k .extension .new) r (pattern .scope .run) t × Derives (k .known) t
 
   -- a row gets the value of a marked cell of its kind that stands for its own value
   pub record FromMark (r y w : ℕ) : Type 0 where
-    pub inside : Inside (pattern .rows) (pattern .runs) y w
+    pub inside : Inside (pattern .scope .rows) (pattern .scope .runs) y w
     pub kind : kindAt bytes y ≡ kindAt bytes r
     pub marked : Marked marks y w
     pub own : classAt classes y w ≡ cellOf y w
@@ -99,7 +99,7 @@ module _ (bytes classes : List ℕ) (marks : List Bool) (pattern : Pattern) wher
 
     -- what the set of row r is made of: those of its parts
     abbrev pub RowsReady : List Bool → ℕ → ℕ → List Bool → Type 0
-    RowsReady marked i r sets = Ready marked × (RowsMissNone i sets × ((i < pattern .vars .count) × (r < pattern .rows)))
+    RowsReady marked i r sets = Ready marked × (RowsMissNone i sets × ((i < pattern .vars .count) × (r < pattern .scope .rows)))
 
     -- domains that miss no completion with which the pattern is derivable, where those before miss none
     abbrev pub Kept : List Bool → Type 0

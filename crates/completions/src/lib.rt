@@ -13,14 +13,13 @@ use cells::cell;
 use domains::Domains;
 use domains::Sets;
 use fits::Needs;
+use fits::Scope;
 use rows::Kind;
 use variables::VariableRows;
 
-// A pattern that is read: its run and row, in a table with so many rows and a scenario with so many runs, and its variables without a value.
+// A pattern that is read: its run and row, and its variables without a value.
 pub struct Pattern {
-    pub rows: usize,
-    pub runs: usize,
-    pub run: usize,
+    pub scope: Scope,
     pub row: usize,
     pub vars: VariableRows,
 }
@@ -35,12 +34,12 @@ fn needs_at(
     r: usize,
     c: usize,
 ) -> Needs
-    requires { ⌜ Scene (now t) (now classes) (now marks) pattern × ((r < pattern .rows) × (c < cellCount)) ⌝ }
+    requires { ⌜ Scene (now t) (now classes) (now marks) pattern × ((r < pattern .scope .rows) × (c < cellCount)) ⌝ }
     ensures { λ needs. ⌜ NeedsAt (now (t .entry)) (now (classes .entry)) (now (marks .entry)) pattern (now (dom .entry)) r c (needs .met) (needs .rows) ⌝ }
 {
     let none = [Cells::ABSENT; 96];
     let y = c % 96;
-    if pattern.rows <= y {
+    if pattern.scope.rows <= y {
         return Needs {
             met: false,
             rows: none,
@@ -59,15 +58,7 @@ fn needs_at(
             rows: none,
         };
     }
-    let needs = fits::needs_of(
-        t,
-        pattern.rows,
-        pattern.runs,
-        classes,
-        pattern.run,
-        r,
-        class,
-    );
+    let needs = fits::needs_of(t, classes, pattern.scope, r, class);
     let need = needs.rows;
     let vars = pattern.vars;
     if domains::fit(dom, vars, need) {
@@ -114,7 +105,7 @@ fn matched(
     i: usize,
     r: usize,
 ) -> [bool; Cells::COUNT]
-    requires { ⌜ Scene (now t) (now classes) (now marks) pattern × ((i < pattern .vars .count) × (r < pattern .rows)) ⌝ }
+    requires { ⌜ Scene (now t) (now classes) (now marks) pattern × ((i < pattern .vars .count) × (r < pattern .scope .rows)) ⌝ }
     ensures { λ set. ⌜ Matched (now (t .entry)) (now (classes .entry)) (now (marks .entry)) pattern (now (dom .entry)) i r set ⌝ }
 {
     let vars = pattern.vars;
@@ -171,8 +162,8 @@ fn set_at(
     requires { ⌜ RowsReady (now t) (now classes) (now marks) pattern (now dom) (now marked) i r (now sets) ⌝ }
     ensures { λ set. ⌜ MissesNone (now (t .entry)) (now (classes .entry)) (now (marks .entry)) pattern (now (dom .entry)) i r (In set) ⌝ }
 {
-    if knowledge::class_at(classes, r, pattern.run) < Cells::ABSENT {
-        let mark = marks[cell(r, pattern.run)];
+    if knowledge::class_at(classes, r, pattern.scope.run) < Cells::ABSENT {
+        let mark = marks[cell(r, pattern.scope.run)];
         return [mark; Cells::COUNT];
     }
     let kind = rows::kind_of(t, r);
@@ -370,10 +361,10 @@ fn tied(
     dom: &[bool; Domains::CELLS],
     below: &[bool; 96],
 ) -> usize
-    requires { ⌜ Shape (now t) (pattern .rows) (pattern .runs) × ((length (now classes) ≡ cellCount) × ((pattern .run ≤ pattern .runs) × AreVariables (now t) (pattern .rows) (pattern .vars))) ⌝ }
+    requires { ⌜ Shape (now t) (pattern .scope .rows) (pattern .scope .runs) × ((length (now classes) ≡ cellCount) × ((pattern .scope .run ≤ pattern .scope .runs) × AreVariables (now t) (pattern .scope .rows) (pattern .vars))) ⌝ }
 {
     let vars = pattern.vars;
-    let n = pattern.rows;
+    let n = pattern.scope.rows;
     let counts = sizes(dom, vars);
     let mut best = vars.count;
     let mut r = 0;
@@ -382,7 +373,7 @@ fn tied(
             let kind = rows::kind_of(t, r);
             if Kind::FIRST_MADE <= kind {
                 if kind != Kind::PAIR {
-                    if knowledge::class_at(classes, r, pattern.run) == Cells::ABSENT {
+                    if knowledge::class_at(classes, r, pattern.scope.run) == Cells::ABSENT {
                         best = smallest(vars, counts, variables::beneath(t, n, r), best);
                     }
                 }
@@ -434,31 +425,21 @@ fn completable(
     false
 }
 
-// Whether the unset variables of run u beneath row x may get values with which the row is derivable: true wherever they may. With one such variable alone
+// Whether the unset variables beneath row x may get values with which the row is derivable: true wherever they may. With one such variable alone
 // its values are as soon tried.
-pub fn completes(
-    t: &[u8],
-    n: usize,
-    runs: usize,
-    classes: &[u16],
-    marks: &[bool],
-    u: usize,
-    x: usize,
-) -> bool
-    requires { ⌜ RowInRun (now t) n runs (now classes) (now marks) u x ⌝ }
-    ensures { λ b. ⌜ Completes (now (t .entry)) n runs (now (classes .entry)) (now (marks .entry)) u x b ⌝ }
+pub fn completes(t: &[u8], classes: &[u16], marks: &[bool], scope: Scope, x: usize) -> bool
+    requires { ⌜ RowInRun (now t) (now classes) (now marks) scope x ⌝ }
+    ensures { λ b. ⌜ Completes (now (t .entry)) (scope .rows) (scope .runs) (now (classes .entry)) (now (marks .entry)) (scope .run) x b ⌝ }
 {
-    let below = variables::beneath(t, n, x);
-    let vars = variables::unset_rows(t, n, classes, below, u);
+    let below = variables::beneath(t, scope.rows, x);
+    let vars = variables::unset_rows(t, scope.rows, classes, below, scope.run);
     if vars.count < 2 {
         return true;
     }
-    let dom = domains::of_variables(t, n, runs, classes, marks, false, vars);
-    let marked = domains::of_variables(t, n, runs, classes, marks, true, vars);
+    let dom = domains::of_variables(t, classes, marks, scope, false, vars);
+    let marked = domains::of_variables(t, classes, marks, scope, true, vars);
     let pattern = Pattern {
-        rows: n,
-        runs,
-        run: u,
+        scope,
         row: x,
         vars,
     };

@@ -10,9 +10,10 @@ use Rattle.semantics.specs.Runs.{atomAt}
 use Rattle.semantics.specs.Moves.{candidates}
 use Rattle.semantics.specs.Replay.{isValueOf}
 use Rattle.rows.specs.Rows.{rowsOf}
-use Rattle.cells.specs.Cells.{cellOf, cellCount, absent}
+use Rattle.cells.specs.Cells.{cellOf, cellCount, absent, Shape}
 use Rattle.knowledge.specs.Marks.{Marked}
 use Rattle.knowledge.specs.Steps.{classAt, kindAt, Inside}
+use Rattle.fits.specs.declared.Scope.{Scope}
 use Rattle.variables.specs.declared.VariableRows.{VariableRows}
 use Rattle.variables.specs.Variables.{In}
 
@@ -26,6 +27,10 @@ setCells = 46080
 -- a class is in the domain of a variable, or in the set of a row
 abbrev pub InRow : List Bool → ℕ → ℕ → Type 0
 InRow dom i c = getD dom (i * cellCount + c) false ≡ true
+
+-- the table, classes and marks of a scope
+abbrev pub Arrays : List ℕ → List ℕ → List Bool → Scope → Type 0
+Arrays bytes classes marks scope = Shape bytes (scope .rows) (scope .runs) × ((length classes ≡ cellCount) × (length marks ≡ cellCount))
 
 -- row y with run w is among the values that the variable of row q may take
 abbrev pub Candidate : List ℕ → ℕ → ℕ → ℕ → ℕ → Type 0

@@ -4,11 +4,12 @@ ghost use mathlib.Core.Bool.{true};
 ghost use mathlib.Core.List.{List};
 ghost use Prim.Native.Nat.{ℕ, _+_, _*_, _<_, _≤_};
 ghost use lib.ListN.{length, getD};
-ghost use Rattle.cells.specs.Cells.{Shape, cellCount};
+ghost use Rattle.cells.specs.Cells.{cellCount};
 ghost use Rattle.knowledge.specs.Steps.{kindAt};
 ghost use Rattle.variables.specs.Variables.{In, AreVariables};
-ghost use Rattle.domains.specs.Domains.{setCells, InRow, Listed, ListedAt, Narrows, Joins, RowPut, Fit, Slot};
+ghost use Rattle.domains.specs.Domains.{setCells, Arrays, InRow, Listed, ListedAt, Narrows, Joins, RowPut, Fit, Slot};
 use cells::Cells;
+use fits::Scope;
 use variables::VariableRows;
 
 // A set of classes for each of 8 variables, one after the other.
@@ -52,20 +53,19 @@ fn with_value(
 // The classes of the values that the variable of row q may take, or of those that are marked.
 fn values_of(
     t: &[u8],
-    n: usize,
-    runs: usize,
     classes: &[u16],
     marks: &[bool],
+    scope: Scope,
     only: bool,
     q: usize,
 ) -> [bool; Cells::COUNT]
-    requires { ⌜ Shape (now t) n runs × ((length (now classes) ≡ cellCount) × ((length (now marks) ≡ cellCount) × ((q < n) × (kindAt (now t) q ≡ 6)))) ⌝ }
-    ensures { λ set. ⌜ Listed (now (t .entry)) n runs (now (classes .entry)) (now (marks .entry)) only q (In set) ⌝ }
+    requires { ⌜ Arrays (now t) (now classes) (now marks) scope × ((q < scope .rows) × (kindAt (now t) q ≡ 6)) ⌝ }
+    ensures { λ set. ⌜ Listed (now (t .entry)) (scope .rows) (scope .runs) (now (classes .entry)) (now (marks .entry)) only q (In set) ⌝ }
 {
     let mut set = [false; Cells::COUNT];
     let mut c = 0;
     while c < Cells::COUNT {
-        if variables::may_take(t, n, runs, q, c % 96, c / 96) {
+        if variables::may_take(t, scope.rows, scope.runs, q, c % 96, c / 96) {
             let more = with_value(set, classes, marks, only, c);
             set = more;
         }
@@ -97,21 +97,20 @@ pub fn narrow(
 // For each variable the classes of the values that it may take, or of those that are marked.
 pub fn of_variables(
     t: &[u8],
-    n: usize,
-    runs: usize,
     classes: &[u16],
     marks: &[bool],
+    scope: Scope,
     only: bool,
     vars: VariableRows,
 ) -> [bool; Domains::CELLS]
-    requires { ⌜ Shape (now t) n runs × ((length (now classes) ≡ cellCount) × ((length (now marks) ≡ cellCount) × AreVariables (now t) n vars)) ⌝ }
-    ensures { λ dom. ⌜ ((i : ℕ) → i < vars .count → Listed (now (t .entry)) n runs (now (classes .entry)) (now (marks .entry)) only (getD (vars .rows) i 0) (InRow dom i)) ⌝ }
+    requires { ⌜ Arrays (now t) (now classes) (now marks) scope × AreVariables (now t) (scope .rows) vars ⌝ }
+    ensures { λ dom. ⌜ ((i : ℕ) → i < vars .count → Listed (now (t .entry)) (scope .rows) (scope .runs) (now (classes .entry)) (now (marks .entry)) only (getD (vars .rows) i 0) (InRow dom i)) ⌝ }
 {
     let rows = vars.rows;
     let mut dom = [true; Domains::CELLS];
     let mut i = 0;
     while i < vars.count {
-        let set = values_of(t, n, runs, classes, marks, only, rows[i]);
+        let set = values_of(t, classes, marks, scope, only, rows[i]);
         let less = narrow(dom, i, set);
         dom = less;
         i += 1;

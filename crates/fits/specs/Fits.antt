@@ -6,10 +6,19 @@ use mathlib.Core.List.{List}
 use lib.ListN.{length, getD}
 use Rattle.semantics.specs.Term.{Term}
 use Rattle.rows.specs.Rows.{rowsOf}
-use Rattle.cells.specs.Cells.{cellOf, absent, Shape, Readings, cellValue, secondOf}
+use Rattle.cells.specs.Cells.{cellOf, cellCount, absent, Shape, Readings, cellValue, secondOf}
 use Rattle.classes.specs.Classes.{Classes, Grows}
 use Rattle.knowledge.specs.Marks.{Has, Marked}
-use Rattle.knowledge.specs.Steps.{classAt, leftAt, Inside}
+use Rattle.knowledge.specs.Steps.{classAt, kindAt, leftAt, Inside}
+use Rattle.fits.specs.declared.Scope.{Scope}
+
+-- a row of a run that is looked at
+abbrev pub InScope : List ℕ → List ℕ → Scope → ℕ → Type 0
+InScope bytes classes scope q = Shape bytes (scope .rows) (scope .runs) × ((length classes ≡ cellCount) × ((scope .run ≤ scope .runs) × (q < scope .rows)))
+
+-- one that is made of parts, and another such row in some run
+abbrev pub MadeInScope : List ℕ → List ℕ → Scope → ℕ → ℕ → ℕ → Type 0
+MadeInScope bytes classes scope q y w = InScope bytes classes scope q × ((8 ≤ kindAt bytes q) × ((y < scope .rows) × ((8 ≤ kindAt bytes y) × (w ≤ scope .runs))))
 
 -- Old readings for which the classes are right, and new ones that grow from them in a run.
 pub record Extension (bytes : List ℕ) (n runs : ℕ) (classes : List ℕ) (u : ℕ) : Type 0 where

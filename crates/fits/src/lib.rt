@@ -1,13 +1,18 @@
 // Whether a row can still get the value of a class once more variables of its run are set: what it and the rows below it need.
 ghost use mathlib.Core.Path.{_≡_};
-ghost use mathlib.Core.Bool.{true};
 ghost use Prim.Native.Nat.{_<_, _≤_};
 ghost use lib.ListN.{length};
-ghost use Rattle.cells.specs.Cells.{Shape, cellCount};
-ghost use Rattle.knowledge.specs.Steps.{kindAt};
-ghost use Rattle.fits.specs.Fits.{Asked, PartsAsked, PassedDown, CanGet, NeedsMet};
+ghost use Rattle.cells.specs.Cells.{cellCount};
+ghost use Rattle.fits.specs.Fits.{InScope, MadeInScope, Asked, PartsAsked, PassedDown, NeedsMet};
 use cells::Cells;
 use rows::Kind;
+
+// A run that is looked at, in a table with so many rows and a scenario with so many runs.
+pub struct Scope {
+    pub rows: usize,
+    pub runs: usize,
+    pub run: usize,
+}
 
 // Notes that row q of run u needs a class, unless it has or needs another already.
 fn ask(need: &mut [u16; 96], classes: &[u16], u: usize, q: usize, class: u16) -> bool
@@ -25,41 +30,31 @@ fn ask(need: &mut [u16; 96], classes: &[u16], u: usize, q: usize, class: u16) ->
     true
 }
 
-// Notes that the parts of row q in run u need the classes of the parts of row y in run w.
+// Notes that the parts of row q need the classes of the parts of row y in run w.
 fn share(
     need: &mut [u16; 96],
     t: &[u8],
-    n: usize,
-    runs: usize,
     classes: &[u16],
-    u: usize,
+    scope: Scope,
     q: usize,
     y: usize,
     w: usize,
 ) -> bool
-    requires { ⌜ Shape (now t) n runs × ((length (now classes) ≡ cellCount) × ((u ≤ runs) × ((q < n) × ((8 ≤ kindAt (now t) q) × ((y < n) × ((8 ≤ kindAt (now t) y) × (w ≤ runs))))))) ⌝ }
-    ensures { λ r. ⌜ PartsAsked (now (t .entry)) n runs (now (classes .entry)) u (now (need .entry)) (now (need .exit)) q y w r ⌝ }
+    requires { ⌜ MadeInScope (now t) (now classes) scope q y w ⌝ }
+    ensures { λ r. ⌜ PartsAsked (now (t .entry)) (scope .rows) (scope .runs) (now (classes .entry)) (scope .run) (now (need .entry)) (now (need .exit)) q y w r ⌝ }
 {
     let first = knowledge::class_at(classes, rows::left_of(t, y), w);
     let second = knowledge::class_at(classes, cells::second_of(t, y), w);
-    if ask(need, classes, u, rows::left_of(t, q), first) {
-        return ask(need, classes, u, cells::second_of(t, q), second);
+    if ask(need, classes, scope.run, rows::left_of(t, q), first) {
+        return ask(need, classes, scope.run, cells::second_of(t, q), second);
     }
     false
 }
 
-// Passes on to the parts of row q what the row needs in run u: false where it cannot get that.
-fn follow(
-    need: &mut [u16; 96],
-    t: &[u8],
-    n: usize,
-    runs: usize,
-    classes: &[u16],
-    u: usize,
-    q: usize,
-) -> bool
-    requires { ⌜ Shape (now t) n runs × ((length (now classes) ≡ cellCount) × ((u ≤ runs) × (q < n))) ⌝ }
-    ensures { λ r. ⌜ PassedDown (now (t .entry)) n runs (now (classes .entry)) u (now (need .entry)) (now (need .exit)) r ⌝ }
+// Passes on to the parts of row q what the row needs: false where it cannot get that.
+fn follow(need: &mut [u16; 96], t: &[u8], classes: &[u16], scope: Scope, q: usize) -> bool
+    requires { ⌜ InScope (now t) (now classes) scope q ⌝ }
+    ensures { λ r. ⌜ PassedDown (now (t .entry)) (scope .rows) (scope .runs) (now (classes .entry)) (scope .run) (now (need .entry)) (now (need .exit)) r ⌝ }
 {
     let class = need[q];
     if Cells::ABSENT <= class {
@@ -70,17 +65,17 @@ fn follow(
         return true;
     }
     let y = class as usize % 96;
-    if n <= y {
+    if scope.rows <= y {
         return false;
     }
     let w = class as usize / 96;
-    if runs < w {
+    if scope.runs < w {
         return false;
     }
     if rows::kind_of(t, y) != kind {
         return false;
     }
-    share(need, t, n, runs, classes, u, q, y, w)
+    share(need, t, classes, scope, q, y, w)
 }
 
 // What the rows need so that one of them gets the value of a class, and whether none of them is refused it.
@@ -89,25 +84,17 @@ pub struct Needs {
     pub rows: [u16; 96],
 }
 
-// What row r of run u and the rows below it need so that it gets the value of a class: one pass from the row down.
-pub fn needs_of(
-    t: &[u8],
-    n: usize,
-    runs: usize,
-    classes: &[u16],
-    u: usize,
-    r: usize,
-    class: u16,
-) -> Needs
-    requires { ⌜ Shape (now t) n runs × ((length (now classes) ≡ cellCount) × ((u ≤ runs) × (r < n))) ⌝ }
-    ensures { λ needs. ⌜ NeedsMet (now (t .entry)) n runs (now (classes .entry)) u r class (needs .met) (needs .rows) ⌝ }
+// What row r and the rows below it need so that it gets the value of a class: one pass from the row down.
+pub fn needs_of(t: &[u8], classes: &[u16], scope: Scope, r: usize, class: u16) -> Needs
+    requires { ⌜ InScope (now t) (now classes) scope r ⌝ }
+    ensures { λ needs. ⌜ NeedsMet (now (t .entry)) (scope .rows) (scope .runs) (now (classes .entry)) (scope .run) r class (needs .met) (needs .rows) ⌝ }
 {
     let mut need = [Cells::ABSENT; 96];
     need[r] = class;
     let mut q = r + 1;
     while 0 < q {
         q -= 1;
-        if follow(&mut need, t, n, runs, classes, u, q) {
+        if follow(&mut need, t, classes, scope, q) {
             continue;
         }
         return Needs {
@@ -119,21 +106,4 @@ pub fn needs_of(
         met: true,
         rows: need,
     }
-}
-
-// Whether row r of run u can still get the value of a class.
-pub fn fits(
-    t: &[u8],
-    n: usize,
-    runs: usize,
-    classes: &[u16],
-    u: usize,
-    r: usize,
-    class: u16,
-) -> bool
-    requires { ⌜ Shape (now t) n runs × ((length (now classes) ≡ cellCount) × ((u ≤ runs) × (r < n))) ⌝ }
-    ensures { λ b. ⌜ (CanGet (now (t .entry)) n runs (now (classes .entry)) u r class → b ≡ true) ⌝ }
-{
-    let needs = needs_of(t, n, runs, classes, u, r, class);
-    needs.met
 }

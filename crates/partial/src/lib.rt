@@ -5,6 +5,7 @@ ghost use Rattle.cells.specs.Cells.{Shape, cellCount};
 ghost use Rattle.state.specs.State.{Due};
 ghost use Rattle.partial.specs.Partial.{Tested};
 use cells::Cells;
+use fits::Scope;
 use runs::RunEvent;
 
 // Whether the next event of run k, a read, may be allowed once its other variables are set too. Classes and marks are those with the values chosen so far.
@@ -24,8 +25,13 @@ pub fn may_be_read(
     let peer = e.peer;
     if marks[own] {
         if marks[peer] {
-            if possible::possible(t, n, runs, classes, &marks, k + 1, e.row) {
-                return completions::completes(t, n, runs, classes, &marks, k + 1, e.row);
+            let scope = Scope {
+                rows: n,
+                runs,
+                run: k + 1,
+            };
+            if possible::possible(t, classes, &marks, scope, e.row) {
+                return completions::completes(t, classes, &marks, scope, e.row);
             }
         }
     }

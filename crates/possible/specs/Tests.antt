@@ -1,13 +1,14 @@
 -- The tests of rows: what they ask and what they answer. Assumes nothing.
-use Prim.Native.Nat.{ℕ, _<_, _≤_}
+use Prim.Native.Nat.{ℕ, _<_}
 use mathlib.Core.Path.{_≡_}
 use mathlib.Core.Bool.{Bool, true, false}
 use mathlib.Core.List.{List}
 use lib.ListN.{length, getD}
 use Rattle.rows.specs.Rows.{rowsOf}
-use Rattle.cells.specs.Cells.{Shape, cellCount}
+use Rattle.cells.specs.Cells.{cellCount}
 use Rattle.knowledge.specs.Steps.{kindAt, Inside}
-use Rattle.fits.specs.Fits.{CanTake}
+use Rattle.fits.specs.declared.Scope.{Scope}
+use Rattle.fits.specs.Fits.{InScope, CanTake}
 use Rattle.possible.specs.Possible.{Possible}
 
 -- tests of rows below 96 that each keep the promise
@@ -16,9 +17,11 @@ pub record TestedRows (bytes : List ℕ) (runs : ℕ) (classes : List ℕ) (mark
   pub each : (y : ℕ) → y < 96 → Possible (rowsOf bytes) runs classes marks u y (getD can y false)
 
 -- a row of a run, with the arrays of a partial choice
-abbrev pub RowInRun : List ℕ → ℕ → ℕ → List ℕ → List Bool → ℕ → ℕ → Type 0
-RowInRun bytes n runs classes marks u r = Shape bytes n runs × ((length classes ≡ cellCount) × ((length marks ≡ cellCount) × ((u ≤ runs) × (r < n))))
+abbrev pub RowInRun : List ℕ → List ℕ → List Bool → Scope → ℕ → Type 0
+RowInRun bytes classes marks scope r = InScope bytes classes scope r × (length marks ≡ cellCount)
 
 -- a test that is true where the row can take the value of a marked cell of its kind
-abbrev pub TriesMarks : List ℕ → ℕ → ℕ → List ℕ → List Bool → ℕ → ℕ → Bool → Type 0
-TriesMarks bytes n runs classes marks u r answer = (y w : ℕ) → Inside n runs y w → kindAt bytes y ≡ kindAt bytes r → CanTake bytes n runs classes u marks r y w → answer ≡ true
+abbrev pub TriesMarks : List ℕ → List ℕ → List Bool → Scope → ℕ → Bool → Type 0
+TriesMarks bytes classes marks scope r answer =
+    (y w : ℕ) → Inside (scope .rows) (scope .runs) y w → kindAt bytes y ≡ kindAt bytes r
+    → CanTake bytes (scope .rows) (scope .runs) classes (scope .run) marks r y w → answer ≡ true

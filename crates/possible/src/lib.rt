@@ -2,58 +2,48 @@
 ghost use mathlib.Core.Path.{_≡_};
 ghost use mathlib.Core.Bool.{true, false, _&&_};
 ghost use Prim.Native.Nat.{ℕ, _<_, _≤_};
-ghost use lib.ListN.{length, getD};
+ghost use lib.ListN.{getD};
 ghost use Rattle.rows.specs.Rows.{rowsOf};
-ghost use Rattle.cells.specs.Cells.{Shape, cellCount};
 ghost use Rattle.fits.specs.Fits.{CanTake};
 ghost use Rattle.possible.specs.Possible.{Possible};
 ghost use Rattle.possible.specs.Tests.{TestedRows, RowInRun, TriesMarks};
 use cells::Cells;
 use cells::cell;
+use fits::Scope;
 use rows::Kind;
 
-// Whether row r of run u can still get the value of row y in run w, if that cell is marked and stands for its own value.
+// Whether row r can still get the value of row y in run w, if that cell is marked and stands for its own value.
 fn fits_cell(
     t: &[u8],
-    n: usize,
-    runs: usize,
     classes: &[u16],
     marks: &[bool],
-    u: usize,
+    scope: Scope,
     r: usize,
     y: usize,
     w: usize,
 ) -> bool
-    requires { ⌜ Shape (now t) n runs × ((length (now classes) ≡ cellCount) × ((length (now marks) ≡ cellCount) × ((u ≤ runs) × ((r < n) × ((y < n) × (w ≤ runs)))))) ⌝ }
-    ensures { λ b. ⌜ (CanTake (now (t .entry)) n runs (now (classes .entry)) u (now (marks .entry)) r y w → b ≡ true) ⌝ }
+    requires { ⌜ RowInRun (now t) (now classes) (now marks) scope r × ((y < scope .rows) × (w ≤ scope .runs)) ⌝ }
+    ensures { λ b. ⌜ (CanTake (now (t .entry)) (scope .rows) (scope .runs) (now (classes .entry)) (scope .run) (now (marks .entry)) r y w → b ≡ true) ⌝ }
 {
     let c = cell(y, w);
     if marks[c] {
         let class = classes[c];
         if class as usize == c {
-            return fits::fits(t, n, runs, classes, u, r, class);
+            let needs = fits::needs_of(t, classes, scope, r, class);
+            return needs.met;
         }
     }
     false
 }
 
-// Whether row r of run u can still get the value of row y in some run.
-fn fits_row(
-    t: &[u8],
-    n: usize,
-    runs: usize,
-    classes: &[u16],
-    marks: &[bool],
-    u: usize,
-    r: usize,
-    y: usize,
-) -> bool
-    requires { ⌜ Shape (now t) n runs × ((length (now classes) ≡ cellCount) × ((length (now marks) ≡ cellCount) × ((u ≤ runs) × ((r < n) × (y < n))))) ⌝ }
-    ensures { λ b. ⌜ ((w : ℕ) → w ≤ runs → CanTake (now (t .entry)) n runs (now (classes .entry)) u (now (marks .entry)) r y w → b ≡ true) ⌝ }
+// Whether row r can still get the value of row y in some run.
+fn fits_row(t: &[u8], classes: &[u16], marks: &[bool], scope: Scope, r: usize, y: usize) -> bool
+    requires { ⌜ RowInRun (now t) (now classes) (now marks) scope r × (y < scope .rows) ⌝ }
+    ensures { λ b. ⌜ ((w : ℕ) → w ≤ scope .runs → CanTake (now (t .entry)) (scope .rows) (scope .runs) (now (classes .entry)) (scope .run) (now (marks .entry)) r y w → b ≡ true) ⌝ }
 {
     let mut w = 0;
-    while w <= runs {
-        if fits_cell(t, n, runs, classes, marks, u, r, y, w) {
+    while w <= scope.runs {
+        if fits_cell(t, classes, marks, scope, r, y, w) {
             return true;
         }
         w += 1;
@@ -61,24 +51,16 @@ fn fits_row(
     false
 }
 
-// Whether row r of run u can still get the value of a marked cell of its kind.
-fn fits_mark(
-    t: &[u8],
-    n: usize,
-    runs: usize,
-    classes: &[u16],
-    marks: &[bool],
-    u: usize,
-    r: usize,
-) -> bool
-    requires { ⌜ RowInRun (now t) n runs (now classes) (now marks) u r ⌝ }
-    ensures { λ b. ⌜ TriesMarks (now (t .entry)) n runs (now (classes .entry)) (now (marks .entry)) u r b ⌝ }
+// Whether row r can still get the value of a marked cell of its kind.
+fn fits_mark(t: &[u8], classes: &[u16], marks: &[bool], scope: Scope, r: usize) -> bool
+    requires { ⌜ RowInRun (now t) (now classes) (now marks) scope r ⌝ }
+    ensures { λ b. ⌜ TriesMarks (now (t .entry)) (now (classes .entry)) (now (marks .entry)) scope r b ⌝ }
 {
     let kind = rows::kind_of(t, r);
     let mut y = 0;
-    while y < n {
+    while y < scope.rows {
         if rows::kind_of(t, y) == kind {
-            if fits_row(t, n, runs, classes, marks, u, r, y) {
+            if fits_row(t, classes, marks, scope, r, y) {
                 return true;
             }
         }
@@ -102,18 +84,16 @@ fn both(can: &[bool; 96], l: usize, s: usize) -> bool
 fn test_row(
     can: &[bool; 96],
     t: &[u8],
-    n: usize,
-    runs: usize,
     classes: &[u16],
     marks: &[bool],
-    u: usize,
+    scope: Scope,
     r: usize,
 ) -> bool
-    requires { ⌜ TestedRows (now t) runs (now classes) (now marks) u (now can) × RowInRun (now t) n runs (now classes) (now marks) u r ⌝ }
-    ensures { λ b. ⌜ Possible (rowsOf (now (t .entry))) runs (now (classes .entry)) (now (marks .entry)) u r b ⌝ }
+    requires { ⌜ TestedRows (now t) (scope .runs) (now classes) (now marks) (scope .run) (now can) × RowInRun (now t) (now classes) (now marks) scope r ⌝ }
+    ensures { λ b. ⌜ Possible (rowsOf (now (t .entry))) (scope .runs) (now (classes .entry)) (now (marks .entry)) (scope .run) r b ⌝ }
 {
-    if knowledge::class_at(classes, r, u) < Cells::ABSENT {
-        return marks[cell(r, u)];
+    if knowledge::class_at(classes, r, scope.run) < Cells::ABSENT {
+        return marks[cell(r, scope.run)];
     }
     let kind = rows::kind_of(t, r);
     if kind < Kind::FIRST_MADE {
@@ -127,28 +107,20 @@ fn test_row(
             return true;
         }
     }
-    fits_mark(t, n, runs, classes, marks, u, r)
+    fits_mark(t, classes, marks, scope, r)
 }
 
-// Whether row x of run u can still be derivable once more variables of the run are set: true wherever it can.
-pub fn possible(
-    t: &[u8],
-    n: usize,
-    runs: usize,
-    classes: &[u16],
-    marks: &[bool],
-    u: usize,
-    x: usize,
-) -> bool
-    requires { ⌜ RowInRun (now t) n runs (now classes) (now marks) u x ⌝ }
-    ensures { λ r. ⌜ Possible (rowsOf (now (t .entry))) runs (now (classes .entry)) (now (marks .entry)) u x r ⌝ }
+// Whether row x can still be derivable once more variables of the run are set: true wherever it can.
+pub fn possible(t: &[u8], classes: &[u16], marks: &[bool], scope: Scope, x: usize) -> bool
+    requires { ⌜ RowInRun (now t) (now classes) (now marks) scope x ⌝ }
+    ensures { λ r. ⌜ Possible (rowsOf (now (t .entry))) (scope .runs) (now (classes .entry)) (now (marks .entry)) (scope .run) x r ⌝ }
 {
-    let below = variables::beneath(t, n, x);
+    let below = variables::beneath(t, scope.rows, x);
     let mut can = [true; 96];
     let mut r = 0;
     while r <= x {
         if below[r] {
-            let passes = test_row(&can, t, n, runs, classes, marks, u, r);
+            let passes = test_row(&can, t, classes, marks, scope, r);
             can[r] = passes;
         }
         r += 1;

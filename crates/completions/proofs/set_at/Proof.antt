@@ -20,7 +20,7 @@ returns-2 c =
 join-requires : tie.Need-join-requires
 join-requires c κs =
     let s = c .before .before .before .before .before .before .before .before .before .before .before in
-    let p = parts-small (s .args .t .now) (s .args .pattern .rows) (s .args .pattern .runs) (s .pre .0 .scene .shape) (s .args .r) (s .pre .1 .1 .1) (c .before .before .before .before .kind-of .ensures .0) (c .before .before .before .if2 .left) (c .before .left-of .ensures .0) (c .second-of .ensures .0) in
+    let p = parts-small (s .args .t .now) (s .args .pattern .scope .rows) (s .args .pattern .scope .runs) (s .pre .0 .scene .shape) (s .args .r) (s .pre .1 .1 .1) (c .before .before .before .before .kind-of .ensures .0) (c .before .before .before .if2 .left) (c .before .left-of .ensures .0) (c .second-of .ensures .0) in
     (s .pre .1 .0 .size, (p .0, p .1))
 
 returns-3 : tie.Need-returns-3
@@ -31,7 +31,7 @@ returns-3 c =
 join-requires-2 : tie.Need-join-requires-2
 join-requires-2 c κs =
     let s = c .before .before .before .before .before .before .before .before .before .before .before .before .before in
-    let p = parts-small (s .args .t .now) (s .args .pattern .rows) (s .args .pattern .runs) (s .pre .0 .scene .shape) (s .args .r) (s .pre .1 .1 .1) (c .before .before .before .before .before .before .kind-of .ensures .0) (c .before .before .before .before .before .if2 .left) (c .before .left-of2 .ensures .0) (c .second-of2 .ensures .0) in
+    let p = parts-small (s .args .t .now) (s .args .pattern .scope .rows) (s .args .pattern .scope .runs) (s .pre .0 .scene .shape) (s .args .r) (s .pre .1 .1 .1) (c .before .before .before .before .before .before .kind-of .ensures .0) (c .before .before .before .before .before .if2 .left) (c .before .left-of2 .ensures .0) (c .second-of2 .ensures .0) in
     (s .pre .1 .0 .size, (p .0, p .1))
 
 returns-4 : tie.Need-returns-4

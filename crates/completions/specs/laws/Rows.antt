@@ -58,7 +58,7 @@ module _ {bytes classes : List ℕ} {marks : List Bool} {pattern : Pattern} (sce
     (k : Completion bytes classes marks pattern) where
   -- what a row gets is the class of a cell
   pub gets-low : (q : ℕ) {c : ℕ} → Gets (k .extension) q c → c < cellCount
-  gets-low q g = let v = g .2 in omega (arith, v .4, has-class bytes (pattern .rows) (pattern .runs) (k .extension .shape) (k .extension .old) classes (k .extension .right) (v .2) (v .3))
+  gets-low q g = let v = g .2 in omega (arith, v .4, has-class bytes (pattern .scope .rows) (pattern .scope .runs) (k .extension .shape) (k .extension .old) classes (k .extension .right) (v .2) (v .3))
 
   -- the class that a variable gets
   pub takes-gets : {q : ℕ} (takes : TakesCell (k .extension) q) → Gets (k .extension) q (classAt classes (takes .row) (takes .run))
@@ -71,7 +71,7 @@ module _ {bytes classes : List ℕ} {marks : List Bool} {pattern : Pattern} (sce
   pub takes-marked : {q : ℕ} (takes : TakesCell (k .extension) q) → GetsDerivable k q → Marked marks (takes .row) (takes .run)
   takes-marked takes d =
       let same = Option·some-injective (d .0) (takes .term) (sym (d .1) ∙ takes .gets) in
-      k .exact (takes .row) (takes .run) (inside bytes (pattern .rows) (pattern .runs) (k .extension .shape) (k .extension .old) classes (k .extension .right) (takes .inside)) .1 (takes .term, takes .has, rw same at (d .2))
+      k .exact (takes .row) (takes .run) (inside bytes (pattern .scope .rows) (pattern .scope .runs) (k .extension .shape) (k .extension .old) classes (k .extension .right) (takes .inside)) .1 (takes .term, takes .has, rw same at (d .2))
 
   -- rows that need what they get fit domains that have it
   pub in-domains-fit : (dom : List Bool) {need : List ℕ} → InDomains k dom → Needed (k .extension) need → Fit (pattern .vars) dom need
@@ -81,16 +81,16 @@ module _ {bytes classes : List ℕ} {marks : List Bool} {pattern : Pattern} (sce
       within j l _ (needed .each _ (omega arith) there)
 
   -- a row with a value is derivable only if it is marked
-  pub derivable-marked : {r : ℕ} → r < pattern .rows → {class cell : ℕ} → class ≡ classAt classes r (pattern .run) → class < absent → cell ≡ cellOf r (pattern .run) → GetsDerivable k r → getD marks cell false ≡ true
+  pub derivable-marked : {r : ℕ} → r < pattern .scope .rows → {class cell : ℕ} → class ≡ classAt classes r (pattern .scope .run) → class < absent → cell ≡ cellOf r (pattern .scope .run) → GetsDerivable k r → getD marks cell false ≡ true
   derivable-marked {r} low e l ec d =
-      let v = has-value bytes (pattern .rows) (pattern .runs) (k .extension .shape) (k .extension .old) classes (k .extension .right) (low, scene .run) (rw e at l) in
-      let same = Option·some-injective (v .0) (d .0) (sym (cell-kept (scene .shape) (k .extension .grows) r (pattern .run) (v .0) (v .1)) ∙ d .1) in
-      rw ec (k .exact r (pattern .run) (inside bytes (pattern .rows) (pattern .runs) (k .extension .shape) (k .extension .old) classes (k .extension .right) (low, scene .run)) .1 (d .0, rw (← same) (v .1), d .2))
+      let v = has-value bytes (pattern .scope .rows) (pattern .scope .runs) (k .extension .shape) (k .extension .old) classes (k .extension .right) (low, scene .run) (rw e at l) in
+      let same = Option·some-injective (v .0) (d .0) (sym (cell-kept (scene .shape) (k .extension .grows) r (pattern .scope .run) (v .0) (v .1)) ∙ d .1) in
+      rw ec (k .exact r (pattern .scope .run) (inside bytes (pattern .scope .rows) (pattern .scope .runs) (k .extension .shape) (k .extension .old) classes (k .extension .right) (low, scene .run)) .1 (d .0, rw (← same) (v .1), d .2))
 
   -- the parts of a derivable pair are derivable
-  pub derivable-pair : {r : ℕ} → r < pattern .rows → kindAt bytes r ≡ 11 → GetsDerivable k r → GetsDerivable k (leftAt bytes r) × GetsDerivable k (secondOf bytes r)
+  pub derivable-pair : {r : ℕ} → r < pattern .scope .rows → kindAt bytes r ≡ 11 → GetsDerivable k r → GetsDerivable k (leftAt bytes r) × GetsDerivable k (secondOf bytes r)
   derivable-pair {r} low e (t, h, d) =
-      let m = value-made (scene .shape) low (k .extension .new (pattern .run)) (omega arith) h in
+      let m = value-made (scene .shape) low (k .extension .new (pattern .scope .run)) (omega arith) h in
       let p = pair-parts t (m .kind ∙ e) d in
       ((firstPart t, m .first, p .0), (secondPart t, m .second, p .1))
 
@@ -99,13 +99,13 @@ module _ {bytes classes : List ℕ} {marks : List Bool} {pattern : Pattern} (sce
     fromMark : (y w : ℕ) → FromMark k r y w → Ways r
     fromParts : kindAt bytes r ≡ 12 → GetsDerivable k (leftAt bytes r) → GetsDerivable k (secondOf bytes r) → Ways r
 
-  pub ways : {r : ℕ} → r < pattern .rows → 8 ≤ kindAt bytes r → (kindAt bytes r ≡ 11 → ⊥) → GetsDerivable k r → Ways r
+  pub ways : {r : ℕ} → r < pattern .scope .rows → 8 ≤ kindAt bytes r → (kindAt bytes r ≡ 11 → ⊥) → GetsDerivable k r → Ways r
   ways {r} low high other (t, h, d) = go (way (k .extension) (k .known) (k .exact) (k .celled) r low high h d)
     where
       go : Way (k .extension) (k .known) marks r t → Ways r
       go (byMark y w i e m o g) = fromMark y w (record { inside = i; kind = e; marked = m; own = o; gets = g })
       go (byParts l a b) =
-          let m = value-made (scene .shape) low (k .extension .new (pattern .run)) high h in
+          let m = value-made (scene .shape) low (k .extension .new (pattern .scope .run)) high h in
           fromParts (omega (arith, m .kind, kind-most t)) (firstPart t, m .first, a) (secondPart t, m .second, b)
 
 -- the same as `Matched`, of the cells below a number
@@ -116,7 +116,7 @@ MatchedIn bytes classes marks pattern dom i r cell set =
 module _ {bytes classes : List ℕ} {marks : List Bool} {pattern : Pattern} (scene : Scene bytes classes marks pattern) (dom : List Bool) where
   module _ (r : ℕ) {cell : ℕ} (inside-marks : cell < cellCount) where
     -- a cell that is none of the table's, and one that does not stand for its own value
-    pub needs-row : pattern .rows ≤ cell % 96 → (met : Bool) (need : List ℕ) → NeedsAt bytes classes marks pattern dom r cell met need
+    pub needs-row : pattern .scope .rows ≤ cell % 96 → (met : Bool) (need : List ℕ) → NeedsAt bytes classes marks pattern dom r cell met need
     needs-row h met need k within y w e from = let few = scene .shape .few in absurd (omega (arith, from .inside .0))
 
     pub needs-class : (getD classes cell 0 ≡ cell → ⊥) → (met : Bool) (need : List ℕ) → NeedsAt bytes classes marks pattern dom r cell met need
@@ -129,7 +129,7 @@ module _ {bytes classes : List ℕ} {marks : List Bool} {pattern : Pattern} (sce
         let same : y ≡ cell % 96 = omega (arith, from .inside .0) in
         absurd (d (ea ∙ rw same at (from .kind) ∙ sym eb))
 
-    module _ {class : ℕ} (ec : class ≡ cell) {met : Bool} {need : List ℕ} (needs : NeedsMet bytes (pattern .rows) (pattern .runs) classes (pattern .run) r class met need) where
+    module _ {class : ℕ} (ec : class ≡ cell) {met : Bool} {need : List ℕ} (needs : NeedsMet bytes (pattern .scope .rows) (pattern .scope .runs) classes (pattern .scope .run) r class met need) where
       -- needs that are met
       pub needs-met : NeedsAt bytes classes marks pattern dom r cell met need
       needs-met k within y w e from = needs (k .extension) (rw (ec ∙ sym e) (from .gets))
@@ -178,7 +178,7 @@ module _ {bytes classes : List ℕ} {marks : List Bool} {pattern : Pattern} (sce
     misses-none-all k within d c g = in-all cellCount (gets-low scene k _ g)
 
     -- a row that has a value
-    pub misses-none-set : r < pattern .rows → {class cell : ℕ} → class ≡ classAt classes r (pattern .run) → class < absent → cell ≡ cellOf r (pattern .run) → MissesNone bytes classes marks pattern dom i r (In (replicate cellCount (getD marks cell false)))
+    pub misses-none-set : r < pattern .scope .rows → {class cell : ℕ} → class ≡ classAt classes r (pattern .scope .run) → class < absent → cell ≡ cellOf r (pattern .scope .run) → MissesNone bytes classes marks pattern dom i r (In (replicate cellCount (getD marks cell false)))
     misses-none-set low e l ec k within d c g = in-mark (gets-low scene k _ g) (derivable-marked scene k low e l ec d)
 
     module _ (marked : List Bool) (opens : MarkedDomains bytes classes marks pattern marked) where
@@ -193,11 +193,11 @@ module _ {bytes classes : List ℕ} {marks : List Bool} {pattern : Pattern} (sce
           let h = takes-gets scene k (k .filled slot l) in
           absurd (false≢true (sym z ∙ f _ (gets-low scene k _ h) (within slot l _ h) (opens k slot l (rw e d) _ h)))
 
-    module _ {sets : List Bool} (each-row : RowsMissNone bytes classes marks pattern dom i sets) (low : r < pattern .rows) {l s : ℕ} (el : l ≡ leftAt bytes r) (es : s ≡ secondOf bytes r) where
+    module _ {sets : List Bool} (each-row : RowsMissNone bytes classes marks pattern dom i sets) (low : r < pattern .scope .rows) {l s : ℕ} (el : l ≡ leftAt bytes r) (es : s ≡ secondOf bytes r) where
       part-low : 8 ≤ kindAt bytes r → (leftAt bytes r < 96) × (secondOf bytes r < 96)
       part-low high =
           let few = scene .shape .few in
-          (omega (arith, left-lower bytes (pattern .rows) (pattern .runs) (scene .shape) r low high), omega (arith, second-lower bytes (pattern .rows) (pattern .runs) (scene .shape) r low high))
+          (omega (arith, left-lower bytes (pattern .scope .rows) (pattern .scope .runs) (scene .shape) r low high), omega (arith, second-lower bytes (pattern .scope .rows) (pattern .scope .runs) (scene .shape) r low high))
 
       misses-none-both : 8 ≤ kindAt bytes r → {set more : List Bool} → Joins set sets l s more → (k : Completion bytes classes marks pattern) → InDomains k dom → GetsDerivable k (leftAt bytes r) → GetsDerivable k (secondOf bytes r)
           → (c : ℕ) → GetsClass k i c → In more c
@@ -218,7 +218,7 @@ module _ {bytes classes : List ℕ} {marks : List Bool} {pattern : Pattern} (sce
           go (fromParts q a b) = misses-none-both (omega arith) joins k within a b c g
 
     -- a key, by a marked cell
-    pub misses-none-key : r < pattern .rows → 8 ≤ kindAt bytes r → (kindAt bytes r ≡ 11 → ⊥) → (kindAt bytes r ≡ 12 → ⊥) → (set : List Bool) → Matched bytes classes marks pattern dom i r set
+    pub misses-none-key : r < pattern .scope .rows → 8 ≤ kindAt bytes r → (kindAt bytes r ≡ 11 → ⊥) → (kindAt bytes r ≡ 12 → ⊥) → (set : List Bool) → Matched bytes classes marks pattern dom i r set
         → MissesNone bytes classes marks pattern dom i r (In set)
     misses-none-key low high other another set matched k within d c g = go (ways scene k low high other d)
       where

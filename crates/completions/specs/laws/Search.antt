@@ -17,6 +17,7 @@ use Rattle.knowledge.specs.Steps.{classAt, kindAt, Inside}
 use Rattle.knowledge.specs.laws.Values.{Has, has-class}
 use Rattle.variables.specs.declared.VariableRows.{VariableRows}
 use Rattle.variables.specs.Variables.{In, Beneath, AreVariables, Unset}
+use Rattle.fits.specs.declared.Scope.{Scope}
 use Rattle.fits.specs.Fits.{Extension, Gets}
 use Rattle.fits.specs.laws.Fits.{gets-one}
 use Rattle.domains.specs.Domains.{InRow, Listed, Narrows}
@@ -28,16 +29,16 @@ use Rattle.completions.specs.laws.Rows.{gets-low, takes-gets, takes-clas
 -- the domains of the pattern's variables miss no value, or none that is marked
 abbrev AllListed : List ℕ → List ℕ → List Bool → Pattern → Bool → List Bool → Type 0
 AllListed bytes classes marks pattern only dom =
-    (i : ℕ) → i < pattern .vars .count → Listed bytes (pattern .rows) (pattern .runs) classes marks only (getD (pattern .vars .rows) i 0) (InRow dom i)
+    (i : ℕ) → i < pattern .vars .count → Listed bytes (pattern .scope .rows) (pattern .scope .runs) classes marks only (getD (pattern .vars .rows) i 0) (InRow dom i)
 
 -- tests
 is-true : {b : Bool} → b ≡ true → (b ≡ false → ⊥)
 is-true e f = true≢false (sym e ∙ f)
 
 -- the scene of a pattern's variables
-pub scene-of : {bytes classes : List ℕ} {marks : List Bool} {n runs u x : ℕ} {vars : VariableRows} → RowInRun bytes n runs classes marks u x
-    → AreVariables bytes n vars → Scene bytes classes marks (record { rows = n; runs = runs; run = u; row = x; vars = vars })
-scene-of given low = record { shape = given .0; classed = given .1 .0; marked = given .1 .1 .0; run = given .1 .1 .1 .0; row = given .1 .1 .1 .1; low = low }
+pub scene-of : {bytes classes : List ℕ} {marks : List Bool} {scope : Scope} {x : ℕ} {vars : VariableRows} → RowInRun bytes classes marks scope x
+    → AreVariables bytes (scope .rows) vars → Scene bytes classes marks (record { scope = scope; row = x; vars = vars })
+scene-of given low = record { shape = given .0 .0; classed = given .0 .1 .0; marked = given .1; run = given .0 .1 .1 .0; row = given .0 .1 .1 .1; low = low }
 
 -- no class of variable i below a number leads to a completion
 abbrev pub Tried : List ℕ → List ℕ → List Bool → Pattern → List Bool → ℕ → ℕ → Type 0
@@ -46,12 +47,12 @@ Tried bytes classes marks pattern dom i c =
 
 module _ {bytes classes : List ℕ} {marks : List Bool} {pattern : Pattern} (scene : Scene bytes classes marks pattern) where
   -- the class that a variable takes is listed
-  listed-class : (only : Bool) (P : ℕ → Type 0) (k : Completion bytes classes marks pattern) {q : ℕ} → Listed bytes (pattern .rows) (pattern .runs) classes marks only q P → (takes : TakesCell (k .extension) q)
+  listed-class : (only : Bool) (P : ℕ → Type 0) (k : Completion bytes classes marks pattern) {q : ℕ} → Listed bytes (pattern .scope .rows) (pattern .scope .runs) classes marks only q P → (takes : TakesCell (k .extension) q)
       → (only ≡ true → GetsDerivable k q) → (c : ℕ) → Gets (k .extension) q c → P c
   listed-class only P k listed takes derived c g =
       subst P (sym (takes-class scene k takes g))
       (listed (takes .row) (takes .run) (takes .inside) (takes .may) (λ e. takes-marked scene k takes (derived e))
-      (has-class bytes (pattern .rows) (pattern .runs) (k .extension .shape) (k .extension .old) classes (k .extension .right) (takes .inside) (takes .has)))
+      (has-class bytes (pattern .scope .rows) (pattern .scope .runs) (k .extension .shape) (k .extension .old) classes (k .extension .right) (takes .inside) (takes .has)))
 
   -- domains of all values that variables may take miss none
   pub in-domains-start : (dom : List Bool) → AllListed bytes classes marks pattern false dom → (k : Completion bytes classes marks pattern) → InDomains k dom
@@ -110,8 +111,8 @@ module _ {bytes classes : List ℕ} {marks : List Bool} {pattern : Pattern} (sce
 
 -- the test of the unset variables beneath the pattern
 pub completes-tested : {bytes classes : List ℕ} {marks : List Bool} {pattern : Pattern} {below : List Bool} (dom : List Bool) → Scene bytes classes marks pattern
-    → Beneath (rowsOf bytes) (pattern .row) below → Unset bytes (pattern .rows) classes (pattern .run) below (pattern .vars) → AllListed bytes classes marks pattern false dom
-    → {answer : Bool} → Completable bytes classes marks pattern dom answer → Completes bytes (pattern .rows) (pattern .runs) classes marks (pattern .run) (pattern .row) answer
+    → Beneath (rowsOf bytes) (pattern .row) below → Unset bytes (pattern .scope .rows) classes (pattern .scope .run) below (pattern .vars) → AllListed bytes classes marks pattern false dom
+    → {answer : Bool} → Completable bytes classes marks pattern dom answer → Completes bytes (pattern .scope .rows) (pattern .scope .runs) classes marks (pattern .scope .run) (pattern .row) answer
 completes-tested {bytes} {classes} {marks} {pattern} {below} dom scene beneath-x unset listed completable s known exact celled filled t h d =
     completable k (in-domains-start scene dom listed k) (t, h, d)
   where

@@ -10,10 +10,10 @@ use Rattle.domains.proofs.values_of.Statement.{statement}
 use Rattle.domains.proofs.values_of.Tie as tie
 
 abbrev Inv-loop : tie.InvT-loop
-Inv-loop t n runs classes marks only q set₀ c₀ set c = (c ≤ cellCount) × ListedTo t n runs classes marks only q c set
+Inv-loop t classes marks scope only q set₀ c₀ set c = (c ≤ cellCount) × ListedTo t (scope .rows) (scope .runs) classes marks only q c set
 
 abbrev μ-loop : tie.MeasureT-loop
-μ-loop t n runs classes marks only q set₀ c₀ set c = cellCount - c
+μ-loop t classes marks scope only q set₀ c₀ set c = cellCount - c
 
 loop-holds : tie.Need-loop-holds Inv-loop μ-loop
 loop-holds c = (omega arith, λ y w l. absurd (omega arith))
@@ -25,13 +25,13 @@ loop-again : tie.Need-loop-again Inv-loop μ-loop
 loop-again c =
     let l = c .before .before .before in
     let s = l .before .before .before .before in
-    (omega (arith, c .before .before .loop-test .taken), ⊎-elim (λ w. rw (w .2) (listed-more (s .args .t .now) (s .args .n) (s .args .runs) (s .args .classes .now) (s .args .marks .now) (s .args .only) (s .args .q) (l .loop .inv .1) (w .1 .ensures (s .args .t .now) (s .args .n) (s .args .runs) (s .args .q)))) (λ w. rw (w .1) (listed-more (s .args .t .now) (s .args .n) (s .args .runs) (s .args .classes .now) (s .args .marks .now) (s .args .only) (s .args .q) (l .loop .inv .1) (listed-other (s .args .t .now) (s .args .n) (s .args .runs) (s .args .classes .now) (s .args .marks .now) (s .args .only) (s .args .q) (l .loop .c) (l .loop .set) (s .pre .0) (c .before .may-take .ensures) (w .0 .left)))) (c .if1 .came))
+    (omega (arith, c .before .before .loop-test .taken), ⊎-elim (λ w. rw (w .2) (listed-more (s .args .t .now) (s .args .scope .rows) (s .args .scope .runs) (s .args .classes .now) (s .args .marks .now) (s .args .only) (s .args .q) (l .loop .inv .1) (w .1 .ensures (s .args .t .now) (s .args .scope .rows) (s .args .scope .runs) (s .args .q)))) (λ w. rw (w .1) (listed-more (s .args .t .now) (s .args .scope .rows) (s .args .scope .runs) (s .args .classes .now) (s .args .marks .now) (s .args .only) (s .args .q) (l .loop .inv .1) (listed-other (s .args .t .now) (s .args .scope .rows) (s .args .scope .runs) (s .args .classes .now) (s .args .marks .now) (s .args .only) (s .args .q) (l .loop .c) (l .loop .set) (s .pre .0 .0) (c .before .may-take .ensures) (w .0 .left)))) (c .if1 .came))
 
 returns : tie.Need-returns Inv-loop μ-loop
 returns c =
     let l = c .before in
     let s = l .before .before .before .before in
-    listed-all (s .args .t .now) (s .args .n) (s .args .runs) (s .args .classes .now) (s .args .marks .now) (s .args .only) (s .args .q) (l .loop .set) (s .pre .0) (c .loop-test .left) (l .loop .inv .1)
+    listed-all (s .args .t .now) (s .args .scope .rows) (s .args .scope .runs) (s .args .classes .now) (s .args .marks .now) (s .args .only) (s .args .q) (l .loop .set) (s .pre .0 .0) (c .loop-test .left) (l .loop .inv .1)
 
 pub values-of-spec : {M : Type 1} → statement M
 values-of-spec = tie.close (tie.spec Inv-loop μ-loop loop-holds (λ c κs. search needs) (λ c κs. search needs) (λ c. search needs) loop-less loop-again returns)

@@ -9,10 +9,10 @@ use Rattle.fits.proofs.needs_of.Statement.{statement}
 use Rattle.fits.proofs.needs_of.Tie as tie
 
 abbrev Inv-loop : tie.InvT-loop
-Inv-loop t n runs classes u r class need₀ q₀ need q = (q ≤ n) × Needs t n runs classes u r class need
+Inv-loop t classes scope r class need₀ q₀ need q = (q ≤ scope .rows) × Needs t (scope .rows) (scope .runs) classes (scope .run) r class need
 
 abbrev μ-loop : tie.MeasureT-loop
-μ-loop t n runs classes u r class need₀ q₀ need q = q
+μ-loop t classes scope r class need₀ q₀ need q = q
 
 loop-holds : tie.Need-loop-holds Inv-loop μ-loop
 loop-holds c =
@@ -29,12 +29,12 @@ follow-requires c κs =
 loop-again : tie.Need-loop-again Inv-loop μ-loop
 loop-again c =
     let s = c .before .before .before .before .before .before .before in
-    (omega (arith, c .before .before .before .before .loop .inv .0), needs-more (s .args .t .now) (s .args .n) (s .args .runs) (s .args .classes .now) (s .args .u) (s .args .r) (s .args .class) (c .before .before .before .before .loop .inv .1) (c .before .follow .ensures))
+    (omega (arith, c .before .before .before .before .loop .inv .0), needs-more (s .args .t .now) (s .args .scope .rows) (s .args .scope .runs) (s .args .classes .now) (s .args .scope .run) (s .args .r) (s .args .class) (c .before .before .before .before .loop .inv .1) (c .before .follow .ensures))
 
 returns : tie.Need-returns Inv-loop μ-loop
 returns c =
     let s = c .before .before .before .before .before .before .before in
-    needs-refused (s .args .t .now) (s .args .n) (s .args .runs) (s .args .classes .now) (s .args .u) (s .args .r) (s .args .class) (c .before .before .before .before .loop .inv .1) (c .before .follow .ensures) (c .if1 .left) _
+    needs-refused (s .args .t .now) (s .args .scope .rows) (s .args .scope .runs) (s .args .classes .now) (s .args .scope .run) (s .args .r) (s .args .class) (c .before .before .before .before .loop .inv .1) (c .before .follow .ensures) (c .if1 .left) _
 
 returns-2 : tie.Need-returns-2 Inv-loop μ-loop
 returns-2 c = λ z g. (refl, c .before .loop .inv .1 z g)

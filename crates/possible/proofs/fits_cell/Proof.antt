@@ -11,17 +11,17 @@ cast-if2 c = omega (arith, c .shared-slice-known5 .given (c .before .before .bef
 returns : tie.Need-returns
 returns c =
     let s = c .before .before .before .before .before .before .before .before .before in
-    take-fits (s .args .t .now) (s .args .n) (s .args .runs) (s .args .classes .now) (s .args .marks .now) (s .args .u) (s .args .r) (s .args .y) (s .args .w) (c .before .before .before .before .before .cell .ensures .0) (c .before .if2 .taken) (c .fits2 .ensures)
+    take-fits (s .args .t .now) (s .args .scope .rows) (s .args .scope .runs) (s .args .classes .now) (s .args .marks .now) (s .args .scope .run) (s .args .r) (s .args .y) (s .args .w) (c .before .before .before .before .before .cell .ensures .0) (c .before .if2 .taken) (λ g. c .needs-of .ensures (g .0) (g .1) .0)
 
 returns-2 : tie.Need-returns-2
 returns-2 c =
     let s = c .before .before .before .before .before .before .before .before in
-    take-other (s .args .t .now) (s .args .n) (s .args .runs) (s .args .classes .now) (s .args .marks .now) (s .args .u) (s .args .r) (s .args .y) (s .args .w) (c .before .before .before .before .cell .ensures .0) (s .pre .1 .0) (c .before .before .before .before .cell .ensures .1) (c .if2 .left)
+    take-other (s .args .t .now) (s .args .scope .rows) (s .args .scope .runs) (s .args .classes .now) (s .args .marks .now) (s .args .scope .run) (s .args .r) (s .args .y) (s .args .w) (c .before .before .before .before .cell .ensures .0) (s .pre .0 .0 .1 .0) (c .before .before .before .before .cell .ensures .1) (c .if2 .left)
 
 returns-3 : tie.Need-returns-3
 returns-3 c =
     let s = c .before .before .before .before .before .before in
-    take-unmarked (s .args .t .now) (s .args .n) (s .args .runs) (s .args .classes .now) (s .args .marks .now) (s .args .u) (s .args .r) (s .args .y) (s .args .w) (c .before .before .cell .ensures .0) (c .if1 .left)
+    take-unmarked (s .args .t .now) (s .args .scope .rows) (s .args .scope .runs) (s .args .classes .now) (s .args .marks .now) (s .args .scope .run) (s .args .r) (s .args .y) (s .args .w) (c .before .before .cell .ensures .0) (c .if1 .left)
 
 pub fits-cell-spec : {M : Type 1} → statement M
 fits-cell-spec = tie.close (tie.spec (λ c κs. search needs) (λ c. search needs) (λ c. search needs) (λ c. search needs) cast-if2 (λ c κs. search needs) returns returns-2 returns-3)

@@ -12,10 +12,10 @@ use Rattle.possible.proofs.fits_mark.Statement.{statement}
 use Rattle.possible.proofs.fits_mark.Tie as tie
 
 abbrev Inv-loop : tie.InvT-loop
-Inv-loop t n runs classes marks u r kind y₀ y = (y ≤ n) × ((z : ℕ) → z < y → TakesIn t n runs classes u marks r z → ⊥)
+Inv-loop t classes marks scope r kind y₀ y = (y ≤ scope .rows) × ((z : ℕ) → z < y → TakesIn t (scope .rows) (scope .runs) classes (scope .run) marks r z → ⊥)
 
 abbrev μ-loop : tie.MeasureT-loop
-μ-loop t n runs classes marks u r kind y₀ y = n - y
+μ-loop t classes marks scope r kind y₀ y = scope .rows - y
 
 loop-holds : tie.Need-loop-holds Inv-loop μ-loop
 loop-holds c = (omega arith, λ v l. absurd (omega arith))
@@ -25,11 +25,11 @@ returns c = λ z w i e k. refl
 
 loop-again : tie.Need-loop-again Inv-loop μ-loop
 loop-again c =
-    let s = c .before .before .before .before .before .before .before .before in
-    (omega (arith, c .before .before .loop-test .taken), none-more (TakesIn (s .args .t .now) (s .args .n) (s .args .runs) (s .args .classes .now) (s .args .u) (s .args .marks .now) (s .args .r)) (c .before .before .before .loop .y) (c .before .before .before .loop .inv .1) (⊎-elim (λ w k. false≢true (sym (w .2 .left) ∙ w .1 .ensures (k .0) (k .1) (k .3))) (λ w k. w .left (c .before .kind-of2 .ensures .0 ∙ k .2 ∙ sym (c .before .before .before .before .kind-of .ensures .0))) (c .if1 .came)))
+    let s = c .before .before .before .before .before .before .before .before .before in
+    (omega (arith, c .before .before .if1 .taken), none-more (TakesIn (s .args .t .now) (s .args .scope .rows) (s .args .scope .runs) (s .args .classes .now) (s .args .scope .run) (s .args .marks .now) (s .args .r)) (c .before .before .before .before .loop .y) (c .before .before .before .before .loop .inv .1) (⊎-elim (λ w k. false≢true (sym (w .2 .left) ∙ w .1 .ensures (k .0) (k .1) (k .3))) (λ w k. w .left (c .before .kind-of2 .ensures .0 ∙ k .2 ∙ sym (c .before .before .before .before .before .kind-of .ensures .0))) (c .if2 .came)))
 
 returns-2 : tie.Need-returns-2 Inv-loop μ-loop
-returns-2 c = λ y w i e k. absurd (c .before .loop .inv .1 y (omega (arith, i .0, c .loop-test .left)) (w, i .1, e, k))
+returns-2 c = λ y w i e k. absurd (c .before .before .loop .inv .1 y (omega (arith, i .0, c .if1 .left)) (w, i .1, e, k))
 
 pub fits-mark-spec : {M : Type 1} → statement M
 fits-mark-spec = tie.close (tie.spec Inv-loop μ-loop (λ c κs. search needs) loop-holds (λ c κs. search needs) (λ c κs. search needs) returns (λ c. search needs) (λ c. omega arith) loop-again returns-2)

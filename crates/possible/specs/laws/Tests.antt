@@ -4,7 +4,7 @@ use native.Mathlib.Decide.{ℕ-discrete}
 use native.Mathlib.Omega.{arith}
 use mathlib.Core.Path.{_≡_, sym, _∙_}
 use mathlib.Core.Bool.{Bool, true, false, false≢true, _&&_}
-use mathlib.Core.List.{List}
+use mathlib.Core.List.{List, []}
 use mathlib.Core.Option.{Option·some-injective}
 use lib.ListN.{getD, set, length-set, replicate, length-replicate, getD-replicate}
 use lib.Seq.{getD-set-same, getD-set-other}
@@ -24,23 +24,20 @@ use Rattle.fits.specs.Fits.{Extension, CanTake}
 use Rattle.possible.specs.Tests.{TestedRows}
 use Rattle.possible.specs.laws.Known.{Way, byMark, byParts, way}
 
--- no kind is higher than that of an encryption
-pub kind-most : (t : Term) → kindOf t ≤ 12
-kind-most (atom a) = omega arith
-kind-most (pk t) = omega arith
-kind-most (sk t) = omega arith
-kind-most (shared t k) = omega arith
-kind-most (pair t k) = omega arith
-kind-most (encrypted t k) = omega arith
+-- what a kind tells: none is higher than that of an encryption, and the parts of a pair derive if it does
+by-kind : {known : List Term} (t : Term) → (kindOf t ≤ 12) × (kindOf t ≡ 11 → Derives known t → Derives known (firstPart t) × Derives known (secondPart t))
+by-kind (atom a) = (omega arith, λ e d. absurd (omega arith))
+by-kind (pk t) = (omega arith, λ e d. absurd (omega arith))
+by-kind (sk t) = (omega arith, λ e d. absurd (omega arith))
+by-kind (shared t k) = (omega arith, λ e d. absurd (omega arith))
+by-kind (pair t k) = (omega arith, λ e d. (first d, second d))
+by-kind (encrypted t k) = (omega arith, λ e d. absurd (omega arith))
 
--- the parts of a pair derive if it does
+pub kind-most : (t : Term) → kindOf t ≤ 12
+kind-most t = by-kind {known = []} t .0
+
 pub pair-parts : {known : List Term} (t : Term) → kindOf t ≡ 11 → Derives known t → Derives known (firstPart t) × Derives known (secondPart t)
-pair-parts (atom a) e d = absurd (omega arith)
-pair-parts (pk t) e d = absurd (omega arith)
-pair-parts (sk t) e d = absurd (omega arith)
-pair-parts (shared t k) e d = absurd (omega arith)
-pair-parts (pair t k) e d = (first d, second d)
-pair-parts (encrypted t k) e d = absurd (omega arith)
+pair-parts t = by-kind t .1
 
 -- the parts of a row that is no atom have cells
 pub parts-small : (bytes : List ℕ) (n runs : ℕ) → Shape bytes n runs → (r : ℕ) → r < n → {k l s : ℕ} → k ≡ kindAt bytes r → 8 ≤ k → l ≡ leftAt bytes r → s ≡ secondOf bytes r

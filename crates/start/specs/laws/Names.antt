@@ -8,10 +8,10 @@ use mathlib.Core.Option.{Option, none, some, Option·some-injective, Option·non
 use lib.Dec.{T}
 use lib.ListN.{length, getD, getElem?}
 use Rattle.semantics.specs.Basic.{andThen}
-use Rattle.semantics.specs.Term.{VariableType, agentType, freshType, Atom, trusted, untrusted, global, intruder, role, variable, local, atom}
+use Rattle.semantics.specs.Term.{VariableType, agentType, freshType, Atom, trusted, untrusted, global, intruder, role, variable, local, Term, atom}
 use Rattle.semantics.specs.Table.{Row, atomic, pkOf, skOf, sharedOf, pairOf, encryptedOf}
 use Rattle.semantics.specs.Value.{withoutRun}
-use Rattle.semantics.specs.Runs.{atomOf, atomAt, isAgent}
+use Rattle.semantics.specs.Runs.{Run, atomOf, atomAt, isAgent}
 use Rattle.semantics.specs.State.{inRun, termOf, readingIn, assigned}
 use Rattle.semantics.specs.Encoding.{RowBytes, trustedBytes, untrustedBytes, globalBytes, intruderBytes, roleBytes, agentVariableBytes, freshVariableBytes, localBytes, publicBytes, secretBytes, sharedBytes, pairBytes, encryptedBytes}
 use Rattle.semantics.specs.laws.List.{getElem-below, mem-getElem}
@@ -49,30 +49,11 @@ data AtomIs (l : ℕ) (a : Atom) : ℕ → Type 0 where
   aVariable : ((rows : List Row) (u : ℕ) (agents : List ℕ) → firstReading rows u agents a ≡ none) → AtomIs l a 6
   aLocal : (n : ℕ) → a ≡ local n 0 → AtomIs l a 7
 
-reads-trusted : (n : ℕ) (rows : List Row) (u : ℕ) (agents : List ℕ) → firstReading rows u agents (trusted n) ≡ some (atom (trusted n))
-unfolding readingIn
-reads-trusted n rows zero agents = refl
-reads-trusted n rows (suc u) agents = refl
-
-reads-untrusted : (n : ℕ) (rows : List Row) (u : ℕ) (agents : List ℕ) → firstReading rows u agents (untrusted n) ≡ some (atom (untrusted n))
-unfolding readingIn
-reads-untrusted n rows zero agents = refl
-reads-untrusted n rows (suc u) agents = refl
-
-reads-global : (n : ℕ) (rows : List Row) (u : ℕ) (agents : List ℕ) → firstReading rows u agents (global n) ≡ some (atom (global n))
-unfolding readingIn
-reads-global n rows zero agents = refl
-reads-global n rows (suc u) agents = refl
-
-reads-intruder : (n : ℕ) (rows : List Row) (u : ℕ) (agents : List ℕ) → firstReading rows u agents (intruder n) ≡ some (atom (intruder n))
-unfolding readingIn
-reads-intruder n rows zero agents = refl
-reads-intruder n rows (suc u) agents = refl
-
-reads-variable : (n : ℕ) (type : VariableType) (rows : List Row) (u : ℕ) (agents : List ℕ) → firstReading rows u agents (variable n type) ≡ none
-unfolding readingIn assigned
-reads-variable n type rows zero agents = refl
-reads-variable n type rows (suc u) agents = refl
+-- an atom that reads the same without a run and in each
+reads-same : (a : Atom) {o : Option Term} → withoutRun a ≡ o → ((rows : List Row) (u : ℕ) (run : Run) → readingIn rows u run [] a ≡ o)
+    → (rows : List Row) (u : ℕ) (agents : List ℕ) → firstReading rows u agents a ≡ o
+reads-same a without within rows zero agents = without
+reads-same a without within rows (suc u) agents = within rows (suc u) (record { role = 0; agents = agents })
 
 reads-role : (rows : List Row) (u : ℕ) (agents : List ℕ) (i : ℕ) → (u ≡ 0 → ⊥) → firstReading rows u agents (role i) ≡ andThen (getElem? agents i) (λ r. termOf rows (record { row = r; run = 0 }))
 unfolding readingIn
@@ -103,13 +84,14 @@ agent-name rows runs x few t =
     named x 0 (w .0) (rw zero-add refl) (record { row = low; run = omega arith }) (ap atomOf (w .1)) (w .4) (agent-term rows x (w .0) (w .1) (w .2) ∙ ap (λ (b : Atom). some (atom b)) (sym (w .2)))
 
 atom-is : {k l q : ℕ} {row : Row} (a : Atom) → RowBytes k l q row → atomOf (some row) ≡ some a → AtomIs l a k
-atom-is a (trustedBytes {n}) e = rw (← Option·some-injective (trusted n) a e) (anAgentOrConstant {k = 1} (omega arith) refl (reads-trusted n))
-atom-is a (untrustedBytes {n}) e = rw (← Option·some-injective (untrusted n) a e) (anAgentOrConstant {k = 2} (omega arith) refl (reads-untrusted n))
-atom-is a (globalBytes {n}) e = rw (← Option·some-injective (global n) a e) (anAgentOrConstant {k = 3} (omega arith) refl (reads-global n))
-atom-is a (intruderBytes {n}) e = rw (← Option·some-injective (intruder n) a e) (anAgentOrConstant {k = 4} (omega arith) refl (reads-intruder n))
+unfolding readingIn assigned
+atom-is a (trustedBytes {n}) e = rw (← Option·some-injective (trusted n) a e) (anAgentOrConstant {k = 1} (omega arith) refl (reads-same (trusted n) refl (λ rows u run. refl)))
+atom-is a (untrustedBytes {n}) e = rw (← Option·some-injective (untrusted n) a e) (anAgentOrConstant {k = 2} (omega arith) refl (reads-same (untrusted n) refl (λ rows u run. refl)))
+atom-is a (globalBytes {n}) e = rw (← Option·some-injective (global n) a e) (anAgentOrConstant {k = 3} (omega arith) refl (reads-same (global n) refl (λ rows u run. refl)))
+atom-is a (intruderBytes {n}) e = rw (← Option·some-injective (intruder n) a e) (anAgentOrConstant {k = 4} (omega arith) refl (reads-same (intruder n) refl (λ rows u run. refl)))
 atom-is a (roleBytes {i} l) e = aRole (sym (Option·some-injective (role i) a e))
-atom-is a (agentVariableBytes {n}) e = rw (← Option·some-injective (variable n agentType) a e) (aVariable (reads-variable n agentType))
-atom-is a (freshVariableBytes {n}) e = rw (← Option·some-injective (variable n freshType) a e) (aVariable (reads-variable n freshType))
+atom-is a (agentVariableBytes {n}) e = rw (← Option·some-injective (variable n agentType) a e) (aVariable (reads-same (variable n agentType) refl (λ rows u run. refl)))
+atom-is a (freshVariableBytes {n}) e = rw (← Option·some-injective (variable n freshType) a e) (aVariable (reads-same (variable n freshType) refl (λ rows u run. refl)))
 atom-is a (localBytes {n}) e = aLocal n (sym (Option·some-injective (local n 0) a e))
 atom-is a publicBytes e = absurd (Option·none-ne-some a e)
 atom-is a secretBytes e = absurd (Option·none-ne-some a e)

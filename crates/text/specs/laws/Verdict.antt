@@ -1,7 +1,7 @@
 -- The verdict's text by Search's answer. Assumes nothing.
 use Prim.Native.Nat.{ℕ, _≤_}
 use native.Mathlib.Omega.{arith}
-use mathlib.Core.Path.{_≡_, sym, ap, _∙_}
+use mathlib.Core.Path.{_≡_, refl, sym, ap, _∙_}
 use mathlib.Core.List.{List, _++_}
 use lib.ListN.{length, take, drop, length-append, length-take}
 use lib.Seq.{take-at}
@@ -11,40 +11,38 @@ use Rattle.semantics.specs.Verdict.{Verdict, brokenAt, held, stopped, traceByte
 use Rattle.answers.specs.declared.Break.{Break}
 use Rattle.answers.specs.Answers.{searchedAs}
 use Rattle.answers.specs.declared.Refusal.{Refusal}
+use Rattle.answers.specs.declared.Verdict as code
 use Rattle.answers.specs.declared.Verdict.the-variants.{Refused, Broken, Held, Stopped}
 use Rattle.text.specs.Text.{word, lineText, refusedText, brokenText, verdictText}
 
--- the text of each answer
+-- what an answer of the code says of a text; nothing if it is a break, whose trace it does not hold
+abbrev Tells : code.Verdict → List ℕ → Type 0
+Tells (Refused r) text = refusedText (r .number) (r .place) ≡ text
+Tells (Broken b) text = Unit {0}
+Tells (Held n) text = word "HELD " ++ lineText n ≡ text
+Tells (Stopped n) text = word "STOPPED " ++ lineText n ≡ text
+
+-- it tells the text of the answer
+tells : (a : Answer Verdict) → Tells (searchedAs a) (verdictText a)
+unfolding verdictText
+tells (refused r) = refl
+tells (accepted (brokenAt p ms c)) = tt
+tells (accepted (held n)) = refl
+tells (accepted (stopped n)) = refl
+
+-- whichever way it is given
+told : (a : Answer Verdict) {answer : code.Verdict} → answer ≡ searchedAs a → Tells answer (verdictText a)
+told a e = rw e (tells a)
+
 module _ (a : Answer Verdict) where
   pub text-refused : {x : Refusal} → Refused x ≡ searchedAs a → refusedText (x .number) (x .place) ≡ verdictText a
-  unfolding verdictText
-  text-refused {x} e = go a e
-    where
-      go : (a : Answer Verdict) → Refused x ≡ searchedAs a → refusedText (x .number) (x .place) ≡ verdictText a
-      go (refused r) q = cc
-      go (accepted (brokenAt p ms c)) q = let z : _≡_ {A = ℕ} 0 1 = cc in absurd (omega arith)
-      go (accepted (held n)) q = let z : _≡_ {A = ℕ} 0 1 = cc in absurd (omega arith)
-      go (accepted (stopped n)) q = let z : _≡_ {A = ℕ} 0 1 = cc in absurd (omega arith)
+  text-refused e = told a e
 
   pub text-held : {m : ℕ} → Held m ≡ searchedAs a → word "HELD " ++ lineText m ≡ verdictText a
-  unfolding verdictText
-  text-held {m} e = go a e
-    where
-      go : (a : Answer Verdict) → Held m ≡ searchedAs a → word "HELD " ++ lineText m ≡ verdictText a
-      go (refused r) q = let z : _≡_ {A = ℕ} 0 1 = cc in absurd (omega arith)
-      go (accepted (brokenAt p ms c)) q = let z : _≡_ {A = ℕ} 0 1 = cc in absurd (omega arith)
-      go (accepted (held n)) q = let z : m ≡ n = cc in ap (λ (k : ℕ). word "HELD " ++ lineText k) z
-      go (accepted (stopped n)) q = let z : _≡_ {A = ℕ} 0 1 = cc in absurd (omega arith)
+  text-held e = told a e
 
   pub text-stopped : {m : ℕ} → Stopped m ≡ searchedAs a → word "STOPPED " ++ lineText m ≡ verdictText a
-  unfolding verdictText
-  text-stopped {m} e = go a e
-    where
-      go : (a : Answer Verdict) → Stopped m ≡ searchedAs a → word "STOPPED " ++ lineText m ≡ verdictText a
-      go (refused r) q = let z : _≡_ {A = ℕ} 0 1 = cc in absurd (omega arith)
-      go (accepted (brokenAt p ms c)) q = let z : _≡_ {A = ℕ} 0 1 = cc in absurd (omega arith)
-      go (accepted (held n)) q = let z : _≡_ {A = ℕ} 0 1 = cc in absurd (omega arith)
-      go (accepted (stopped n)) q = let z : m ≡ n = cc in ap (λ (k : ℕ). word "STOPPED " ++ lineText k) z
+  text-stopped e = told a e
 
 -- a break whose trace stands at the buffer's front
 pub record BreakText (a : Answer Verdict) (b : Break) (after : List ℕ) : Type 0 where

@@ -36,27 +36,23 @@ use Rattle.variables.specs.Variables.{unsetFrom, TellsUnset, NamesAtom}
 use Rattle.variables.specs.laws.Unset.{unset-all}
 use Rattle.values.specs.Values.{partSets, Setting}
 
--- a variable's reading is its value
-pub variable-reads : (rows : List Row) (u : ℕ) (run : Run) (sets : List (Atom × Value)) (a : Atom) → T (variableAtom a) → readingIn rows u run sets a ≡ andThen (assigned a sets) (termOf rows)
+-- a variable's reading is its value, and what else is set does not turn on variables
+atom-reads : (rows : List Row) (u : ℕ) (run : Run) (sets more : List (Atom × Value)) (a : Atom) → (T (variableAtom a) → readingIn rows u run sets a ≡ andThen (assigned a sets) (termOf rows))
+    × ((T (variableAtom a) → assigned a more ≡ assigned a sets) → readingIn rows u run more a ≡ readingIn rows u run sets a)
 unfolding readingIn
-variable-reads rows u run sets (trusted n) h = absurd h
-variable-reads rows u run sets (untrusted n) h = absurd h
-variable-reads rows u run sets (global n) h = absurd h
-variable-reads rows u run sets (intruder n) h = absurd h
-variable-reads rows u run sets (role i) h = absurd h
-variable-reads rows u run sets (variable n t) h = refl
-variable-reads rows u run sets (local n w) h = absurd h
+atom-reads rows u run sets more (trusted n) = (λ h. absurd h, λ h. refl)
+atom-reads rows u run sets more (untrusted n) = (λ h. absurd h, λ h. refl)
+atom-reads rows u run sets more (global n) = (λ h. absurd h, λ h. refl)
+atom-reads rows u run sets more (intruder n) = (λ h. absurd h, λ h. refl)
+atom-reads rows u run sets more (role i) = (λ h. absurd h, λ h. refl)
+atom-reads rows u run sets more (variable n t) = (λ h. refl, λ h. ap (λ (o : Option Value). andThen o (termOf rows)) (h tt))
+atom-reads rows u run sets more (local n w) = (λ h. absurd h, λ h. refl)
 
--- what else is set does not turn on variables
+pub variable-reads : (rows : List Row) (u : ℕ) (run : Run) (sets : List (Atom × Value)) (a : Atom) → T (variableAtom a) → readingIn rows u run sets a ≡ andThen (assigned a sets) (termOf rows)
+variable-reads rows u run sets a = atom-reads rows u run sets sets a .0
+
 other-reads : (rows : List Row) (u : ℕ) (run : Run) (sets more : List (Atom × Value)) (a : Atom) → ((T (variableAtom a)) → assigned a more ≡ assigned a sets) → readingIn rows u run more a ≡ readingIn rows u run sets a
-unfolding readingIn
-other-reads rows u run sets more (trusted n) h = refl
-other-reads rows u run sets more (untrusted n) h = refl
-other-reads rows u run sets more (global n) h = refl
-other-reads rows u run sets more (intruder n) h = refl
-other-reads rows u run sets more (role i) h = refl
-other-reads rows u run sets more (variable n t) h = ap (λ (o : Option Value). andThen o (termOf rows)) (h tt)
-other-reads rows u run sets more (local n w) h = refl
+other-reads rows u run sets more a = atom-reads rows u run sets more a .1
 
 -- a variable that stands for nothing is unset
 pub unset-none : (rows : List Row) (sets : List (Atom × Value)) → Standing rows sets → (a : Atom) → andThen (assigned a sets) (termOf rows) ≡ none → assigned a sets ≡ none

@@ -48,34 +48,28 @@ decodes-type pairBytes e = absurd (Option·none-ne-some _ e)
 decodes-type encryptedBytes e = absurd (Option·none-ne-some _ e)
 
 -- the values at a row are its runs one after the other
-decodes-values : (runs : ℕ) (type : VariableType) (y : ℕ) {k l r : ℕ} {row : Row} → RowBytes k l r row → valuesAt runs type y (atomOf (some row)) ≡ spanned y (firstRun k) (runCount runs (isFresh type) k)
+abbrev Spanned : (runs y k : ℕ) → Row → VariableType → Type 0
+Spanned runs y k row type = valuesAt runs type y (atomOf (some row)) ≡ spanned y (firstRun k) (runCount runs (isFresh type) k)
+
+decodes-both : (runs y : ℕ) {k l r : ℕ} {row : Row} → RowBytes k l r row → Spanned runs y k row agentType × Spanned runs y k row freshType
 unfolding runCount
-decodes-values runs agentType y trustedBytes = refl
-decodes-values runs agentType y untrustedBytes = refl
-decodes-values runs agentType y globalBytes = refl
-decodes-values runs agentType y intruderBytes = refl
-decodes-values runs agentType y (roleBytes i) = refl
-decodes-values runs agentType y agentVariableBytes = refl
-decodes-values runs agentType y freshVariableBytes = refl
-decodes-values runs agentType y localBytes = refl
-decodes-values runs agentType y publicBytes = refl
-decodes-values runs agentType y secretBytes = refl
-decodes-values runs agentType y sharedBytes = refl
-decodes-values runs agentType y pairBytes = refl
-decodes-values runs agentType y encryptedBytes = refl
-decodes-values runs freshType y trustedBytes = refl
-decodes-values runs freshType y untrustedBytes = refl
-decodes-values runs freshType y globalBytes = refl
-decodes-values runs freshType y intruderBytes = refl
-decodes-values runs freshType y (roleBytes i) = refl
-decodes-values runs freshType y agentVariableBytes = refl
-decodes-values runs freshType y freshVariableBytes = refl
-decodes-values runs freshType y localBytes = refl
-decodes-values runs freshType y publicBytes = refl
-decodes-values runs freshType y secretBytes = refl
-decodes-values runs freshType y sharedBytes = refl
-decodes-values runs freshType y pairBytes = refl
-decodes-values runs freshType y encryptedBytes = refl
+decodes-both runs y trustedBytes = (refl, refl)
+decodes-both runs y untrustedBytes = (refl, refl)
+decodes-both runs y globalBytes = (refl, refl)
+decodes-both runs y intruderBytes = (refl, refl)
+decodes-both runs y (roleBytes i) = (refl, refl)
+decodes-both runs y agentVariableBytes = (refl, refl)
+decodes-both runs y freshVariableBytes = (refl, refl)
+decodes-both runs y localBytes = (refl, refl)
+decodes-both runs y publicBytes = (refl, refl)
+decodes-both runs y secretBytes = (refl, refl)
+decodes-both runs y sharedBytes = (refl, refl)
+decodes-both runs y pairBytes = (refl, refl)
+decodes-both runs y encryptedBytes = (refl, refl)
+
+decodes-values : (runs : ℕ) (type : VariableType) (y : ℕ) {k l r : ℕ} {row : Row} → RowBytes k l r row → Spanned runs y k row type
+decodes-values runs agentType y b = decodes-both runs y b .0
+decodes-values runs freshType y b = decodes-both runs y b .1
 
 -- one or none
 one-or-none : (b : Bool) → cond b 1 0 ≤ 1
