@@ -137,15 +137,14 @@ pub record AtMove (file t : List ℕ) (plan : Plan) (sc : Scenario) (d : definit
 -- values chosen for the first of the variables that it sets
 pub record Choosing (sc : Scenario) (d : definitions.State) (s : State) (a : Active) (from : ℕ) (xs : List Atom) (vs : List Value) (names classes : List ℕ) (marks : List Bool) (values : Values) : Type 0 where
   pub setting : Setting sc d a (s .names) from xs vs names
-  pub arrays : PartArrays sc d a xs vs names classes marks
+  pub arrays : PartArrays sc d a xs vs classes marks
   pub takes : Takes (sc .rows) (length (sc .runs)) xs vs
   pub are : ValuesAre vs values
 
 -- values chosen for all of them
-pub record Chosen (sc : Scenario) (d : definitions.State) (a : Active) (e : RunEvent) (vs : List Value) (names classes : List ℕ) (marks : List Bool) (values : Values) : Type 0 where
+pub record Chosen (sc : Scenario) (d : definitions.State) (a : Active) (vs : List Value) (names classes : List ℕ) (marks : List Bool) (values : Values) : Type 0 where
   pub ready : Ready sc d a vs names classes marks
   pub takes : Takes (sc .rows) (length (sc .runs)) (toSet sc a) vs
-  pub only : (e .kind ≡ 1 → ⊥) → vs ≡ []
   pub are : ValuesAre vs values
 
 -- What the functions of the walk are given. A state of some scenario, and one whose own trace breaks no claim:
@@ -195,7 +194,7 @@ pub record SomeMove (file t : List ℕ) (plan : Plan) (course : Course) (names c
   pub vs : List Value
   pub move : AtMove file t plan sc d s ms at (turn .run) (turn .event) a
   pub isDone : course .done ≡ s .done
-  pub chosen : Chosen sc d a (turn .event) vs names classes marks (turn .values)
+  pub chosen : Chosen sc d a vs names classes marks (turn .values)
 
 pub record SomeStep (file t : List ℕ) (plan : Plan) (course : Course) (names classes : List ℕ) (marks : List Bool) (at : ℕ) (turn : Turn) : Type 0 where
   pub of : SomeMove file t plan course names classes marks at turn

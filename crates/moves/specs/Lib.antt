@@ -1,2 +1,3 @@
--- The laws of moves that are only tested.
+-- What is asked of a move, and the laws of that.
+pub mod Moves
 pub mod laws

@@ -1,2 +1,3 @@
--- The laws of moves that are only tested, with their proofs.
+-- The laws of moves, with their proofs.
 pub mod Allowed
+pub mod After

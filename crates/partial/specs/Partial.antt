@@ -21,4 +21,4 @@ use Rattle.values.specs.Values.{Setting, PartArrays}
 abbrev pub Tested : List ℕ → ℕ → ℕ → RunEvent → List ℕ → List Bool → Bool → Type 0
 Tested t runs k e classes marks answer =
     (sc : Scenario) (d : definitions.State) (s : State) (a : Active) (from : ℕ) (xs : List Atom) (vs ws : List Value) (names : List ℕ) → NextMove t runs k e sc d s a → e .kind ≡ 1
-    → Setting sc d a (s .names) from xs vs names → PartArrays sc d a xs vs names classes marks → Takes (sc .rows) (length (sc .runs)) (unsetFrom (sc .rows) (a .progress .values) (a .event .row) from) ws → answer ≡ false → performed sc d a (vs ++ ws) ≡ none
+    → Setting sc d a (s .names) from xs vs names → PartArrays sc d a xs vs classes marks → Takes (sc .rows) (length (sc .runs)) (unsetFrom (sc .rows) (a .progress .values) (a .event .row) from) ws → answer ≡ false → performed sc d a (vs ++ ws) ≡ none

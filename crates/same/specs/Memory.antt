@@ -10,7 +10,8 @@ use Rattle.memory.specs.Memory.{wordCount, Variables, IsKey, Says}
 use Rattle.breaks.specs.declared.Plan.{Plan}
 use Rattle.breaks.specs.declared.Reach.{Reach}
 use Rattle.breaks.specs.Walk.{Reached, entriesFrom}
-use Rattle.same.specs.Clean.{Clean, Placed}
+use Rattle.state.specs.State.{Placed}
+use Rattle.same.specs.Clean.{Clean}
 
 -- The depth is part of a key, so what is said of a key holds for one depth.
 pub record Remembers (file t : List ℕ) (plan : Plan) (memory : List ℕ) : Type 0 where

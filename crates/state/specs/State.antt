@@ -1,26 +1,25 @@
 -- A state of the code as a state of the definitions: positions, names, classes and marks. Assumes nothing.
-use Prim.Native.Nat.{ℕ, suc, _+_, _<_, _≤_}
+use Prim.Native.Nat.{ℕ, suc, _<_, _≤_}
 use mathlib.Core.Path.{_≡_}
-use mathlib.Core.Bool.{Bool, true, false}
-use mathlib.Core.List.{List, _∷_, List·Memᴰ}
-use mathlib.Core.Option.{Option, none, some}
-use lib.ListN.{length, getD, getElem?, set}
+use mathlib.Core.Bool.{Bool}
+use mathlib.Core.List.{List}
+use mathlib.Core.Option.{some}
+use lib.ListN.{length, getD, getElem?}
 use Rattle.semantics.specs.Term.{Term}
 use Rattle.semantics.specs.Table.{Row}
 use Rattle.semantics.specs.Scenario.{Scenario}
 use Rattle.semantics.specs.Guarantee.{Guarantee}
 use Rattle.semantics.specs.State.{Value, Progress, Active, active, Standing}
 use Rattle.semantics.specs.State as definitions
-use Rattle.semantics.specs.Moves.{setAfter, performed}
+use Rattle.semantics.specs.Moves.{setAfter}
 use Rattle.rows.specs.Rows.{rowsOf}
-use Rattle.cells.specs.Cells.{cellCount, Shape, Within, Readings, cellValue}
+use Rattle.cells.specs.Cells.{cellCount, Shape, Readings, cellValue}
 use Rattle.classes.specs.Classes.{NamesRight, Classes}
 use Rattle.knowledge.specs.Marks.{Exact, Celled}
 use Rattle.runs.specs.declared.Runs.{Runs}
 use Rattle.runs.specs.declared.RunEvent.{RunEvent}
 use Rattle.runs.specs.Runs.{RunsAt, EventRead}
 use Rattle.state.specs.declared.State.{State}
-use Rattle.state.specs.declared.Moved.{Moved}
 use Rattle.state.specs.Readings.{setsOf, withSets, readings}
 
 -- an accepted file, its table, and where its runs stand
@@ -38,21 +37,25 @@ pub record Due (n runs k own peer row : ℕ) : Type 0 where
   pub other : peer < n
   pub term : row < n
 
--- what the arrays of a state say, for readings and knowledge
-pub record Arrays (rows : List Row) (runs : ℕ) (readings : Readings) (known : List Term) (names classes : List ℕ) (marks : List Bool) : Type 0 where
-  pub named : NamesRight rows runs readings names
+-- positions and names of a state: what the code knows of a state before its marks are worked on
+pub record Placed (sc : Scenario) (d : definitions.State) (done names : List ℕ) : Type 0 where
+  pub progress : length (d .progress) ≡ length (sc .runs)
+  pub positions : (k : ℕ) (p : Progress) → getElem? (d .progress) k ≡ some p → getD done k 0 ≡ p .done
+  pub named : NamesRight (sc .rows) (length (sc .runs)) (readings sc (setsOf (d .progress))) names
   pub sized : length names ≡ cellCount
+  -- a variable that is set has a value
+  pub valued : (k : ℕ) → Standing (sc .rows) (setsOf (d .progress) k)
+
+-- what classes and marks say, for readings and knowledge
+pub record Arrays (rows : List Row) (runs : ℕ) (readings : Readings) (known : List Term) (classes : List ℕ) (marks : List Bool) : Type 0 where
   pub classed : Classes rows runs (cellValue readings rows) classes
   pub exact : Exact rows runs readings known marks
   pub celled : Celled rows runs readings known
 
 -- a state of the code that is a state of the definitions
 pub record IsState (sc : Scenario) (d : definitions.State) (s : State) : Type 0 where
-  pub progress : length (d .progress) ≡ length (sc .runs)
-  pub done : (k : ℕ) (p : Progress) → getElem? (d .progress) k ≡ some p → getD (s .done) k 0 ≡ p .done
-  pub arrays : Arrays (sc .rows) (length (sc .runs)) (readings sc (setsOf (d .progress))) (d .known) (s .names) (s .classes) (s .marks)
-  -- a variable that is set has a value
-  pub valued : (k : ℕ) → Standing (sc .rows) (setsOf (d .progress) k)
+  pub placed : Placed sc d (s .done) (s .names)
+  pub arrays : Arrays (sc .rows) (length (sc .runs)) (readings sc (setsOf (d .progress))) (d .known) (s .classes) (s .marks)
 
 -- the next event of a run, as the code has it
 pub record NextMove (t : List ℕ) (runs k : ℕ) (e : RunEvent) (sc : Scenario) (d : definitions.State) (s : State) (a : Active) : Type 0 where
@@ -71,11 +74,5 @@ pub record Sets (sc : Scenario) (d : definitions.State) (a : Active) (vs : List 
 
 -- arrays that are right once a run's unset variables have new values
 pub record Ready (sc : Scenario) (d : definitions.State) (a : Active) (vs : List Value) (names classes : List ℕ) (marks : List Bool) : Type 0 where
-  pub arrays : Arrays (sc .rows) (length (sc .runs)) (readings sc (withSets (a .index) (setAfter sc a vs) (setsOf (d .progress)))) (d .known) names classes marks
-  pub valued : Standing (sc .rows) (setAfter sc a vs)
-
--- what a move answers: whether it is allowed, and the marks of the state after it, in which a run, counted from 0, has made one more event
-pub data Performed (sc : Scenario) (d : definitions.State) (a : Active) (vs : List Value) (done : List ℕ) (k : ℕ) (names classes : List ℕ) (moved : Moved) : Type 0 where
-  isAllowed : {d′ : definitions.State} → moved .allowed ≡ true → performed sc d a vs ≡ some d′
-      → IsState sc d′ (record { done = set done k (getD done k 0 + 1); names = names; classes = classes; marks = moved .marks }) → Performed sc d a vs done k names classes moved
-  notAllowed : moved .allowed ≡ false → performed sc d a vs ≡ none → Performed sc d a vs done k names classes moved
+  pub sets : Sets sc d a vs names
+  pub arrays : Arrays (sc .rows) (length (sc .runs)) (readings sc (withSets (a .index) (setAfter sc a vs) (setsOf (d .progress)))) (d .known) classes marks

@@ -2,7 +2,7 @@
 pub mod Readings
 pub mod Grown
 pub mod Moves
-pub mod Performed
+pub mod Ready
 pub mod Start
 pub mod Active
 pub mod Given

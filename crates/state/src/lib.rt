@@ -1,10 +1,8 @@
-// The state of a scenario by value, and its moves: how far each run has come, the names that its atoms have, and marks that are exact.
+// The state of a scenario by value: how far each run has come, the names that its atoms have, and marks that are exact.
 ghost use mathlib.Core.Path.{_≡_};
-ghost use mathlib.Core.List.{List, []};
-ghost use Prim.Native.Nat.{ℕ, suc, _+_, _<_, _≤_};
+ghost use Prim.Native.Nat.{_+_, _<_, _≤_};
 ghost use lib.ListN.{length, getD, set};
 ghost use Rattle.semantics.specs.State as definitions;
-ghost use Rattle.semantics.specs.State.{Value, Active};
 ghost use Rattle.semantics.specs.Scenario.{Scenario};
 ghost use Rattle.semantics.specs.Guarantee.{Guarantee};
 ghost use Rattle.rows.specs.Rows.{rowsOf};
@@ -13,11 +11,8 @@ ghost use Rattle.classes.specs.Classes.{Refilled};
 ghost use Rattle.knowledge.specs.Marks.{Settled};
 ghost use Rattle.runs.specs.Runs.{RunsAt};
 ghost use Rattle.state.specs.Start.{Agents};
-ghost use Rattle.state.specs.State.{Given, IsState, Due, NextMove, Ready, Performed};
+ghost use Rattle.state.specs.State.{Given, IsState};
 use cells::Cells;
-use cells::cell;
-use records::Event;
-use runs::RunEvent;
 use runs::Runs;
 
 // How far each run has come, what its atoms stand for, the classes of values, and the marks, taken apart.
@@ -25,12 +20,6 @@ pub struct State {
     pub done: [usize; 4],
     pub names: [u16; Cells::COUNT],
     pub classes: [u16; Cells::COUNT],
-    pub marks: [bool; Cells::COUNT],
-}
-
-// What a move answers: whether it is allowed, and the marks after it. Names and classes stay as they are given.
-pub struct Moved {
-    pub allowed: bool,
     pub marks: [bool; Cells::COUNT],
 }
 
@@ -69,90 +58,11 @@ pub fn with_names(
     u: usize,
 ) -> [bool; Cells::COUNT]
     requires { ⌜ Shape (now t) n runs × ((length (now classes) ≡ cellCount) × ((length (now names) ≡ cellCount) × (u ≤ runs))) ⌝ }
-    ensures { λ more. ⌜ Refilled (rowsOf (now (t .entry))) runs u (now (names .entry)) (now (classes .entry)) (now (classes .exit)) × Settled (rowsOf (now (t .entry))) runs (now (classes .exit)) marks more ⌝ }
+    ensures { λ more. ⌜ Refilled (rowsOf (now (t .entry))) runs u (now (names .entry)) (now (classes .entry)) (now (classes .exit)) ⌝ }
+    ensures { λ more. ⌜ Settled (rowsOf (now (t .entry))) runs (now (classes .exit)) marks more ⌝ }
 {
     classes::refill(&mut classes[..], t, n, runs, names, u);
     knowledge::settle(marks, t, n, runs, &classes[..])
-}
-
-// The marks after a send of run k: sender, receiver and term are known. A term without a value is not sent.
-fn sent(
-    classes: &[u16],
-    marks: [bool; Cells::COUNT],
-    t: &[u8],
-    n: usize,
-    runs: usize,
-    k: usize,
-    e: RunEvent,
-) -> Moved
-    requires { ⌜ Shape (now t) n runs × (Due n runs k (e .own) (e .peer) (e .row) × (length (now classes) ≡ cellCount)) ⌝ }
-    ensures { λ moved. ⌜ ((sc : Scenario) (d : definitions.State) (s : State) (a : Active) (names : List ℕ) → NextMove (now (t .entry)) runs k e sc d s a → length (s .done) ≡ 4 → Ready sc d a [] names (now (classes .entry)) marks → e .kind ≡ 0 → Performed sc d a [] (s .done) k names (now (classes .entry)) moved) ⌝ }
-{
-    let c = cell(e.row, k + 1);
-    if classes[c] == Cells::ABSENT {
-        return Moved {
-            allowed: false,
-            marks,
-        };
-    }
-    let term = knowledge::learn(marks, t, n, runs, classes, e.row, k + 1);
-    let receiver = knowledge::learn(term, t, n, runs, classes, e.peer, 0);
-    let sender = knowledge::learn(receiver, t, n, runs, classes, e.own, 0);
-    Moved {
-        allowed: true,
-        marks: sender,
-    }
-}
-
-// A read of run k is allowed if sender, receiver and pattern are derivable with the new values.
-fn was_read(marks: [bool; Cells::COUNT], k: usize, e: RunEvent) -> Moved
-    requires { ⌜ (k < 4) × ((e .own < 96) × ((e .peer < 96) × (e .row < 96))) ⌝ }
-    ensures { λ moved. ⌜ ((t : List ℕ) (n runs : ℕ) (sc : Scenario) (d : definitions.State) (s : State) (a : Active) (vs : List Value) (names classes : List ℕ) → Shape t n runs → Due n runs k (e .own) (e .peer) (e .row) → NextMove t runs k e sc d s a → length (s .done) ≡ 4 → Ready sc d a vs names classes marks → e .kind ≡ 1 → Performed sc d a vs (s .done) k names classes moved) ⌝ }
-{
-    let own = e.own;
-    let peer = e.peer;
-    let c = cell(e.row, k + 1);
-    if marks[own] {
-        if marks[peer] {
-            return Moved {
-                allowed: marks[c],
-                marks,
-            };
-        }
-        return Moved {
-            allowed: false,
-            marks,
-        };
-    }
-    Moved {
-        allowed: false,
-        marks,
-    }
-}
-
-// Whether the next event of run k is allowed, and the marks after it. Classes and marks are those with the new values of a read.
-pub fn perform(
-    classes: &[u16],
-    marks: [bool; Cells::COUNT],
-    t: &[u8],
-    n: usize,
-    runs: usize,
-    k: usize,
-    e: RunEvent,
-) -> Moved
-    requires { ⌜ Shape (now t) n runs × (Due n runs k (e .own) (e .peer) (e .row) × (length (now classes) ≡ cellCount)) ⌝ }
-    ensures { λ moved. ⌜ ((sc : Scenario) (d : definitions.State) (s : State) (a : Active) (vs : List Value) (names : List ℕ) → NextMove (now (t .entry)) runs k e sc d s a → length (s .done) ≡ 4 → Ready sc d a vs names (now (classes .entry)) marks → ((e .kind ≡ 1 → ⊥) → vs ≡ []) → Performed sc d a vs (s .done) k names (now (classes .entry)) moved) ⌝ }
-{
-    if e.kind == Event::READ {
-        return was_read(marks, k, e);
-    }
-    if e.kind == Event::SEND {
-        return sent(classes, marks, t, n, runs, k, e);
-    }
-    Moved {
-        allowed: true,
-        marks,
-    }
 }
 
 // The agents of run u as the file has them, and none for run 0.
@@ -173,6 +83,23 @@ fn agents_of(file: &[u8], r: Runs, u: usize) -> &[u8]
 impl State {
     // how many events a run has made before any move
     pub const NONE_DONE: usize = 0;
+
+    // The state after a move, from its parts.
+    pub fn after(
+        done: [usize; 4],
+        names: [u16; Cells::COUNT],
+        classes: [u16; Cells::COUNT],
+        marks: [bool; Cells::COUNT],
+    ) -> State
+        ensures { λ s. ⌜ s ≡ record { done = done; names = names; classes = classes; marks = marks } ⌝ }
+    {
+        State {
+            done,
+            names,
+            classes,
+            marks,
+        }
+    }
 
     // The state before any move: what is known is the file's list and all intruder constants.
     pub fn initial(file: &[u8], t: &[u8], n: usize, r: Runs, list: &[u8]) -> State

@@ -93,18 +93,19 @@ pub fn step(file: &[u8], t: &[u8], n: usize, r: Runs, s: State, trace: &[u8]) ->
         let marks = s.marks;
         let mut classes = s.classes;
         let more = worked(&mut classes, marks, &names, t, n, r.count, k, e);
-        let moved = state::perform(&classes, more, t, n, r.count, k, e);
-        let after = moved.marks;
-        let done = state::advance(before, k);
+        if moves::is_allowed(&classes, &more, k, e) {
+            let after = moves::perform(&classes, more, t, n, r.count, k, e);
+            let done = state::advance(before, k);
+            return Stepped {
+                allowed: true,
+                length: end,
+                state: State::after(done, names, classes, after),
+            };
+        }
         return Stepped {
-            allowed: moved.allowed,
-            length: end,
-            state: State {
-                done,
-                names,
-                classes,
-                marks: after,
-            },
+            allowed: false,
+            length: 0,
+            state: s,
         };
     }
     Stepped {

@@ -28,5 +28,5 @@ pub record Setting (sc : Scenario) (d : State) (a : Active) (before : List ℕ) 
   pub later : (r : ℕ) → from ≤ r → r < 96 → getD names (cellOf r (suc (a .index))) absent ≡ getD before (cellOf r (suc (a .index))) absent
 
 -- arrays that are right for values of the first of these variables
-abbrev pub PartArrays : Scenario → State → Active → List Atom → List Value → List ℕ → List ℕ → List Bool → Type 0
-PartArrays sc d a xs vs names classes marks = Arrays (sc .rows) (length (sc .runs)) (readings sc (withSets (a .index) (partSets a xs vs) (setsOf (d .progress)))) (d .known) names classes marks
+abbrev pub PartArrays : Scenario → State → Active → List Atom → List Value → List ℕ → List Bool → Type 0
+PartArrays sc d a xs vs classes marks = Arrays (sc .rows) (length (sc .runs)) (readings sc (withSets (a .index) (partSets a xs vs) (setsOf (d .progress)))) (d .known) classes marks

@@ -311,7 +311,7 @@ fn walk_after(
     if 0 < known {
         return findings::known(reach.left, known);
     }
-    let moved = state::perform(
+    let after = moves::perform(
         classes,
         marks,
         t,
@@ -320,7 +320,6 @@ fn walk_after(
         turn.run,
         turn.event,
     );
-    let after = moved.marks;
     let bytes = 2 + 2 * turn.values.count;
     let found = walk(
         trace,

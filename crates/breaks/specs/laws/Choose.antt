@@ -103,11 +103,10 @@ module _ {file t : List ℕ} {plan : Plan} {sc : Scenario} {d : State} {s : Code
     none-left : left-to-set ≡ []
     none-left = no-more (move .next) (move .clear .here .reached .given .shape .count) from x view end
 
-    choose-all : Chosen sc d a e vs names classes marks values
+    choose-all : Chosen sc d a vs names classes marks values
     choose-all = record {
       ready = part-ready (move .next) (choosing .setting) (choosing .arrays) none-left;
       takes = subst (λ (l : List Atom). Takes (sc .rows) (length (sc .runs)) l vs) (sym (choosing .setting .split ∙ ap (λ (l : List Atom). xs ++ l) none-left ∙ append-nil xs)) (choosing .takes);
-      only = λ z. absurd (z kind);
       are = choosing .are;
     }
 

@@ -3,29 +3,24 @@ use Prim.Native.Nat.{ℕ, zero, suc, _+_, _*_, _<_, _≤_}
 use native.Mathlib.Numerals.{add-one}
 use native.Mathlib.Omega.{arith}
 use mathlib.Core.Path.{_≡_, refl, sym, ap, _∙_, subst}
-use mathlib.Core.Bool.{Bool, true, false, not, true≢false}
+use mathlib.Core.Bool.{Bool, true, false, true≢false}
 use mathlib.Core.List.{List, [], _∷_, _++_, map, append-assoc, append-nil, List·Memᴰ}
-use mathlib.Core.Option.{Option, none, some, Option·some-injective, Option·none-ne-some}
-use lib.Dec.{T}
-use lib.ListN.{length, getD, set, take, drop, length-append, length-map}
+use lib.ListN.{length, getD, set, length-append, length-map}
 use Rattle.semantics.specs.Basic.{joined, present}
 use Rattle.semantics.specs.Limits.{mostTraceBytes}
 use Rattle.semantics.specs.Scenario.{Scenario}
-use Rattle.semantics.specs.State.{Value, State, Active, Claim}
+use Rattle.semantics.specs.State.{Value, State, Claim}
 use Rattle.semantics.specs.Moves.{Move, performed}
-use Rattle.semantics.specs.Tree.{Follows, stays, moves}
-use Rattle.semantics.specs.Verdict.{Entry, Finding, found, nothing, cut, walked, valueBytes, moveBytes, traceBytes}
+use Rattle.semantics.specs.Tree.{stays, moves}
+use Rattle.semantics.specs.Verdict.{Entry, found, nothing, walked, valueBytes, moveBytes, traceBytes}
 use Rattle.semantics.specs.Allowed.{Step, step, AllowedTrace}
-use Rattle.semantics.specs.laws.Test.{present-some, absent-none}
 use Rattle.semantics.specs.laws.Tree.{follows-append, follows-map, listed-sound}
 use Rattle.semantics.specs.laws.Moves.{performed-exact}
 use Rattle.semantics.specs.laws.Reached.{takes-length}
 use Rattle.semantics.specs.laws.Bytes.{set-few, trace-bytes}
-use Rattle.runs.specs.declared.RunEvent.{RunEvent}
-use Rattle.state.specs.declared.State.{State as CodeState}
-use Rattle.state.specs.declared.Moved.{Moved}
-use Rattle.cells.specs.Cells.{Shape}
-use Rattle.state.specs.State.{Due, IsState, NextMove, Ready, Performed, isAllowed, notAllowed}
+use Rattle.state.specs.State.{IsState}
+use Rattle.moves.specs.Moves.{AtEvent, TellsAllowed, MarksAfter}
+use Rattle.moves.specs.laws.Allowed.{told-some, told-none}
 use Rattle.answers.specs.Answers.{kindAs, breakAs, walkedAs}
 use Rattle.answers.specs.declared.Break.{Break}
 use Rattle.answers.specs.declared.Walked.{Walked}
@@ -35,7 +30,7 @@ use Rattle.breaks.specs.declared.Course.{Course}
 use Rattle.breaks.specs.declared.Plan.{Plan}
 use Rattle.breaks.specs.declared.Reach.{Reach}
 use Rattle.breaks.specs.declared.Turn.{Turn}
-use Rattle.breaks.specs.Walk.{stateOf, judged, over, bufferAs, Finds, nextIn, entriesFrom, afterMove, below, branches, stepBytes, stepSize, stepBefore, StepFits, Here, SomeState, SomeMove, SomeStep, moveBranches, FindsFrom, FindsAfter, FindsStep}
+use Rattle.breaks.specs.Walk.{stateOf, judged, over, bufferAs, Finds, nextIn, entriesFrom, afterMove, below, stepBytes, stepSize, stepBefore, StepFits, Here, SomeState, SomeMove, SomeStep, moveBranches, FindsFrom, FindsAfter, FindsStep}
 use Rattle.breaks.specs.laws.Walked.{changed, walked-map, found-within}
 use Rattle.breaks.specs.laws.Finds.{answer-clean, answer-cut, answer-broken}
 use Rattle.breaks.specs.laws.Entries.{next-step, branches-allowed, branches-refused}
@@ -68,31 +63,28 @@ set-low (x ∷ l) zero v (suc j) h w = h
 set-low (x ∷ l) (suc k) v zero h w = h
 set-low (x ∷ l) (suc k) v (suc j) h w = set-low l k v j h w
 
--- what a move answers, whatever state it is asked of
-abbrev pub Performing : List ℕ → ℕ → ℕ → RunEvent → List ℕ → List Bool → Moved → Type 0
-Performing t runs k e classes marks moved =
-    (sc : Scenario) (d : State) (s : CodeState) (a : Active) (vs : List Value) (names : List ℕ) → NextMove t runs k e sc d s a → length (s .done) ≡ 4 → Ready sc d a vs names classes marks
-    → ((e .kind ≡ 1 → ⊥) → vs ≡ []) → Performed sc d a vs (s .done) k names classes moved
-
--- whether it is allowed, whatever state it is asked of
-abbrev pub Allowing : List ℕ → List Bool → ℕ → RunEvent → Bool → Type 0
-Allowing classes marks k e b =
-    (t : List ℕ) (n runs : ℕ) (sc : Scenario) (d : State) (s : CodeState) (a : Active) (vs : List Value) (names : List ℕ) → Shape t n runs → Due n runs k (e .own) (e .peer) (e .row) → NextMove t runs k e sc d s a
-    → length (s .done) ≡ 4 → Ready sc d a vs names classes marks → ((e .kind ≡ 1 → ⊥) → vs ≡ []) → b ≡ present (performed sc d a vs)
-
--- the state after a move that is allowed
-performed-state : {sc : Scenario} {d : State} {a : Active} {vs : List Value} {made : List ℕ} {k : ℕ} {names classes : List ℕ} {moved : Moved} → Performed sc d a vs made k names classes moved → {d′ : State} → performed sc d a vs ≡ some d′
-    → IsState sc d′ (record { done = set made k (getD made k 0 + 1); names = names; classes = classes; marks = moved .marks })
-performed-state {sc} {made = made} {k = k} {names = names} {classes = classes} {moved = moved} (isAllowed {d′ = d″} e f g) {d′} p =
-    subst (λ (x : State). IsState sc x (record { done = set made k (getD made k 0 + 1); names = names; classes = classes; marks = moved .marks })) (Option·some-injective d″ d′ (sym f ∙ p)) g
-performed-state (notAllowed e f) {d′} p = absurd (Option·none-ne-some d′ (sym f ∙ p))
-
 module _ {file t : List ℕ} {plan : Plan} {course : Course} {names classes : List ℕ} {marks : List Bool} {at : ℕ} {turn : Turn} (m : SomeMove file t plan course names classes marks at turn) where
   abbrev pub taken : Move
   taken = record { run = suc (turn .run); values = m .vs }
 
   here : Here file t plan (m .sc) (m .d) (m .s) (m .ms) at
   here = m .move .clear .here
+
+  -- its event, of which is asked whether it is allowed and what is known after it
+  abbrev eventOf : length (course .done) ≡ 4 → AtEvent t (plan .rows) (plan .runs .count) (turn .run) (turn .event) classes marks
+  eventOf size = record {
+    sc = m .sc;
+    d = m .d;
+    s = m .s;
+    a = m .a;
+    vs = m .vs;
+    names = names;
+    shape = m .move .clear .here .reached .given .shape;
+    due = m .move .due;
+    next = m .move .next;
+    size = sym (ap length (m .isDone)) ∙ size;
+    ready = m .chosen .ready;
+  }
 
   -- a trace's end is within the longest trace
   pub place-low : at ≤ mostTraceBytes
@@ -113,22 +105,21 @@ module _ {file t : List ℕ} {plan : Plan} {course : Course} {names classes : Li
   pub few-chosen : turn .values .count ≤ 8
   few-chosen = omega (arith, m .chosen .are .many, takes-length (m .chosen .takes), set-few (m .sc) (here .reached .given .good) (m .a))
 
-  module _ {b : Bool} (tells : Allowing classes marks (turn .run) (turn .event) b) (size : length (course .done) ≡ 4) where
+  module _ {b : Bool} (tells : TellsAllowed (turn .run) (turn .event) classes marks b) (size : length (course .done) ≡ 4) where
     told : b ≡ present (performed (m .sc) (m .d) (m .a) (m .vs))
-    told = tells t (plan .rows) (plan .runs .count) (m .sc) (m .d) (m .s) (m .a) (m .vs) names (here .reached .given .shape) (m .move .due) (m .move .next) (sym (ap length (m .isDone)) ∙ size) (m .chosen .ready) (m .chosen .only)
+    told = tells t (plan .rows) (plan .runs .count) (eventOf size)
 
     -- a move that is not allowed
     pub move-refused : b ≡ false → (reach : Reach) (trace : List ℕ) → FindsAfter m reach trace trace (Clean 0)
     move-refused it reach trace =
-        let no-move = absent-none (performed (m .sc) (m .d) (m .a) (m .vs)) (subst (λ (c : Bool). T (not c)) (sym it ∙ told) tt) in
-        finds-nil (m .sc) (reach .left) (branches-refused plan (m .sc) (reach .depth) (m .d) (suc (turn .run)) (m .a) (m .vs) no-move) trace (reach .at)
+        finds-nil (m .sc) (reach .left) (branches-refused plan (m .sc) (reach .depth) (m .d) (suc (turn .run)) (m .a) (m .vs) (told-none told it)) trace (reach .at)
 
     -- one that is
     pub move-taken : b ≡ true → SomeStep file t plan course names classes marks at turn
-    move-taken it = let w = present-some (performed (m .sc) (m .d) (m .a) (m .vs)) (subst T (sym it ∙ told) tt) in record { of = m; d′ = w .0; allowed = w .1 }
+    move-taken it = let w = told-some told it in record { of = m; d′ = w .0; allowed = w .1 }
 
 pub move-done : {file t : List ℕ} {plan : Plan} {course : Course} {names classes : List ℕ} {marks : List Bool} {turn : Turn} (reach : Reach) (m : SomeMove file t plan course names classes marks (reach .at) turn) {b : Bool}
-    → Allowing classes marks (turn .run) (turn .event) b → length (course .done) ≡ 4 → b ≡ true → {before after : List ℕ} {w : Walked} → FindsStep file t plan course names classes marks reach turn before after w → FindsAfter m reach before after w
+    → TellsAllowed (turn .run) (turn .event) classes marks b → length (course .done) ≡ 4 → b ≡ true → {before after : List ℕ} {w : Walked} → FindsStep file t plan course names classes marks reach turn before after w → FindsAfter m reach before after w
 unfolding move-taken
 move-done reach m tells size it finds = finds (move-taken m tells size it)
 
@@ -255,25 +246,24 @@ module _ {file t : List ℕ} {plan : Plan} {course : Course} {names classes : Li
     is-short Cut finds = omega arith
 
   -- the state after it, with what is answered of the marks, and how far the walk goes from there
-  module _ {moved : Moved} (performs : Performing t (plan .runs .count) (turn .run) (turn .event) classes marks moved) (size : length (course .done) ≡ 4) {next : List ℕ} (e : next ≡ set (course .done) (turn .run) (getD (course .done) (turn .run) 0 + 1)) where
-    pub after-state : SomeState file t plan (stateOf (record { done = next }) names classes (moved .marks)) (reach .at + stepSize turn)
+  module _ {more : List Bool} (performs : MarksAfter t (plan .rows) (plan .runs .count) (turn .run) (turn .event) classes marks more) (size : length (course .done) ≡ 4) {next : List ℕ} (e : next ≡ set (course .done) (turn .run) (getD (course .done) (turn .run) 0 + 1)) where
+    pub after-state : SomeState file t plan (stateOf (record { done = next }) names classes more) (reach .at + stepSize turn)
     after-state =
         let here = m .of .move .clear .here in
-        let at-state = performed-state (performs sc (m .of .d) (m .of .s) (m .of .a) (m .of .vs) names (m .of .move .next) (sym (ap length (m .of .isDone)) ∙ size) (m .of .chosen .ready) (m .of .chosen .only)) (m .allowed) in
         record {
           sc = sc;
           d = m .d′;
           ms = m .of .ms ++ (its ∷ []);
           here = record {
             reached = record { isOpened = here .reached .isOpened; given = here .reached .given; allowed = move-allowed };
-            state = subst (λ (l : List ℕ). IsState sc (m .d′) (record { done = l; names = names; classes = classes; marks = moved .marks })) (sym (e ∙ ap (λ (l : List ℕ). set l (turn .run) (getD l (turn .run) 0 + 1)) (m .of .isDone))) at-state;
+            state = subst (λ (l : List ℕ). IsState sc (m .d′) (record { done = l; names = names; classes = classes; marks = more })) (sym (e ∙ ap (λ (l : List ℕ). set l (turn .run) (getD l (turn .run) 0 + 1)) (m .of .isDone))) (performs (eventOf (m .of) size) (m .d′) (m .allowed));
             low = next-low (m .of) e;
             place = (λ i. here .place i + (step-size (m .of) ∙ ap length (sym (trace-one its))) i) ∙ sym (ap length (trace-append (m .of .ms) (its ∷ [])) ∙ length-append (traceBytes (m .of .ms)) (traceBytes (its ∷ [])));
           };
         }
 
     -- what a walk from it finds, after the move
-    module _ {b b′ : List ℕ} {w : Walked} (told : FindsFrom file t plan (stateOf (record { done = next }) names classes (moved .marks)) (record { left = reach .left; at = reach .at + stepSize turn; depth = reach .depth }) b b′ w) where
+    module _ {b b′ : List ℕ} {w : Walked} (told : FindsFrom file t plan (stateOf (record { done = next }) names classes more) (record { left = reach .left; at = reach .at + stepSize turn; depth = reach .depth }) b b′ w) where
       pub found-after : Finds sc (reach .left) (entriesFrom plan (reach .depth) sc (m .d′)) b (reach .at + stepSize turn) b′ w
       unfolding after-state
       found-after = told after-state

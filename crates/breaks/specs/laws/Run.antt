@@ -18,7 +18,7 @@ use Rattle.runs.specs.declared.Runs.{Runs}
 use Rattle.runs.specs.Runs.{RunsAt, EventRead}
 use Rattle.state.specs.State.{Given, NextMove}
 use Rattle.state.specs.laws.Active.{run-ended, Coming, run-coming, coming-move, coming-due}
-use Rattle.state.specs.laws.Performed.{none-ready}
+use Rattle.state.specs.laws.Ready.{none-ready}
 use Rattle.rows.specs.Rows.{rowsOf}
 use Rattle.variables.specs.Variables.{Beneath, unsetFrom}
 use Rattle.values.specs.Values.{Setting}
@@ -110,7 +110,6 @@ module _ {file t : List ℕ} {plan : Plan} (course : Course) {names classes : Li
           chosen = record {
             ready = none-ready (at-move .next);
             takes = subst (λ (xs : List Atom). Takes (m .sc .rows) (length (m .sc .runs)) xs []) (sym (nothing-set (at-move .next) kind)) takesNone;
-            only = λ z. refl;
             are = are;
           };
         }

@@ -21,7 +21,7 @@ use Rattle.cells.specs.Cells.{cellOf, absent}
 use Rattle.runs.specs.declared.RunEvent.{RunEvent}
 use Rattle.state.specs.declared.State.{State as CodeState}
 use Rattle.state.specs.State.{IsState, NextMove, Sets}
-use Rattle.state.specs.laws.Performed.{none-set}
+use Rattle.state.specs.laws.Ready.{none-set}
 use Rattle.variables.specs.Variables.{unsetFrom, TellsValue, takes, takesNot, NamesAtom}
 use Rattle.values.specs.Values.{Setting}
 use Rattle.values.specs.laws.Values.{setting-none, setting-more, setting-all}

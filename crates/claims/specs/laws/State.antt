@@ -35,7 +35,7 @@ pub record Stands (file t : List ℕ) (n : ℕ) (r : Runs) (marks : List Bool) (
   pub exact : Exact (sc .rows) (length (sc .runs)) (readings sc (setsOf (d .progress))) (d .known) marks
 
 pub stands : {file t : List ℕ} {n : ℕ} {r : Runs} {sc : Scenario} {d : State} {s : CodeState} → Given file t n r sc → IsState sc d s → Stands file t n r (s .marks) (s .done) sc d
-stands given is = record { given = given; progress = is .progress; made = is .done; exact = is .arrays .exact }
+stands given is = record { given = given; progress = is .placed .progress; made = is .placed .positions; exact = is .arrays .exact }
 
 module _ (file t : List ℕ) (n : ℕ) (r : Runs) (marks : List Bool) (done : List ℕ) (k : ℕ) where
   -- what is found in run k

@@ -90,7 +90,7 @@ taken-cell sc sets (aLocal {c = c} {w = w} {v = v} e l m) = record { low = atomA
     go (suc k) l m = let r = getElem-there (sc .runs) k (omega arith) in ap (λ (ρ : Reading). ρ (local c w)) (reading-run sc sets k (r .1))
 
 module _ {t : List ℕ} {n runs k : ℕ} {e : RunEvent} {sc : Scenario} {d : State} {s : CodeState} {a : Active} (shape : Shape t n runs) (from : ℕ) (xs : List Atom) (vs ws : List Value)
-    {names classes : List ℕ} {marks : List Bool} (next : NextMove t runs k e sc d s a) (kind : a .event .kind ≡ read) (setting : Setting sc d a (s .names) from xs vs names) (arrays : PartArrays sc d a xs vs names classes marks)
+    {names classes : List ℕ} {marks : List Bool} (next : NextMove t runs k e sc d s a) (kind : a .event .kind ≡ read) (setting : Setting sc d a (s .names) from xs vs names) (arrays : PartArrays sc d a xs vs classes marks)
     (takes : Takes (sc .rows) (length (sc .runs)) (unsetFrom (sc .rows) (a .progress .values) (a .event .row) from) ws) where
   -- the variables that have no value yet
   abbrev rest : List Atom

@@ -21,7 +21,7 @@ use Rattle.state.specs.declared.State.{State as CodeState}
 use Rattle.state.specs.Readings.{setsOf, withSets, readings}
 use Rattle.state.specs.State.{Due, NextMove}
 use Rattle.state.specs.laws.Moves.{newReadings, read-underived}
-use Rattle.state.specs.laws.Performed.{kind-read, own-within, peer-within}
+use Rattle.state.specs.laws.Ready.{kind-read, own-within, peer-within}
 use Rattle.variables.specs.Variables.{unsetFrom}
 use Rattle.values.specs.Values.{partSets, Setting, PartArrays}
 use Rattle.values.specs.laws.Arrays.{part-grows}
@@ -30,7 +30,7 @@ use Rattle.completions.specs.Completions.{Completes}
 use Rattle.partial.specs.laws.Filled.{completion-extension, completion-filled}
 
 module _ {t : List ℕ} {n runs k : ℕ} {e : RunEvent} {sc : Scenario} {d : State} {s : CodeState} {a : Active} (shape : Shape t n runs) (due : Due n runs k (e .own) (e .peer) (e .row)) (from : ℕ) (xs : List Atom) (vs ws : List Value)
-    {names classes : List ℕ} {marks : List Bool} (next : NextMove t runs k e sc d s a) (kind : e .kind ≡ 1) (setting : Setting sc d a (s .names) from xs vs names) (arrays : PartArrays sc d a xs vs names classes marks) where
+    {names classes : List ℕ} {marks : List Bool} (next : NextMove t runs k e sc d s a) (kind : e .kind ≡ 1) (setting : Setting sc d a (s .names) from xs vs names) (arrays : PartArrays sc d a xs vs classes marks) where
   -- the readings with the values that are chosen, and with all of a completion
   abbrev part : Readings
   part = readings sc (withSets (a .index) (partSets a xs vs) (setsOf (d .progress)))

@@ -23,7 +23,8 @@ use Rattle.breaks.specs.Walk.{judged, bufferAs, Finds, nextIn, entriesFrom}
 use Rattle.breaks.specs.laws.Walked.{nothing-within}
 use Rattle.breaks.specs.laws.Finds.{answer-clean}
 use Rattle.semantics.specs.Same.{Each, cons, Same, SameEntry}
-use Rattle.same.specs.Clean.{Clean, Placed, SamePositions, SameNames}
+use Rattle.state.specs.State.{Placed}
+use Rattle.same.specs.Clean.{Clean, SamePositions, SameNames}
 use Rattle.semantics.specs.laws.Each.{each-length}
 use Rattle.semantics.specs.laws.Same.{listed-same, broken-same}
 use Rattle.semantics.specs.laws.SameKnown.{same-reached}

@@ -21,7 +21,8 @@ use Rattle.breaks.specs.declared.Reach.{Reach}
 use Rattle.breaks.specs.declared.Turn.{Turn}
 use Rattle.breaks.specs.Walk.{Finds, Reached, entriesFrom, stepSize, SomeMove, SomeStep, FindsAfter}
 use Rattle.breaks.specs.laws.Move.{taken, move-allowed, move-clean, move-cut}
-use Rattle.same.specs.Clean.{Clean, Placed}
+use Rattle.state.specs.State.{Placed}
+use Rattle.same.specs.Clean.{Clean}
 use Rattle.same.specs.Memory.{Remembers}
 use Rattle.same.specs.laws.Clean.{clean-found, clean-some, clean-finds, clean-cuts}
 use Rattle.same.specs.laws.Placed.{placed-next}

@@ -25,7 +25,8 @@ use Rattle.memory.specs.laws.Slots.{zeros-say-nothing}
 use Rattle.breaks.specs.declared.Plan.{Plan}
 use Rattle.breaks.specs.declared.Reach.{Reach}
 use Rattle.breaks.specs.Walk.{Reached, entriesFrom}
-use Rattle.same.specs.Clean.{Clean, Placed, SamePositions, SameNames}
+use Rattle.state.specs.State.{Placed}
+use Rattle.same.specs.Clean.{Clean, SamePositions, SameNames}
 use Rattle.same.specs.Memory.{Remembers, Room}
 use Rattle.same.specs.laws.Clean.{clean-same}
 

@@ -21,7 +21,8 @@ use Rattle.state.specs.Readings.{setsIn, setsOf, readings}
 use Rattle.state.specs.laws.Readings.{reading-run}
 use Rattle.state.specs.laws.Start.{atom-below}
 use Rattle.semantics.specs.Same.{Both, noneOf, someOf, Each, SameValue, SameSets, SameRun}
-use Rattle.same.specs.Clean.{Placed, SamePositions, SameNames}
+use Rattle.state.specs.State.{Placed}
+use Rattle.same.specs.Clean.{SamePositions, SameNames}
 use Rattle.semantics.specs.laws.Each.{each-from}
 
 -- a cell fixes its row and its run

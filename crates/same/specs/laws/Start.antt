@@ -34,7 +34,7 @@ module _ {file t : List ℕ} (plan : Plan) {sc : Scenario} {s : State} (isOpened
     ms = [];
     here = rw none-done (record {
       reached = record { isOpened = isOpened; given = given; allowed = stays };
-      state = record { progress = state .progress; done = λ k p q. zeros-read 4 k ∙ first-done (sc .runs) k p q; arrays = state .arrays; valued = state .valued };
+      state = record { placed = record { progress = state .placed .progress; positions = λ k p q. zeros-read 4 k ∙ first-done (sc .runs) k p q; named = state .placed .named; sized = state .placed .sized; valued = state .placed .valued }; arrays = state .arrays };
       low = λ k l. omega (arith, zeros-read 4 k);
       place = refl;
     });

@@ -57,7 +57,7 @@ module _ {file t : List ℕ} {n : ℕ} {r : Runs} {sc : Scenario} (given : Given
   here : (run : Run) × (p : Progress) × (getElem? (sc .runs) k ≡ some run) × (getElem? (d .progress) k ≡ some p)
   here =
       let f = getElem-there (sc .runs) k (omega (arith, given .runs .count)) in
-      let g = getElem-there (d .progress) k (omega (arith, given .runs .count, state .progress)) in
+      let g = getElem-there (d .progress) k (omega (arith, given .runs .count, state .placed .progress)) in
       (f .0, g .0, f .1, g .1)
 
   events-of : getD (r .events) k 0 ≡ length (eventsOf sc (here .0))
@@ -65,7 +65,7 @@ module _ {file t : List ℕ} {n : ℕ} {r : Runs} {sc : Scenario} (given : Given
 
   -- a run that has made all its events has none to come
   pub run-ended : getD (r .events) k 0 ≤ getD (s .done) k 0 → active sc d (suc k) ≡ none
-  run-ended l = inactive-from sc d k (here .2) (here .3) (getElem-past (eventsOf sc (here .0)) (here .1 .done) (omega (arith, events-of, state .done k (here .1) (here .3))))
+  run-ended l = inactive-from sc d k (here .2) (here .3) (getElem-past (eventsOf sc (here .0)) (here .1 .done) (omega (arith, events-of, state .placed .positions k (here .1) (here .3))))
 
   -- every other has its next
   pub record Coming (a : Active) : Type 0 where
@@ -75,7 +75,7 @@ module _ {file t : List ℕ} {n : ℕ} {r : Runs} {sc : Scenario} (given : Given
 
   pub run-coming : getD (s .done) k 0 < getD (r .events) k 0 → (a : Active) × Coming a
   run-coming l =
-      let done = state .done k (here .1) (here .3) in
+      let done = state .placed .positions k (here .1) (here .3) in
       let e = getElem-there (eventsOf sc (here .0)) (here .1 .done) (omega (arith, events-of, done)) in
       (record { index = k; run = here .0; progress = here .1; event = e .0 }, record { isActive = active-from sc d k (here .2) (here .3) (e .1); ofRun = here .2; ofEvent = ap (getElem? (eventsOf sc (here .0))) done ∙ e .1 })
 

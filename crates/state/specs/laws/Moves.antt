@@ -29,12 +29,13 @@ use Rattle.semantics.specs.laws.Value.{value-unfolds}
 use Rattle.semantics.specs.laws.Inference.{derivable-exact}
 use Rattle.semantics.specs.laws.Moves.{ActiveIn, active-in}
 use Rattle.cells.specs.Cells.{Within, Readings, cellValue}
+use Rattle.classes.specs.Classes.{NamesRight}
 use Rattle.knowledge.specs.Marks.{Marked, Derivable, Exact}
 use Rattle.runs.specs.Runs.{EventRead}
 use Rattle.start.specs.laws.Names.{agent-atom, agent-term}
 use Rattle.state.specs.declared.State.{State as CodeState}
 use Rattle.state.specs.Readings.{SetsOf, setsOf, withSets, readings}
-use Rattle.state.specs.State.{Arrays, IsState}
+use Rattle.state.specs.State.{Placed, Arrays, IsState, Sets}
 use Rattle.semantics.specs.laws.List.{set-same, set-other}
 use Rattle.state.specs.laws.Readings.{with-same, with-other, sets-advanced, reading-run}
 use Rattle.knowledge.specs.laws.Learn.{marked-derives}
@@ -185,44 +186,52 @@ module _ (sc : Scenario) (good : Guarantee sc) (d : State) (u : ℕ) (a : Active
   unfolding knownAfter
   claimed k = performed-some sc d a vs (known-after (d .known) k refl)
 
-  -- the state after an event, from arrays that are right for the new readings
-  pub advanced-state : {s : CodeState} → IsState sc d s → (known : List Term) (s′ : CodeState) → s′ .done ≡ set (s .done) (a .index) (getD (s .done) (a .index) 0 + 1)
-      → length (s .done) ≡ 4 → Arrays (sc .rows) (length (sc .runs)) newReadings known (s′ .names) (s′ .classes) (s′ .marks) → Standing (sc .rows) mine
-      → IsState sc (advanced sc d a vs known) s′
+  -- the sets of the runs after it
+  abbrev after : Progress
+  after = record { done = suc (a .progress .done); values = mine }
+
+  below : a .index < length (d .progress)
+  below = getElem-below (d .progress) (a .index) (is .ofProgress)
+
+  sets-after : setsOf (set (d .progress) (a .index) after) ≡ withSets (a .index) mine (setsOf (d .progress))
+  sets-after = sets-advanced (d .progress) (a .index) after below
+
+  -- positions and names after an event, whatever is known then
+  pub advanced-placed : {done names done′ names′ : List ℕ} → Placed sc d done names → (known : List Term) → done′ ≡ set done (a .index) (getD done (a .index) 0 + 1) → length done ≡ 4 → Sets sc d a vs names′
+      → Placed sc (advanced sc d a vs known) done′ names′
   unfolding advanced
-  advanced-state {s} before known s′ done size arrays standing = record {
+  advanced-placed {done} {names} {done′} {names′} before known moved size sets = record {
     progress = length-set (d .progress) (a .index) _ ∙ before .progress;
-    done = moved;
-    arrays = subst (λ (sets : SetsOf). Arrays (sc .rows) (length (sc .runs)) (readings sc sets) known (s′ .names) (s′ .classes) (s′ .marks)) (sym same) arrays;
-    valued = λ k. subst (λ (sets : SetsOf). Standing (sc .rows) (sets k)) (sym same) (stands k);
+    positions = positions;
+    named = subst (λ (s : SetsOf). NamesRight (sc .rows) (length (sc .runs)) (readings sc s) names′) (sym sets-after) (sets .named);
+    sized = sets .size;
+    valued = λ k. subst (λ (s : SetsOf). Standing (sc .rows) (s k)) (sym sets-after) (stands k);
   }
     where
-      after : Progress
-      after = record { done = suc (a .progress .done); values = mine }
-
-      below : a .index < length (d .progress)
-      below = getElem-below (d .progress) (a .index) (is .ofProgress)
-
-      same : setsOf (set (d .progress) (a .index) after) ≡ withSets (a .index) mine (setsOf (d .progress))
-      same = sets-advanced (d .progress) (a .index) after below
-
       stands : (k : ℕ) → Standing (sc .rows) (withSets (a .index) mine (setsOf (d .progress)) k)
       stands k = go (ℕ-discrete k (a .index))
         where
           go : Dec (k ≡ a .index) → Standing (sc .rows) (withSets (a .index) mine (setsOf (d .progress)) k)
-          go (yes e) = rw (e, with-same (a .index) mine (setsOf (d .progress))) standing
+          go (yes e) = rw (e, with-same (a .index) mine (setsOf (d .progress))) (sets .valued)
           go (no n) = rw (with-other (a .index) mine (setsOf (d .progress)) k n) (before .valued k)
 
-      moved : (k : ℕ) (p : Progress) → getElem? (set (d .progress) (a .index) after) k ≡ some p → getD (s′ .done) k 0 ≡ p .done
-      moved k p e = ap (λ (l : List ℕ). getD l k 0) done ∙ go (ℕ-discrete k (a .index))
+      positions : (k : ℕ) (p : Progress) → getElem? (set (d .progress) (a .index) after) k ≡ some p → getD done′ k 0 ≡ p .done
+      positions k p e = ap (λ (l : List ℕ). getD l k 0) moved ∙ go (ℕ-discrete k (a .index))
         where
           few : a .index < 4
           few = omega (arith, getElem-below (sc .runs) (a .index) (is .ofRun), good .fewRuns)
 
-          go : Dec (k ≡ a .index) → getD (set (s .done) (a .index) (getD (s .done) (a .index) 0 + 1)) k 0 ≡ p .done
+          go : Dec (k ≡ a .index) → getD (set done (a .index) (getD done (a .index) 0 + 1)) k 0 ≡ p .done
           go (yes f) =
               let q : after ≡ p = Option·some-injective after p (sym (set-same (d .progress) (a .index) after below) ∙ rw f at e) in
-              rw f (getD-set-same (s .done) (a .index) (getD (s .done) (a .index) 0 + 1) 0 (omega (arith, few, size)) ∙ add-one _ ∙ ap suc (before .done (a .index) (a .progress) (is .ofProgress)) ∙ ap (λ (x : Progress). x .done) q)
-          go (no n) =
-              getD-set-other (s .done) (a .index) k (getD (s .done) (a .index) 0 + 1) 0 n
-              ∙ before .done k p (sym (set-other (d .progress) (a .index) after k n) ∙ e)
+              rw f (getD-set-same done (a .index) (getD done (a .index) 0 + 1) 0 (omega (arith, few, size)) ∙ add-one _ ∙ ap suc (before .positions (a .index) (a .progress) (is .ofProgress)) ∙ ap (λ (x : Progress). x .done) q)
+          go (no n) = getD-set-other done (a .index) k (getD done (a .index) 0 + 1) 0 n ∙ before .positions k p (sym (set-other (d .progress) (a .index) after k n) ∙ e)
+
+  -- the state after it, with arrays that are right for the new readings and for what is known then
+  pub advanced-state : {s : CodeState} → IsState sc d s → (known : List Term) (s′ : CodeState) → s′ .done ≡ set (s .done) (a .index) (getD (s .done) (a .index) 0 + 1)
+      → length (s .done) ≡ 4 → Sets sc d a vs (s′ .names) → Arrays (sc .rows) (length (sc .runs)) newReadings known (s′ .classes) (s′ .marks) → IsState sc (advanced sc d a vs known) s′
+  unfolding advanced
+  advanced-state before known s′ done size sets arrays = record {
+    placed = advanced-placed (before .placed) known done size sets;
+    arrays = subst (λ (l : SetsOf). Arrays (sc .rows) (length (sc .runs)) (readings sc l) known (s′ .classes) (s′ .marks)) (sym sets-after) arrays;
+  }

@@ -292,16 +292,18 @@ pub start-state : (sc : Scenario) (good : Guarantee sc) (t : List ℕ) (n : ℕ)
     → IsState sc (initial sc) (record { done = 0 ∷ 0 ∷ 0 ∷ 0 ∷ []; names = names; classes = classes; marks = marks })
 unfolding initial
 start-state sc good t n shape rows names classes start marks {u} all begun marked settled = record {
-  progress = length-map {A = Run} {B = Progress} (sc .runs) (λ run. record { done = 0; values = [] });
-  done = λ k p e. zero-done k ∙ go (sc .runs) k p e;
-  arrays = subst (λ (sets : SetsOf). Arrays (sc .rows) (length (sc .runs)) (readings sc sets) (initialKnowledge sc) names classes marks) (sym (start-sets sc)) (record {
-    named = begun-names (sc .rows) (length (sc .runs)) (readings sc (λ k. [])) u names classes all begun;
+  placed = record {
+    progress = length-map {A = Run} {B = Progress} (sc .runs) (λ run. record { done = 0; values = [] });
+    positions = λ k p e. zero-done k ∙ go (sc .runs) k p e;
+    named = subst (λ (sets : SetsOf). NamesRight (sc .rows) (length (sc .runs)) (readings sc sets) names) (sym (start-sets sc)) (begun-names (sc .rows) (length (sc .runs)) (readings sc (λ k. [])) u names classes all begun);
     sized = begun .size;
+    valued = λ k. subst (λ (sets : SetsOf). Standing (sc .rows) (sets k)) (sym (start-sets sc)) (none-set (sc .rows));
+  };
+  arrays = subst (λ (sets : SetsOf). Arrays (sc .rows) (length (sc .runs)) (readings sc sets) (initialKnowledge sc) classes marks) (sym (start-sets sc)) (record {
     classed = classed;
     exact = settled (readings sc (λ k. [])) (initialKnowledge sc) classed covers;
     celled = λ v m. let c = covers .covers v m in (c .0, c .1, c .2, c .3);
   });
-  valued = λ k. subst (λ (sets : SetsOf). Standing (sc .rows) (sets k)) (sym (start-sets sc)) (none-set (sc .rows));
 }
   where
     classed : Classes (sc .rows) (length (sc .runs)) (cellValue (readings sc (λ k. [])) (sc .rows)) classes

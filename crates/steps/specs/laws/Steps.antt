@@ -1,29 +1,26 @@
 -- One step of a trace: its bytes, and the state after it. Assumes nothing.
-use Prim.Native.Nat.{ℕ, zero, suc, _+_, _*_, _-_, _<_, _≤_}
+use Prim.Native.Nat.{ℕ, _+_, _*_, _-_, _<_, _≤_}
 use native.Mathlib.Omega.{arith}
-use mathlib.Core.Path.{_≡_, refl, sym, ap, _∙_, subst}
+use mathlib.Core.Path.{_≡_, refl, sym, ap, _∙_}
 use mathlib.Core.Bool.{Bool, true, false, true≢false}
 use mathlib.Core.List.{List, [], _∷_}
 use mathlib.Core.Option.{Option, none, some, Option·some-injective, Option·none-ne-some}
 use borrow.Author.Tests.{le-leb, lt-leb}
-use lib.Dec.{leb}
-use lib.ListN.{length, getD, set, getElem?, take, drop, length-drop}
-use Rattle.semantics.specs.Basic.{andThen, provided}
+use lib.ListN.{length, getD, set, take, drop}
+use Rattle.semantics.specs.Basic.{andThen}
 use Rattle.semantics.specs.Scenario.{Scenario}
 use Rattle.semantics.specs.State.{Value, State, Active, active}
 use Rattle.semantics.specs.Moves.{Move, toSet, performed}
 use Rattle.semantics.specs.Replay.{suits, after, valuesIn, firstStep}
 use Rattle.runs.specs.declared.RunEvent.{RunEvent}
 use Rattle.state.specs.declared.State.{State as CodeState}
-use Rattle.state.specs.declared.Moved.{Moved}
 use Rattle.rows.specs.Rows.{rowsOf}
 use Rattle.cells.specs.Cells.{Shape}
-use Rattle.state.specs.State.{Due, IsState, NextMove, Sets, Ready, Performed, isAllowed, notAllowed}
-use Rattle.state.specs.laws.Performed.{grown-ready, kept-ready}
+use Rattle.state.specs.State.{Due, IsState, NextMove, Sets, Ready}
+use Rattle.state.specs.laws.Ready.{grown-ready, kept-ready}
 use Rattle.choices.specs.declared.Choice.{Choice}
 use Rattle.choices.specs.Choices.{Suited, isSuited, notSuited}
 use Rattle.choices.specs.laws.Values.{only-none}
-use Rattle.steps.specs.declared.Stepped.{Stepped}
 use Rattle.steps.specs.Steps.{stepAfter, StepDone, isStep, noStep, Worked, forRead, forOther}
 
 -- a step that is cut short
@@ -72,6 +69,12 @@ after-suited sc d m a e h = by-active sc d m a e ∙ by-test (suits (sc .rows) (
     by-test : (b : Bool) → b ≡ true → tested (performed sc d a (m .values)) b ≡ performed sc d a (m .values)
     by-test true q = refl
     by-test false q = absurd (true≢false (sym q))
+
+-- values that suit are set in the names
+pub suited-sets : {sc : Scenario} {d : State} {a : Active} {vs : List Value} {choice : Choice} → Suited sc d a vs choice → choice .suits ≡ true
+    → (suits (sc .rows) (length (sc .runs)) (toSet sc a) vs ≡ true) × Sets sc d a vs (choice .names)
+suited-sets (isSuited e f g) h = (f, g)
+suited-sets (notSuited e f) h = absurd (true≢false (sym h ∙ e))
 
 module _ (sc : Scenario) (d : State) (bytes : List ℕ) (s : CodeState) where
   abbrev pub Refuses : Type 0
@@ -125,24 +128,15 @@ module _ (sc : Scenario) (d : State) (bytes : List ℕ) (s : CodeState) where
             go (isSuited e f g) = absurd (true≢false (sym e ∙ h))
             go (notSuited e f) = noStep refl (not-after (after-unsuited sc d move a active-here (ap (suits (sc .rows) (length (sc .runs)) (toSet sc a)) (sym same-values) ∙ f)))
 
-        pub suited-sets : choice .suits ≡ true → (suits (sc .rows) (length (sc .runs)) (toSet sc a) (valuesIn values) ≡ true) × Sets sc d a (valuesIn values) (choice .names)
-        suited-sets h = go suited
-          where
-            go : Suited sc d a (valuesIn values) choice → (suits (sc .rows) (length (sc .runs)) (toSet sc a) (valuesIn values) ≡ true) × Sets sc d a (valuesIn values) (choice .names)
-            go (isSuited e f g) = (f, g)
-            go (notSuited e f) = absurd (true≢false (sym h ∙ e))
+        module _ (h : choice .suits ≡ true) where
+          is-performed : after sc d move ≡ performed sc d a (valuesIn values)
+          is-performed = after-suited sc d move a active-here (ap (suits (sc .rows) (length (sc .runs)) (toSet sc a)) (sym same-values) ∙ suited-sets suited h .0) ∙ ap (performed sc d a) (sym same-values)
 
-        pub step-performed : choice .suits ≡ true → (made : List ℕ) (k : ℕ) (names classes : List ℕ) (moved : Moved) → Performed sc d a (valuesIn values) made k names classes moved → {next : List ℕ} → next ≡ set made k (getD made k 0 + 1)
-            → StepDone sc d bytes (record { allowed = moved .allowed; length = end; state = record { done = next; names = names; classes = classes; marks = moved .marks } })
-        step-performed h made k names classes moved did {next} advanced = rw advanced (go did)
-          where
-            done : after sc d move ≡ performed sc d a (valuesIn values)
-            done = after-suited sc d move a active-here (ap (suits (sc .rows) (length (sc .runs)) (toSet sc a)) (sym same-values) ∙ suited-sets h .0) ∙ ap (performed sc d a) (sym same-values)
+          pub step-refused : performed sc d a (valuesIn values) ≡ none → Refuses
+          step-refused e = noStep refl (not-after (is-performed ∙ e))
 
-            go : Performed sc d a (valuesIn values) made k names classes moved
-                → StepDone sc d bytes (record { allowed = moved .allowed; length = end; state = record { done = set made k (getD made k 0 + 1); names = names; classes = classes; marks = moved .marks } })
-            go (isAllowed e f g) = isStep e (is-after (done ∙ f)) g
-            go (notAllowed e f) = noStep e (not-after (done ∙ f))
+          pub step-performed : {d′ : State} → performed sc d a (valuesIn values) ≡ some d′ → {s′ : CodeState} → IsState sc d′ s′ → StepDone sc d bytes (record { allowed = true; length = end; state = s′ })
+          step-performed e state = isStep refl (is-after (is-performed ∙ e)) state
 
 -- values that suit an event that is no read are none
 pub suited-none : {t : List ℕ} {runs k : ℕ} {e : RunEvent} {sc : Scenario} {d : State} {s : CodeState} {a : Active} → NextMove t runs k e sc d s a → (values : List ℕ)

@@ -8,10 +8,9 @@ use lib.ListN.{length}
 use Rattle.semantics.specs.Term.{Atom}
 use Rattle.semantics.specs.Scenario.{Scenario}
 use Rattle.semantics.specs.State.{Value, State, Active, paired}
-use Rattle.semantics.specs.laws.Reached.{Standing}
 use Rattle.semantics.specs.laws.Moves.{ActiveIn, active-in}
 use Rattle.rows.specs.Rows.{rowsOf}
-use Rattle.cells.specs.Cells.{Shape, Readings}
+use Rattle.cells.specs.Cells.{Shape}
 use Rattle.classes.specs.Classes.{Grows, Refilled}
 use Rattle.knowledge.specs.Marks.{Settled}
 use Rattle.runs.specs.declared.RunEvent.{RunEvent}
@@ -20,7 +19,7 @@ use Rattle.state.specs.Readings.{SetsOf, setsIn, setsOf, withSets, readings}
 use Rattle.state.specs.State.{Arrays, NextMove, Ready}
 use Rattle.state.specs.laws.Readings.{with-itself, readings-grow}
 use Rattle.state.specs.laws.Grown.{grown-arrays}
-use Rattle.state.specs.laws.Performed.{index}
+use Rattle.state.specs.laws.Ready.{index}
 use Rattle.variables.specs.Variables.{unsetFrom}
 use Rattle.values.specs.Values.{partSets, Setting, PartArrays}
 use Rattle.values.specs.laws.Values.{paired-append, all-set, setting-all}
@@ -30,12 +29,12 @@ module _ {t : List ℕ} {runs k : ℕ} {e : RunEvent} {sc : Scenario} {d : State
   is = active-in sc d (suc k) (next .isActive)
 
   -- with no value the state's own arrays are right
-  pub part-none : PartArrays sc d a [] [] (s .names) (s .classes) (s .marks)
+  pub part-none : PartArrays sc d a [] [] (s .classes) (s .marks)
   part-none =
       let same : partSets a [] [] ≡ setsOf (d .progress) (a .index) = append-nil (a .progress .values) ∙ sym (ap setsIn (is .ofProgress)) in
-      subst (λ (sets : SetsOf). Arrays (sc .rows) (length (sc .runs)) (readings sc sets) (d .known) (s .names) (s .classes) (s .marks)) (sym (with-itself (a .index) (partSets a [] []) (setsOf (d .progress)) same)) (next .isState .arrays)
+      subst (λ (sets : SetsOf). Arrays (sc .rows) (length (sc .runs)) (readings sc sets) (d .known) (s .classes) (s .marks)) (sym (with-itself (a .index) (partSets a [] []) (setsOf (d .progress)) same)) (next .isState .arrays)
 
-  module _ {from : ℕ} {xs : List Atom} {vs : List Value} {names classes : List ℕ} {marks : List Bool} (setting : Setting sc d a (s .names) from xs vs names) (arrays : PartArrays sc d a xs vs names classes marks) where
+  module _ {from : ℕ} {xs : List Atom} {vs : List Value} {names classes : List ℕ} {marks : List Bool} (setting : Setting sc d a (s .names) from xs vs names) (arrays : PartArrays sc d a xs vs classes marks) where
     -- more values only let the readings grow
     pub part-grows : (ys : List Atom) (ws : List Value) → Grows (k + 1) (readings sc (withSets (a .index) (partSets a xs vs) (setsOf (d .progress)))) (readings sc (withSets (a .index) (partSets a (xs ++ ys) (vs ++ ws)) (setsOf (d .progress))))
     part-grows ys ws =
@@ -47,14 +46,14 @@ module _ {t : List ℕ} {runs k : ℕ} {e : RunEvent} {sc : Scenario} {d : State
 
     -- with one more value they are worked on
     pub part-more : {n : ℕ} → Shape t n runs → {from′ : ℕ} (y : Atom) (v : Value) {names′ classes′ : List ℕ} {marks′ : List Bool} → Setting sc d a (s .names) from′ (xs ++ (y ∷ [])) (vs ++ (v ∷ [])) names′
-        → Refilled (rowsOf t) runs (k + 1) names′ classes classes′ → Settled (rowsOf t) runs classes′ marks marks′ → PartArrays sc d a (xs ++ (y ∷ [])) (vs ++ (v ∷ [])) names′ classes′ marks′
-    part-more shape y v setting′ refilled settled = grown-arrays shape (next .rows) (next .count) (part-grows (y ∷ []) (v ∷ [])) arrays (setting′ .named) (setting′ .size) refilled settled
+        → Refilled (rowsOf t) runs (k + 1) names′ classes classes′ → Settled (rowsOf t) runs classes′ marks marks′ → PartArrays sc d a (xs ++ (y ∷ [])) (vs ++ (v ∷ [])) classes′ marks′
+    part-more shape y v {names′ = names′} setting′ refilled settled = grown-arrays shape (next .rows) (next .count) (part-grows (y ∷ []) (v ∷ [])) arrays names′ (setting′ .named) refilled settled
 
     -- with all they are ready
     pub part-ready : unsetFrom (sc .rows) (a .progress .values) (a .event .row) from ≡ [] → Ready sc d a vs names classes marks
     part-ready none-left =
         let same = all-set sc (next .good) d k a (next .isActive) (s .names) from xs vs names setting none-left in
         record {
-          arrays = subst (λ (l : List (Atom × Value)). Arrays (sc .rows) (length (sc .runs)) (readings sc (withSets (a .index) l (setsOf (d .progress)))) (d .known) names classes marks) same arrays;
-          valued = subst (λ (l : List (Atom × Value)). Standing (sc .rows) l) same (setting .valued);
+          sets = setting-all sc (next .good) d k a (next .isActive) (s .names) from xs vs names setting none-left;
+          arrays = subst (λ (l : List (Atom × Value)). Arrays (sc .rows) (length (sc .runs)) (readings sc (withSets (a .index) l (setsOf (d .progress)))) (d .known) classes marks) same arrays;
         }

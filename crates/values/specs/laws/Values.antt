@@ -122,9 +122,9 @@ module _ (sc : Scenario) (good : Guarantee sc) (d : State) (k : ℕ) (a : Active
   setting-none {s} state kind = record {
     split = to-read ∙ unset-all (sc .rows) (a .progress .values) (a .event .row);
     many = refl;
-    size = state .arrays .sized;
-    named = subst (λ (sets : SetsOf). NamesRight (sc .rows) (length (sc .runs)) (readings sc sets) (s .names)) (sym (with-itself (a .index) (partSets a [] []) (setsOf (d .progress)) same)) (state .arrays .named);
-    valued = rw same (state .valued (a .index));
+    size = state .placed .sized;
+    named = subst (λ (sets : SetsOf). NamesRight (sc .rows) (length (sc .runs)) (readings sc sets) (s .names)) (sym (with-itself (a .index) (partSets a [] []) (setsOf (d .progress)) same)) (state .placed .named);
+    valued = rw same (state .placed .valued (a .index));
     later = λ r l h. refl;
   }
     where
@@ -259,4 +259,4 @@ module _ (sc : Scenario) (good : Guarantee sc) (d : State) (k : ℕ) (a : Active
       let at : a .index ≡ k = omega (arith, is .numbered) in
       let run : getElem? (sc .runs) k ≡ some (a .run) = rw at at (is .ofRun) in
       let mine : setsOf (d .progress) k ≡ a .progress .values = ap setsIn (rw at at (is .ofProgress)) in
-      subst (λ (l : List (Atom × Value)). TellsUnset (sc .rows) (s .names) (suc k) l) mine (names-tell sc good k (a .run) run (setsOf (d .progress)) (s .names) (state .arrays .named) (state .valued k))
+      subst (λ (l : List (Atom × Value)). TellsUnset (sc .rows) (s .names) (suc k) l) mine (names-tell sc good k (a .run) run (setsOf (d .progress)) (s .names) (state .placed .named) (state .placed .valued k))

@@ -57,7 +57,7 @@ use Rattle.partial.proofs.may_be_read.Reads as may-be-read-reads
 use Rattle.runs.proofs.event_of.Reads as event-of-reads
 use Rattle.state.proofs.advance.Reads as advance-reads
 use Rattle.state.proofs.copied.Reads as copied-reads
-use Rattle.state.proofs.perform.Reads as perform-reads
+use Rattle.moves.proofs.perform.Reads as perform-reads
 use Rattle.state.proofs.with_names.Reads as with-names-reads
 use Rattle.values.proofs.put.Reads as put-reads
 use Rattle.variables.proofs.beneath.Reads as beneath-reads
@@ -250,7 +250,7 @@ walk-after-key-of-requires : (t : ℕ) → walk-after-lts.Need-key-of-requires (
 walk-after-key-of-requires t c κs =
     let s = c .before .before .before .before .before .before .before .before .before in
     let m = s .pre .1 .0 .of in
-    (m .chosen .ready .arrays .sized, (s .pre .1 .1 .remembers .rows .low, ((λ j l. omega (arith, of-move.next-low m (c .advance .ensures) j l)), s .pre .1 .1 .moves)))
+    (m .chosen .ready .sets .size, (s .pre .1 .1 .remembers .rows .low, ((λ j l. omega (arith, of-move.next-low m (c .advance .ensures) j l)), s .pre .1 .1 .moves)))
 
 walk-after-look-up-requires : (t : ℕ) → walk-after-lts.Need-look-up-requires (walk-after-env t) (walk-after-at t) walk-after.Post
 walk-after-look-up-requires t c κs = c .before .before .before .before .before .before .before .before .before .before .before .before .pre .1 .1 .remembers .size
@@ -266,43 +266,43 @@ walk-after-perform-requires : (t : ℕ) → walk-after-lts.Need-perform-requires
 walk-after-perform-requires t c κs = let m = c .before .before .before .before .before .before .before .before .before .before .before .before .before .before .pre .1 .0 .of in (m .move .clear .here .reached .given .shape, (m .move .due, m .chosen .ready .arrays .classed .size))
 
 walk-after-mul-bytes : (t : ℕ) → walk-after-lts.Need-mul-bytes (walk-after-env t) (walk-after-at t) walk-after.Post
-walk-after-mul-bytes t c = record { fits = omega (arith, of-move.few-chosen (c .before .before .before .before .before .before .before .before .before .before .before .before .before .before .before .before .before .pre .1 .0 .of)) }
+walk-after-mul-bytes t c = record { fits = omega (arith, of-move.few-chosen (c .before .before .before .before .before .before .before .before .before .before .before .before .before .before .before .before .pre .1 .0 .of)) }
 
 walk-after-add-bytes : (t : ℕ) → walk-after-lts.Need-add-bytes (walk-after-env t) (walk-after-at t) walk-after.Post
-walk-after-add-bytes t c = record { fits = omega (arith, of-move.few-chosen (c .before .before .before .before .before .before .before .before .before .before .before .before .before .before .before .before .before .pre .1 .0 .of)) }
+walk-after-add-bytes t c = record { fits = omega (arith, of-move.few-chosen (c .before .before .before .before .before .before .before .before .before .before .before .before .before .before .before .before .pre .1 .0 .of)) }
 
 walk-after-add-keep : (t : ℕ) → walk-after-lts.Need-add-keep (walk-after-env t) (walk-after-at t) walk-after.Post
-walk-after-add-keep t c = let m = c .before .before .before .before .before .before .before .before .before .before .before .before .before .before .before .before .before .before .before .before .pre .1 .0 .of in record { fits = omega (arith, of-move.few-chosen m, of-move.place-low m) }
+walk-after-add-keep t c = let m = c .before .before .before .before .before .before .before .before .before .before .before .before .before .before .before .before .before .before .before .pre .1 .0 .of in record { fits = omega (arith, of-move.few-chosen m, of-move.place-low m) }
 
 walk-after-walk-requires : (t : ℕ) → walk-after-lts.Need-walk-requires (walk-after-env t) (walk-after-at t) walk-after.Post
 walk-after-walk-requires t c κs =
-    let s = c .before .before .before .before .before .before .before .before .before .before .before .before .before .before .before .before .before .before .before .before in
-    (omega (arith, s .pre .0), (of-move.after-state (s .args .reach) (s .pre .1 .0) (c .before .before .before .before .before .perform .ensures) (many t (c .before .before .before .before .before .before .before .before .before .before .before .before .before .before .before .before .before .before .before .before)) (c .before .before .before .before .before .before .before .before .before .before .before .advance .ensures), room-on (s .pre .1 .1) refl (s .pre .1 .1 .remembers) _ (omega arith) (omega arith)))
+    let s = c .before .before .before .before .before .before .before .before .before .before .before .before .before .before .before .before .before .before .before in
+    (omega (arith, s .pre .0), (of-move.after-state (s .args .reach) (s .pre .1 .0) (c .before .before .before .before .perform .ensures) (many t (c .before .before .before .before .before .before .before .before .before .before .before .before .before .before .before .before .before .before .before)) (c .before .before .before .before .before .before .before .before .before .before .advance .ensures), room-on (s .pre .1 .1) refl (s .pre .1 .1 .remembers) _ (omega arith) (omega arith)))
 
 walk-after-keep-requires : (t : ℕ) → walk-after-lts.Need-keep-requires (walk-after-env t) (walk-after-at t) walk-after.Post
 walk-after-keep-requires t c κs =
-    let s = c .before .before .before .before .before .before .before .before .before .before .before .before .before .before .before .before .before .before .before .before .before .before .before .before .before .before .before .before in
-    let found = of-move.found-after (s .args .reach) (s .pre .1 .0) (c .before .before .before .before .before .before .before .before .before .before .before .before .before .perform .ensures) (many t (c .before .before .before .before .before .before .before .before .before .before .before .before .before .before .before .before .before .before .before .before .before .before .before .before .before .before .before .before)) (c .before .before .before .before .before .before .before .before .before .before .before .before .before .before .before .before .before .before .before .advance .ensures) (c .before .before .before .before .before .before .before .walk .ensures .0) in
+    let s = c .before .before .before .before .before .before .before .before .before .before .before .before .before .before .before .before .before .before .before .before .before .before .before .before .before .before .before in
+    let found = of-move.found-after (s .args .reach) (s .pre .1 .0) (c .before .before .before .before .before .before .before .before .before .before .before .before .perform .ensures) (many t (c .before .before .before .before .before .before .before .before .before .before .before .before .before .before .before .before .before .before .before .before .before .before .before .before .before .before .before)) (c .before .before .before .before .before .before .before .before .before .before .before .before .before .before .before .before .before .before .advance .ensures) (c .before .before .before .before .before .before .before .walk .ensures .0) in
     (c .before .before .before .before .before .before .before .walk .ensures .1 .size, omega (arith, finds-count _ _ _ _ found, c .count-of .ensures, s .pre .1 .1 .budget))
 
 walk-after-write-before-requires : (t : ℕ) → walk-after-lts.Need-write-before-requires (walk-after-env t) (walk-after-at t) walk-after.Post
 walk-after-write-before-requires t c κs =
-    let s = c .before .before .before .before .before .before .before .before .before .before .before .before .before .before .before .before .before .before .before .before .before .before .before .before .before .before .before .before .before .before .before .before in
-    of-move.step-fits (s .args .reach) (s .pre .1 .0) (c .before .before .before .before .before .before .before .before .before .before .before .before .before .before .before .before .before .perform .ensures) (many t (c .before .before .before .before .before .before .before .before .before .before .before .before .before .before .before .before .before .before .before .before .before .before .before .before .before .before .before .before .before .before .before .before)) (c .before .before .before .before .before .before .before .before .before .before .before .before .before .before .before .before .before .before .before .before .before .before .before .advance .ensures) (c .before .before .before .before .before .before .before .before .before .before .before .walk .ensures .0) (s .pre .1 .1 .buffer)
+    let s = c .before .before .before .before .before .before .before .before .before .before .before .before .before .before .before .before .before .before .before .before .before .before .before .before .before .before .before .before .before .before .before in
+    of-move.step-fits (s .args .reach) (s .pre .1 .0) (c .before .before .before .before .before .before .before .before .before .before .before .before .before .before .before .before .perform .ensures) (many t (c .before .before .before .before .before .before .before .before .before .before .before .before .before .before .before .before .before .before .before .before .before .before .before .before .before .before .before .before .before .before .before)) (c .before .before .before .before .before .before .before .before .before .before .before .before .before .before .before .before .before .before .before .before .before .before .advance .ensures) (c .before .before .before .before .before .before .before .before .before .before .before .walk .ensures .0) (s .pre .1 .1 .buffer)
 
 walk-after-after-step-requires : (t : ℕ) → walk-after-lts.Need-after-step-requires (walk-after-env t) (walk-after-at t) walk-after.Post
 walk-after-after-step-requires t c κs =
-    let s = c .before .before .before .before .before .before .before .before .before .before .before .before .before .before .before .before .before .before .before .before .before .before .before .before .before .before .before .before .before .before .before .before .before .before .before in
+    let s = c .before .before .before .before .before .before .before .before .before .before .before .before .before .before .before .before .before .before .before .before .before .before .before .before .before .before .before .before .before .before .before .before .before .before in
     let m = s .pre .1 .0 in
-    (omega (arith, of-move.step-length (s .args .reach) m (c .before .before .before .before .before .before .before .before .before .before .before .before .before .before .before .before .before .before .before .before .perform .ensures) (many t (c .before .before .before .before .before .before .before .before .before .before .before .before .before .before .before .before .before .before .before .before .before .before .before .before .before .before .before .before .before .before .before .before .before .before .before)) (c .before .before .before .before .before .before .before .before .before .before .before .before .before .before .before .before .before .before .before .before .before .before .before .before .before .before .advance .ensures) (c .before .before .before .before .before .before .before .before .before .before .before .before .before .before .walk .ensures .0)), omega (arith, of-move.few-chosen (m .of)))
+    (omega (arith, of-move.step-length (s .args .reach) m (c .before .before .before .before .before .before .before .before .before .before .before .before .before .before .before .before .before .before .before .perform .ensures) (many t (c .before .before .before .before .before .before .before .before .before .before .before .before .before .before .before .before .before .before .before .before .before .before .before .before .before .before .before .before .before .before .before .before .before .before)) (c .before .before .before .before .before .before .before .before .before .before .before .before .before .before .before .before .before .before .before .before .before .before .before .before .before .advance .ensures) (c .before .before .before .before .before .before .before .before .before .before .before .before .before .before .walk .ensures .0)), omega (arith, of-move.few-chosen (m .of)))
 
 walk-after-returns-2 : (t : ℕ) → walk-after-lts.Need-returns-2 (walk-after-env t) (walk-after-at t) walk-after.Post
 walk-after-returns-2 t c = (
-  λ m. let s = c .before .before .before .before .before .before .before .before .before .before .before .before .before .before .before .before .before .before .before .before .before .before .before .before .before .before .before .before .before .before .before .before .before .before .before .before in
-      of-move.step-finds (s .args .reach) m (c .before .before .before .before .before .before .before .before .before .before .before .before .before .before .before .before .before .before .before .before .before .perform .ensures) (many t (c .before .before .before .before .before .before .before .before .before .before .before .before .before .before .before .before .before .before .before .before .before .before .before .before .before .before .before .before .before .before .before .before .before .before .before .before)) (c .before .before .before .before .before .before .before .before .before .before .before .before .before .before .before .before .before .before .before .before .before .before .before .before .before .before .before .advance .ensures) (c .before .before .before .before .before .before .before .before .before .before .before .before .before .before .before .walk .ensures .0) (s .pre .1 .1 .buffer) (c .before .before .before .write-before .ensures) (c .after-step .ensures),
-  let s = c .before .before .before .before .before .before .before .before .before .before .before .before .before .before .before .before .before .before .before .before .before .before .before .before .before .before .before .before .before .before .before .before .before .before .before .before in
-      let found = of-move.found-after (s .args .reach) (s .pre .1 .0) (c .before .before .before .before .before .before .before .before .before .before .before .before .before .before .before .before .before .before .before .before .before .perform .ensures) (many t (c .before .before .before .before .before .before .before .before .before .before .before .before .before .before .before .before .before .before .before .before .before .before .before .before .before .before .before .before .before .before .before .before .before .before .before .before)) (c .before .before .before .before .before .before .before .before .before .before .before .before .before .before .before .before .before .before .before .before .before .before .before .before .before .before .before .advance .ensures) (c .before .before .before .before .before .before .before .before .before .before .before .before .before .before .before .walk .ensures .0) in
-      known.kept-right (s .args .reach) (s .pre .1 .0) (many t (c .before .before .before .before .before .before .before .before .before .before .before .before .before .before .before .before .before .before .before .before .before .before .before .before .before .before .before .before .before .before .before .before .before .before .before .before)) (c .before .before .before .before .before .before .before .before .before .before .before .before .before .before .before .before .before .before .before .before .before .before .before .before .before .before .before .advance .ensures) (c .before .before .before .before .before .before .before .before .before .before .before .before .before .before .before .walk .ensures .1) (c .before .before .before .before .before .before .before .before .before .before .before .before .before .before .before .before .before .before .before .before .before .before .before .before .before .before .key-of .ensures) _ found (rw (c .before .before .before .before .before .before .before .before .count-of .ensures) at (c .before .before .before .before .before .before .before .keep .ensures)),
+  λ m. let s = c .before .before .before .before .before .before .before .before .before .before .before .before .before .before .before .before .before .before .before .before .before .before .before .before .before .before .before .before .before .before .before .before .before .before .before in
+      of-move.step-finds (s .args .reach) m (c .before .before .before .before .before .before .before .before .before .before .before .before .before .before .before .before .before .before .before .before .perform .ensures) (many t (c .before .before .before .before .before .before .before .before .before .before .before .before .before .before .before .before .before .before .before .before .before .before .before .before .before .before .before .before .before .before .before .before .before .before .before)) (c .before .before .before .before .before .before .before .before .before .before .before .before .before .before .before .before .before .before .before .before .before .before .before .before .before .before .advance .ensures) (c .before .before .before .before .before .before .before .before .before .before .before .before .before .before .before .walk .ensures .0) (s .pre .1 .1 .buffer) (c .before .before .before .write-before .ensures) (c .after-step .ensures),
+  let s = c .before .before .before .before .before .before .before .before .before .before .before .before .before .before .before .before .before .before .before .before .before .before .before .before .before .before .before .before .before .before .before .before .before .before .before in
+      let found = of-move.found-after (s .args .reach) (s .pre .1 .0) (c .before .before .before .before .before .before .before .before .before .before .before .before .before .before .before .before .before .before .before .before .perform .ensures) (many t (c .before .before .before .before .before .before .before .before .before .before .before .before .before .before .before .before .before .before .before .before .before .before .before .before .before .before .before .before .before .before .before .before .before .before .before)) (c .before .before .before .before .before .before .before .before .before .before .before .before .before .before .before .before .before .before .before .before .before .before .before .before .before .before .advance .ensures) (c .before .before .before .before .before .before .before .before .before .before .before .before .before .before .before .walk .ensures .0) in
+      known.kept-right (s .args .reach) (s .pre .1 .0) (many t (c .before .before .before .before .before .before .before .before .before .before .before .before .before .before .before .before .before .before .before .before .before .before .before .before .before .before .before .before .before .before .before .before .before .before .before)) (c .before .before .before .before .before .before .before .before .before .before .before .before .before .before .before .before .before .before .before .before .before .before .before .before .before .before .advance .ensures) (c .before .before .before .before .before .before .before .before .before .before .before .before .before .before .before .walk .ensures .1) (c .before .before .before .before .before .before .before .before .before .before .before .before .before .before .before .before .before .before .before .before .before .before .before .before .before .key-of .ensures) _ found (rw (c .before .before .before .before .before .before .before .before .count-of .ensures) at (c .before .before .before .before .before .before .before .keep .ensures)),
 )
 
 walk-move-is-allowed-requires : (t : ℕ) → walk-move-lts.Need-is-allowed-requires (walk-move-env t) (walk-move-at t) walk-move.Post
@@ -375,7 +375,7 @@ walk-values-add-next-unset t c = let m = c .before .before .before .before .befo
 walk-values-next-unset-requires : (t : ℕ) → walk-values-lts.Need-next-unset-requires (walk-values-env t) (walk-values-at t) walk-values.Post walk-values-Inv-loop walk-values-μ-loop
 walk-values-next-unset-requires t c κs =
     let m = c .before .before .before .before .before .before .before .before .before .before .before .before .before .pre .1 .0 .read in
-    (shape-sized (m .move .clear .here .reached .given .shape), (ap length (m .isOwn) ∙ m .move .clear .here .state .arrays .sized, (m .under .size, (omega (arith, m .move .clear .here .reached .given .runs .few, m .move .due .isRun), m .inside))))
+    (shape-sized (m .move .clear .here .reached .given .shape), (ap length (m .isOwn) ∙ m .move .clear .here .state .placed .sized, (m .under .size, (omega (arith, m .move .clear .here .reached .given .runs .few, m .move .due .isRun), m .inside))))
 
 walk-values-walk-move-requires : (t : ℕ) → walk-values-lts.Need-walk-move-requires (walk-values-env t) (walk-values-at t) walk-values.Post walk-values-Inv-loop walk-values-μ-loop
 walk-values-walk-move-requires t c κs = let s = c .before .before .before .before .before .before .before .before .before .before .before .before .before .before .before .before .before .before in (omega (arith, s .pre .0), (of-values.choice-move (c .before .before .before .before .next-unset .ensures) (s .args .reach) (s .pre .1 .0) (c .before .before .if1 .taken), s .pre .1 .1))
@@ -424,7 +424,7 @@ walk-values-returns-3 t c = (
 )
 
 walk-values-copied-requires : (t : ℕ) → walk-values-lts.Need-copied-requires (walk-values-env t) (walk-values-at t) walk-values.Post walk-values-Inv-loop walk-values-μ-loop
-walk-values-copied-requires t c κs = c .before .before .before .before .before .before .before .before .before .before .before .before .before .before .before .before .before .before .before .before .before .before .before .pre .1 .0 .choosing .arrays .sized
+walk-values-copied-requires t c κs = c .before .before .before .before .before .before .before .before .before .before .before .before .before .before .before .before .before .before .before .before .before .before .before .pre .1 .0 .choosing .setting .size
 
 walk-values-add-put : (t : ℕ) → walk-values-lts.Need-add-put (walk-values-env t) (walk-values-at t) walk-values.Post walk-values-Inv-loop walk-values-μ-loop
 walk-values-add-put t c = let m = c .before .before .before .before .before .before .before .before .before .before .before .before .before .before .before .before .before .before .before .before .before .before .before .before .before .pre .1 .0 .read in record { fits = omega (arith, m .move .clear .here .reached .given .runs .few, m .move .due .isRun) }
@@ -448,7 +448,7 @@ walk-values-add-with-names t c = let m = c .before .before .before .before .befo
 walk-values-with-names-requires : (t : ℕ) → walk-values-lts.Need-with-names-requires (walk-values-env t) (walk-values-at t) walk-values.Post walk-values-Inv-loop walk-values-μ-loop
 walk-values-with-names-requires t c κs =
     let m = c .before .before .before .before .before .before .before .before .before .before .before .before .before .before .before .before .before .before .before .before .before .before .before .before .before .before .before .before .before .before .pre .1 .0 in
-    let size = ap length (c .before .before .before .before .put .ensures) ∙ length-set (c .before .before .before .before .before .before .copied .result) _ _ ∙ ap length (c .before .before .before .before .before .before .copied .ensures) ∙ m .choosing .arrays .sized in
+    let size = ap length (c .before .before .before .before .put .ensures) ∙ length-set (c .before .before .before .before .before .before .copied .result) _ _ ∙ ap length (c .before .before .before .before .before .before .copied .ensures) ∙ m .choosing .setting .size in
     (m .read .move .clear .here .reached .given .shape, (ap length (c .before .before .before .copied2 .ensures) ∙ m .choosing .arrays .classed .size, (size, omega (arith, m .read .move .due .isRun))))
 
 walk-values-sub-t40 : (t : ℕ) → walk-values-lts.Need-sub-t40 (walk-values-env t) (walk-values-at t) walk-values.Post walk-values-Inv-loop walk-values-μ-loop
