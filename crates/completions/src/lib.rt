@@ -361,7 +361,8 @@ fn tied(
     dom: &[bool; Domains::CELLS],
     below: &[bool; 96],
 ) -> usize
-    requires { ⌜ Shape (now t) (pattern .scope .rows) (pattern .scope .runs) × ((length (now classes) ≡ cellCount) × ((pattern .scope .run ≤ pattern .scope .runs) × AreVariables (now t) (pattern .scope .rows) (pattern .vars))) ⌝ }
+    requires { ⌜ Shape (now t) (pattern .scope .rows) (pattern .scope .runs) ⌝ }
+    requires { ⌜ (length (now classes) ≡ cellCount) × ((pattern .scope .run ≤ pattern .scope .runs) × AreVariables (now t) (pattern .scope .rows) (pattern .vars)) ⌝ }
 {
     let vars = pattern.vars;
     let n = pattern.scope.rows;
