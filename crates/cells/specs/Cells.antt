@@ -22,14 +22,6 @@ cellCount = 480
 abbrev pub absent : ℕ
 absent = 480
 
--- the bytes of a table with n rows, in a scenario with so many runs
-pub record Shape (bytes : List ℕ) (n runs : ℕ) : Type 0 where
-  pub table : IsTable bytes
-  pub count : n ≡ length (rowsOf bytes)
-  pub size : length bytes ≡ 3 * n
-  pub few : n ≤ 96
-  pub fewRuns : runs ≤ 4
-
 -- a row of the table, in one of the runs
 pub record Within (rows : List Row) (runs r u : ℕ) : Type 0 where
   pub row : r < length rows

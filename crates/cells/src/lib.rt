@@ -2,7 +2,8 @@
 ghost use mathlib.Core.Path.{_≡_};
 ghost use Prim.Native.Nat.{_+_, _*_, _<_, _≤_};
 ghost use lib.ListN.{length, getD};
-ghost use Rattle.cells.specs.Cells.{cellOf, cellCount, absent, Shape, secondOf, sameParts, Tells, Matches, Found, FoundInRow};
+ghost use Rattle.rows.specs.Rows.{Shape};
+ghost use Rattle.cells.specs.Cells.{cellOf, cellCount, absent, secondOf, sameParts, Tells, Matches, Found, FoundInRow};
 use rows::Kind;
 
 // The cells: 96 rows by runs 0 to 4.

@@ -39,8 +39,8 @@ abbrev pub eventBreaks : Scenario → State → ℕ → Run → Progress → ℕ
 eventBreaks sc d k run p j = andThen (getElem? (eventsOf sc run) j) (brokenEvent sc d (suc k) run p j)
 
 -- whether event j of a run whose agents are all trusted is a broken claim
-abbrev pub Answers : List ℕ → Runs → List Bool → ℕ → ℕ → Bool → Type 0
-Answers file r marks k j b =
+abbrev pub AnswersEvent : List ℕ → Runs → List Bool → ℕ → ℕ → Bool → Type 0
+AnswersEvent file r marks k j b =
     (sc : Scenario) (d : State) (run : Run) (p : Progress) → AtRun file r sc d marks k run p → true ≡ allTrusted (sc .rows) run → eventBreaks sc d k run p j ≡ provided b (claimAt k j)
 
 -- the first broken claim of a run that has made so many events

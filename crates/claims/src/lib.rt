@@ -8,7 +8,7 @@ ghost use Rattle.semantics.specs.State as definitions;
 ghost use Rattle.cells.specs.Cells.{cellCount};
 ghost use Rattle.runs.specs.Runs.{RunsAt};
 ghost use Rattle.state.specs.State.{Given, IsState};
-ghost use Rattle.claims.specs.AtRun.{Answers, AnswersRun, AnswersState};
+ghost use Rattle.claims.specs.AtRun.{AnswersEvent, AnswersRun, AnswersState};
 use answers::Claim;
 use answers::ClaimKind;
 use answers::Claimed;
@@ -21,7 +21,7 @@ use state::State;
 // Whether event j of run k, both from 0, is a claim whose value is derivable. Past the last event there is none.
 fn claims_derivable(file: &[u8], r: Runs, marks: &[bool], k: usize, j: usize) -> bool
     requires { ⌜ ((sc : Scenario) × (RunsAt (now file) sc r × (Guarantee sc × (k < r .count)))) × (length (now marks) ≡ cellCount) ⌝ }
-    ensures { λ b. ⌜ Answers (now (file .entry)) r (now (marks .entry)) k j b ⌝ }
+    ensures { λ b. ⌜ AnswersEvent (now (file .entry)) r (now (marks .entry)) k j b ⌝ }
 {
     let events = r.events;
     if events[k] <= j {

@@ -2,8 +2,8 @@
 ghost use mathlib.Core.Path.{_≡_};
 ghost use Prim.Native.Nat.{_+_, _<_, _≤_};
 ghost use lib.ListN.{length};
-ghost use Rattle.rows.specs.Rows.{rowsOf};
-ghost use Rattle.cells.specs.Cells.{cellCount, Shape};
+ghost use Rattle.rows.specs.Rows.{rowsOf, Shape};
+ghost use Rattle.cells.specs.Cells.{cellCount};
 ghost use Rattle.classes.specs.Classes.{Refilled};
 ghost use Rattle.classes.specs.Filled.{ClassOf, Filled};
 use cells::Cells;

@@ -30,18 +30,18 @@ abbrev pub Inside : ℕ → ℕ → ℕ → ℕ → Type 0
 Inside n runs r u = (r < n) × (u ≤ runs)
 
 -- Marks that stand at the places of chosen cells only, and at those of all chosen cells that were passed.
-pub record Filled (n runs : ℕ) (place : ℕ → ℕ → ℕ) (chosen passed : ℕ → ℕ → Type 0) (marks : List Bool) : Type 0 where
+pub record FilledCells (n runs : ℕ) (place : ℕ → ℕ → ℕ) (chosen passed : ℕ → ℕ → Type 0) (marks : List Bool) : Type 0 where
   pub size : length marks ≡ cellCount
   pub from : (k : ℕ) → On marks k → (r : ℕ) × (u : ℕ) × Inside n runs r u × chosen r u × (k ≡ place r u)
   pub onto : (r u : ℕ) → passed r u → chosen r u → place r u < absent → On marks (place r u)
 
 -- marks of classes from marks of cells
 abbrev pub Gathered : ℕ → ℕ → List ℕ → List Bool → List Bool → Type 0
-Gathered n runs classes start marks = Filled n runs (classAt classes) (λ r u. On start (cellOf r u)) (Inside n runs) marks
+Gathered n runs classes start marks = FilledCells n runs (classAt classes) (λ r u. On start (cellOf r u)) (Inside n runs) marks
 
 -- marks of cells from marks of classes
 abbrev pub Spread : ℕ → ℕ → List ℕ → List Bool → List Bool → Type 0
-Spread n runs classes marks out = Filled n runs cellOf (λ r u. On marks (classAt classes r u)) (Inside n runs) out
+Spread n runs classes marks out = FilledCells n runs cellOf (λ r u. On marks (classAt classes r u)) (Inside n runs) out
 
 -- the kinds of public and secret keys, which are inverse to each other
 pub data InverseKinds : ℕ → ℕ → Type 0 where

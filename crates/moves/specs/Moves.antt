@@ -9,7 +9,7 @@ use Rattle.semantics.specs.Basic.{present}
 use Rattle.semantics.specs.Scenario.{Scenario}
 use Rattle.semantics.specs.State.{Value, State, Active}
 use Rattle.semantics.specs.Moves.{performed}
-use Rattle.cells.specs.Cells.{Shape}
+use Rattle.rows.specs.Rows.{Shape}
 use Rattle.runs.specs.declared.RunEvent.{RunEvent}
 use Rattle.state.specs.declared.State.{State as CodeState}
 use Rattle.state.specs.State.{Due, IsState, NextMove, Ready}

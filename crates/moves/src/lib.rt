@@ -2,7 +2,8 @@
 ghost use mathlib.Core.Path.{_≡_};
 ghost use Prim.Native.Nat.{_<_};
 ghost use lib.ListN.{length};
-ghost use Rattle.cells.specs.Cells.{Shape, cellCount};
+ghost use Rattle.rows.specs.Rows.{Shape};
+ghost use Rattle.cells.specs.Cells.{cellCount};
 ghost use Rattle.state.specs.State.{Due};
 ghost use Rattle.moves.specs.Moves.{TellsAllowed, MarksAfter};
 use cells::Cells;

@@ -21,7 +21,7 @@ fn followed(file: &[u8], l: Layout, trace: &[u8]) -> Replayed
     let mut s = State::initial(file, t, n, r, frame::block_of(file, 3));
     let mut at = 0;
     while at < trace.len() {
-        let stepped = steps::step(file, t, n, r, s, &trace[at..]);
+        let stepped = replay_steps::step(file, t, n, r, s, &trace[at..]);
         if !stepped.allowed {
             return Replayed::Refused(Refusal {
                 number: 12,

@@ -5,8 +5,8 @@ ghost use Prim.Native.Nat.{_<_, _≤_};
 ghost use lib.ListN.{length};
 ghost use Rattle.semantics.specs.Term.{Term};
 ghost use Rattle.semantics.specs.Value.{asAtoms};
-ghost use Rattle.rows.specs.Rows.{rowsOf};
-ghost use Rattle.cells.specs.Cells.{cellCount, Shape};
+ghost use Rattle.rows.specs.Rows.{rowsOf, Shape};
+ghost use Rattle.cells.specs.Cells.{cellCount};
 ghost use Rattle.role_level.specs.RoleLevel.{listedTerms, RoleClasses, RoleExact, OwnNames, ListedMarks, ListedBelow};
 use cells::Cells;
 

@@ -26,12 +26,17 @@ IsTable bytes = rowsFrom 0 [] bytes ≡ accepted (rowsOf bytes)
 unfoldable pub decodedAt : List ℕ → ℕ → Option Row
 decodedAt bytes i = decode (getD bytes (3 * i) 0) (getD bytes (3 * i + 1) 0) (getD bytes (3 * i + 2) 0)
 
--- the bytes of a table with n rows
-pub record Sized (bytes : List ℕ) (n : ℕ) : Type 0 where
+-- the bytes of a table with n rows, in a scenario with so many runs
+pub record Shape (bytes : List ℕ) (n runs : ℕ) : Type 0 where
   pub table : IsTable bytes
   pub count : n ≡ length (rowsOf bytes)
   pub size : length bytes ≡ 3 * n
   pub few : n ≤ 96
+  pub fewRuns : runs ≤ 4
+
+-- the bytes of a table with n rows
+abbrev pub Sized : List ℕ → ℕ → Type 0
+Sized bytes n = Shape bytes n 0
 
 -- a place, if there is one
 abbrev pub placeAs : Option ℕ → Place

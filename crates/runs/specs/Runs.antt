@@ -62,8 +62,8 @@ abbrev pub FindsEvents : List ℕ → ℕ → ℕ → ℕ → Type 0
 FindsEvents file start first count = (sc : Scenario) (k : ℕ) (run : Run) → IsRun file sc k start → getElem? (sc .runs) k ≡ some run → RunAt file sc run start first count
 
 -- what is read of event j of run k
-abbrev pub Reads : List ℕ → Runs → ℕ → ℕ → RunEvent → Type 0
-Reads file r k j e =
+abbrev pub ReadsEvent : List ℕ → Runs → ℕ → ℕ → RunEvent → Type 0
+ReadsEvent file r k j e =
     (sc : Scenario) (run : Run) (ev : Event) → RunsAt file sc r → Guarantee sc → getElem? (sc .runs) k ≡ some run → getElem? (eventsOf sc run) j ≡ some ev
     → EventRead sc run ev (e .kind) (e .own) (e .peer) (e .row)
 

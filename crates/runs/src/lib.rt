@@ -9,7 +9,7 @@ ghost use Rattle.semantics.specs.Guarantee.{Guarantee};
 ghost use Rattle.semantics.specs.Scenario.{Scenario};
 ghost use Rattle.rows.specs.Rows.{rowsOf, Sized};
 ghost use Rattle.answers.specs.Answers.{scenarioIn, Accepts};
-ghost use Rattle.runs.specs.Runs.{RunsAt, IsRun, AgentsAt, FindsEvents, Reads, TellsTrusted};
+ghost use Rattle.runs.specs.Runs.{RunsAt, IsRun, AgentsAt, FindsEvents, ReadsEvent, TellsTrusted};
 use answers::Layout;
 
 // Where the runs stand: how many, how many agents each names; for each the offset of its record, that of its role's first event, and how many events it has.
@@ -90,7 +90,7 @@ fn agent_of(file: &[u8], start: usize, role: usize) -> usize
 // Event j of run k.
 pub fn event_of(file: &[u8], r: Runs, k: usize, j: usize) -> RunEvent
     requires { ⌜ ((sc : Scenario) × RunsAt (now file) sc r × Guarantee sc × (k < r .count) × (j < getD (r .events) k 0)) ⌝ }
-    ensures { λ e. ⌜ Reads (now (file .entry)) r k j e ⌝ }
+    ensures { λ e. ⌜ ReadsEvent (now (file .entry)) r k j e ⌝ }
 {
     let start = r.starts[k];
     let at = r.firsts[k] + 4 * j;

@@ -4,8 +4,7 @@ ghost use Prim.Native.Nat.{ℕ, _+_, _≤_};
 ghost use lib.ListN.{length};
 ghost use Rattle.semantics.specs.Runs.{runRecords};
 ghost use Rattle.semantics.specs.Scenario.{termPart, roleCount, scenarioOf, opened};
-ghost use Rattle.rows.specs.Rows.{rowsOf, placeAs};
-ghost use Rattle.cells.specs.Cells.{Shape};
+ghost use Rattle.rows.specs.Rows.{rowsOf, placeAs, Shape};
 ghost use Rattle.frame.specs.Framing.{IsFramed};
 ghost use Rattle.records.specs.Records.{partAt};
 ghost use Rattle.answers.specs.Answers.{layoutOf, openedAs};
@@ -120,7 +119,7 @@ fn judged(file: &[u8], n: usize) -> Opened
         Place::Nowhere => {
             let terms = frame::block_of(file, 0);
             let roles = frame::block_of(file, 1);
-            let place = wellformed::ill_formed(roles, frame::start_of(file, 1), terms, n);
+            let place = open_wellformed::ill_formed(roles, frame::start_of(file, 1), terms, n);
             match place {
                 Place::At(at) => Opened::Refused(Refusal {
                     number: 7,

@@ -7,17 +7,17 @@ ghost use Rattle.semantics.specs.Answer.{accepted};
 ghost use Rattle.semantics.specs.Moves.{full};
 ghost use Rattle.semantics.specs.Verdict.{verdict, searched, written, bufferAfter};
 ghost use Rattle.answers.specs.Answers.{scenarioIn, Accepts, verdictAs, searchedAs};
-ghost use Rattle.breaks.specs.Walk.{FindsAll};
+ghost use Rattle.search_breaks.specs.Walk.{FindsAll};
 use answers::Checked;
 use answers::Layout;
 use answers::Opened;
 use answers::Verdict;
 use answers::Walked;
-use breaks::Course;
-use breaks::Plan;
-use breaks::Reach;
-use memory::Memory;
 use runs::Runs;
+use search_breaks::Course;
+use search_breaks::Plan;
+use search_breaks::Reach;
+use search_memory::Memory;
 use state::State;
 
 // How many events the runs have together.
@@ -47,9 +47,9 @@ fn walk_all(trace: &mut [u8], file: &[u8], l: Layout, left: usize) -> Walked
     let names = s.names;
     let classes = s.classes;
     let marks = s.marks;
-    let variables = memory::variable_rows(t, rows);
+    let variables = search_memory::variable_rows(t, rows);
     let mut memory = [0; Memory::WORDS];
-    walk::walk(
+    search_walk::walk(
         trace,
         &mut memory,
         file,

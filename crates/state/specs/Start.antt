@@ -11,7 +11,7 @@ use Rattle.semantics.specs.Table.{Row}
 use Rattle.semantics.specs.Scenario.{Scenario}
 use Rattle.cells.specs.Cells.{cellCount, Readings, cellValue}
 use Rattle.classes.specs.Classes.{NamesRight, Classes}
-use Rattle.start.specs.Start.{firstReading, AreAgents}
+use Rattle.state_start.specs.Start.{firstReading, AreAgents}
 use Rattle.state.specs.Readings.{readings}
 
 -- readings of the runs below a number, and of no others

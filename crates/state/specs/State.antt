@@ -12,8 +12,8 @@ use Rattle.semantics.specs.Guarantee.{Guarantee}
 use Rattle.semantics.specs.State.{Value, Progress, Active, active, Standing}
 use Rattle.semantics.specs.State as definitions
 use Rattle.semantics.specs.Moves.{setAfter}
-use Rattle.rows.specs.Rows.{rowsOf}
-use Rattle.cells.specs.Cells.{cellCount, Shape, Readings, cellValue}
+use Rattle.rows.specs.Rows.{rowsOf, Shape}
+use Rattle.cells.specs.Cells.{cellCount, Readings, cellValue}
 use Rattle.classes.specs.Classes.{NamesRight, Classes}
 use Rattle.knowledge.specs.Marks.{Exact, Celled}
 use Rattle.runs.specs.declared.Runs.{Runs}

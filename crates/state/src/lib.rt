@@ -5,8 +5,8 @@ ghost use lib.ListN.{length, getD, set};
 ghost use Rattle.semantics.specs.State as definitions;
 ghost use Rattle.semantics.specs.Scenario.{Scenario};
 ghost use Rattle.semantics.specs.Guarantee.{Guarantee};
-ghost use Rattle.rows.specs.Rows.{rowsOf};
-ghost use Rattle.cells.specs.Cells.{Shape, cellCount};
+ghost use Rattle.rows.specs.Rows.{rowsOf, Shape};
+ghost use Rattle.cells.specs.Cells.{cellCount};
 ghost use Rattle.classes.specs.Classes.{Refilled};
 ghost use Rattle.knowledge.specs.Marks.{Settled};
 ghost use Rattle.runs.specs.Runs.{RunsAt};
@@ -112,12 +112,12 @@ impl State {
         let mut u = 0;
         while u <= runs {
             let agents = agents_of(file, r, u);
-            let more = start::entered(names, t, n, u, agents);
+            let more = state_start::entered(names, t, n, u, agents);
             names = more;
             classes::refill(&mut classes, t, n, runs, &names, u);
             u += 1;
         }
-        let marks = knowledge::settle(start::start_marks(t, n, list), t, n, runs, &classes);
+        let marks = knowledge::settle(state_start::start_marks(t, n, list), t, n, runs, &classes);
         State {
             done: [State::NONE_DONE; 4],
             names,

@@ -71,7 +71,7 @@ unfoldable pub limitsText : List ℕ
 limitsText = joined lineText limits
 
 -- a text that holds some bytes
-pub record Holds (t : Text) (bytes : List ℕ) : Type 0 where
+pub record HoldsText (t : Text) (bytes : List ℕ) : Type 0 where
   pub size : t .len ≡ length bytes
   pub same : take (t .len) (t .bytes) ≡ bytes
 

@@ -9,7 +9,7 @@ ghost use Rattle.semantics.specs.State.{Value};
 ghost use Rattle.semantics.specs.Moves.{Move};
 ghost use Rattle.semantics.specs.Verdict as verdicts;
 ghost use Rattle.semantics.specs.Verdict.{valueBytes, traceBytes};
-ghost use Rattle.text.specs.Text.{decimal, valueText, lineText, stepText, refusedText, brokenText, verdictText, limitsText, Holds, Adds, Shown};
+ghost use Rattle.text.specs.Text.{decimal, valueText, lineText, stepText, refusedText, brokenText, verdictText, limitsText, HoldsText, Adds, Shown};
 use answers::Break;
 use answers::Refusal;
 use answers::Trace;
@@ -127,7 +127,7 @@ fn put_steps(t: Text, trace: &[u8]) -> Text
 
 // The text of a refusal.
 fn refused(r: Refusal) -> Text
-    ensures { λ t. ⌜ Holds t (refusedText (r .number) (r .place)) ⌝ }
+    ensures { λ t. ⌜ HoldsText t (refusedText (r .number) (r .place)) ⌝ }
 {
     put_line(put(put_with(empty(), b"REFUSED ", r.number), b" "), r.place)
 }
@@ -135,7 +135,7 @@ fn refused(r: Refusal) -> Text
 // The text of a break, with its trace.
 fn broken(b: Break, trace: &[u8]) -> Text
     requires { ⌜ ((ms : List Move) × (now trace ≡ traceBytes ms)) × (length (now trace) ≤ 128) ⌝ }
-    ensures { λ t. ⌜ ((ms : List Move) → now (trace .entry) ≡ traceBytes ms → Holds t (brokenText (b .place) (b .run) (b .event) ms)) ⌝ }
+    ensures { λ t. ⌜ ((ms : List Move) → now (trace .entry) ≡ traceBytes ms → HoldsText t (brokenText (b .place) (b .run) (b .event) ms)) ⌝ }
 {
     let place = put_with(empty(), b"BROKEN ", b.place);
     let run = put_with(place, b" RUN ", b.run);
@@ -145,7 +145,7 @@ fn broken(b: Break, trace: &[u8]) -> Text
 // The text of Search's answer, whose trace, if it is BROKEN, stands at the front of a buffer.
 pub fn answer_text(answer: Verdict, trace: &[u8]) -> Text
     requires { ⌜ ((a : Answer verdicts.Verdict) × Shown a answer (now trace)) ⌝ }
-    ensures { λ t. ⌜ ((a : Answer verdicts.Verdict) → Shown a answer (now (trace .entry)) → Holds t (verdictText a)) ⌝ }
+    ensures { λ t. ⌜ ((a : Answer verdicts.Verdict) → Shown a answer (now (trace .entry)) → HoldsText t (verdictText a)) ⌝ }
 {
     match answer {
         Verdict::Refused(r) => refused(r),
@@ -160,7 +160,7 @@ pub fn answer_text(answer: Verdict, trace: &[u8]) -> Text
 
 // "prints the limits of this paper from the place where they are enforced, one a line"
 pub fn limits_text() -> Text
-    ensures { λ t. ⌜ Holds t limitsText ⌝ }
+    ensures { λ t. ⌜ HoldsText t limitsText ⌝ }
 {
     let rows = put_line(empty(), Table::MOST_ROWS);
     let variables = put_line(rows, Table::MOST_VARIABLES);

@@ -14,10 +14,10 @@ use Rattle.semantics.specs.Table.{Row}
 use Rattle.semantics.specs.Guarantee.{refersTo}
 use Rattle.semantics.specs.Encoding.{RowBytes}
 use Rattle.semantics.specs.laws.List.{getElem-there}
-use Rattle.rows.specs.Rows.{rowsOf}
+use Rattle.rows.specs.Rows.{rowsOf, Shape}
 use Rattle.rows.specs.laws.Table.{table-good, table-row, left-lower as lower-left}
 use Rattle.rows.specs.laws.Decode.{decodes-refers}
-use Rattle.cells.specs.Cells.{Shape, cellOf, cellCount, absent, secondOf, sameParts, Tells, Matches, FoundInRow, hasRun, hasNoRun, Found, isFound, notFound}
+use Rattle.cells.specs.Cells.{cellOf, cellCount, absent, secondOf, sameParts, Tells, Matches, FoundInRow, hasRun, hasNoRun, Found, isFound, notFound}
 
 -- within a list the default does not matter
 pub getD-any : {A : Type 0} (xs : List A) (i : ℕ) (d e : A) → i < length xs → getD xs i d ≡ getD xs i e

@@ -11,7 +11,7 @@ use Rattle.semantics.specs.State as definitions
 use Rattle.runs.specs.declared.Runs.{Runs}
 use Rattle.state.specs.declared.State.{State}
 use Rattle.state.specs.State.{Given, IsState}
-use Rattle.claims.specs.laws.State.{Stands, NoneBelow, stands, state-none, state-broken, none-next}
+use Rattle.claims.specs.laws.State.{StandsIn, NoneBelow, stands, state-none, state-broken, none-next}
 use Rattle.claims.proofs.broken.Statement.{statement}
 use Rattle.claims.proofs.broken.Tie as tie
 
@@ -22,9 +22,9 @@ abbrev μ-loop : tie.MeasureT-loop
 μ-loop file t n r done marks runs k₀ k = runs - k
 
 -- a state whose marks and places these are
-lent : {file t : List ℕ} {n : ℕ} {r : Runs} {sc : Scenario} {d : definitions.State} {s : State} → Given file t n r sc → IsState sc d s → {done : List ℕ} → done ≡ s .done → {marks : List Bool} → marks ≡ s .marks → Stands file t n r marks done sc d
+lent : {file t : List ℕ} {n : ℕ} {r : Runs} {sc : Scenario} {d : definitions.State} {s : State} → Given file t n r sc → IsState sc d s → {done : List ℕ} → done ≡ s .done → {marks : List Bool} → marks ≡ s .marks → StandsIn file t n r marks done sc d
 lent {file} {t} {n} {r} {sc} {d} {s} given is {done} same own =
-    subst (λ (m : List Bool). Stands file t n r m done sc d) (sym own) (subst (λ (l : List ℕ). Stands file t n r (s .marks) l sc d) (sym same) (stands given is))
+    subst (λ (m : List Bool). StandsIn file t n r m done sc d) (sym own) (subst (λ (l : List ℕ). StandsIn file t n r (s .marks) l sc d) (sym same) (stands given is))
 
 loop-holds : tie.Need-loop-holds Inv-loop μ-loop
 loop-holds c = (omega arith, λ sc d is i l. absurd (omega arith))

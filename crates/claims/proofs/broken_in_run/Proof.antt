@@ -3,7 +3,8 @@ use Prim.Native.Nat.{_-_, _<_, _≤_}
 use native.Mathlib.Omega.{arith}
 use mathlib.Core.Path.{sym, _∙_}
 use borrow.Author.Needs.{needs}
-use Rattle.claims.specs.laws.Run.{sized-table, NoneTo, none-more, run-untrusted, run-broken, run-none}
+use Rattle.cells.specs.laws.Shape.{shape-sized}
+use Rattle.claims.specs.laws.Run.{NoneTo, none-more, run-untrusted, run-broken, run-none}
 use Rattle.claims.proofs.broken_in_run.Statement.{statement}
 use Rattle.claims.proofs.broken_in_run.Tie as tie
 
@@ -21,7 +22,7 @@ all-trusted-requires : tie.Need-all-trusted-requires Inv-loop μ-loop
 all-trusted-requires c κs =
     let s = c .before .before .before in
     let given = s .pre .0 .1 in
-    (sized-table (given .shape), (s .pre .0 .0, given .runs, given .good, omega (arith, s .pre .1 .1)))
+    (shape-sized (given .shape), (s .pre .0 .0, given .runs, given .good, omega (arith, s .pre .1 .1)))
 
 loop-holds : tie.Need-loop-holds Inv-loop μ-loop
 loop-holds c = (omega arith, λ sc d run p at trusts i l. absurd (omega arith))

@@ -22,7 +22,7 @@ use Rattle.semantics.specs.laws.Inference.{derivable-exact}
 use Rattle.cells.specs.Cells.{cellOf, Within, cellValue}
 use Rattle.runs.specs.declared.Runs.{Runs}
 use Rattle.runs.specs.declared.RunEvent.{RunEvent}
-use Rattle.runs.specs.Runs.{Reads, RunsAt, EventRead}
+use Rattle.runs.specs.Runs.{ReadsEvent, RunsAt, EventRead}
 use Rattle.state.specs.Readings.{setsIn, setsOf, readings}
 use Rattle.state.specs.laws.Readings.{reading-run}
 use Rattle.claims.specs.AtRun.{AtRun, claimAt, eventBreaks}
@@ -73,7 +73,7 @@ event-there : {file : List ℕ} {r : Runs} {sc : Scenario} (k j : ℕ) {run : Ru
 event-there {sc = sc} k j {run} runs isRun l = getElem-there (eventsOf sc run) j (omega (arith, runs .each k run isRun .count))
 
 -- its row has cells
-pub row-below : (file : List ℕ) (r : Runs) (k j : ℕ) (e : RunEvent) → ((sc : Scenario) × (RunsAt file sc r × (Guarantee sc × (k < r .count)))) → Reads file r k j e → j < getD (r .events) k 0
+pub row-below : (file : List ℕ) (r : Runs) (k j : ℕ) (e : RunEvent) → ((sc : Scenario) × (RunsAt file sc r × (Guarantee sc × (k < r .count)))) → ReadsEvent file r k j e → j < getD (r .events) k 0
     → e .row < 96
 row-below file r k j e w seen l =
     let runs = w .1 .0 in
@@ -114,7 +114,7 @@ module _ {file : List ℕ} {r : Runs} {sc : Scenario} {d : State} {marks : List 
         ∙ (λ i. provided (sym trusts i && mark-decides (getD marks (cellOf row (suc k)) false) (d .known) value (rw same-value at exact) i) (claimAt k j))
 
   -- the same of an event as the code reads it
-  module _ (e : RunEvent) (seen : Reads file r k j e) (below : j < getD (r .events) k 0) where
+  module _ (e : RunEvent) (seen : ReadsEvent file r k j e) (below : j < getD (r .events) k 0) where
     found : (ev : Event) × (getElem? (eventsOf sc run) j ≡ some ev)
     found = event-there k j (at .runs) (at .isRun) below
 

@@ -17,26 +17,20 @@ use Rattle.semantics.specs.Runs.{Run, allTrusted}
 use Rattle.semantics.specs.Scenario.{Scenario}
 use Rattle.semantics.specs.State.{Progress, State, eventsOf, readingIn}
 use Rattle.semantics.specs.Verdict.{isAgainst, brokenEvent, brokenInRun}
-use Rattle.rows.specs.Rows.{Sized}
-use Rattle.cells.specs.Cells.{Shape}
 use Rattle.runs.specs.declared.Runs.{Runs}
-use Rattle.claims.specs.AtRun.{AtRun, eventBreaks, Answers}
+use Rattle.claims.specs.AtRun.{AtRun, eventBreaks, AnswersEvent}
 use Rattle.answers.specs.Answers.{claimedAs}
 use Rattle.answers.specs.declared.ClaimKind.the-variants.{Secrecy}
 use Rattle.answers.specs.declared.Claimed.the-variants.{Broken, Nothing}
 use Rattle.claims.specs.laws.First.{first-found, first-none}
 use Rattle.claims.specs.laws.Event.{andThen-none}
 
--- the bytes of a table, whatever the runs
-pub sized-table : {t : List ℕ} {n runs : ℕ} → Shape t n runs → Sized t n
-sized-table shape = record { table = shape .table; count = shape .count; size = shape .size; few = shape .few }
-
 -- none of the first j events of a run is a broken claim
 abbrev pub NoneTo : List ℕ → Runs → List Bool → ℕ → ℕ → Type 0
 NoneTo file r marks k j = (sc : Scenario) (d : State) (run : Run) (p : Progress) → AtRun file r sc d marks k run p → true ≡ allTrusted (sc .rows) run → (i : ℕ) → i < j → eventBreaks sc d k run p i ≡ none
 
 -- one more that is none
-pub none-more : (file : List ℕ) (r : Runs) (marks : List Bool) (k j : ℕ) → NoneTo file r marks k j → Answers file r marks k j false → NoneTo file r marks k (j + 1)
+pub none-more : (file : List ℕ) (r : Runs) (marks : List Bool) (k j : ℕ) → NoneTo file r marks k j → AnswersEvent file r marks k j false → NoneTo file r marks k (j + 1)
 none-more file r marks k j before here sc d run p at trusts i l =
     let m : i ≤ j = omega arith in
     ⊎-elim (λ (e : i ≡ j). rw e (here sc d run p at trusts)) (before sc d run p at trusts i) (eq-or-lt-of-le m)
@@ -60,7 +54,7 @@ module _ {file : List ℕ} {r : Runs} {sc : Scenario} {d : State} {marks : List 
 
   module _ (trusts : true ≡ allTrusted (sc .rows) run) (j : ℕ) (before : NoneTo file r marks k j) {done : ℕ} (made : done ≡ p .done) where
     -- an event that is one, after none, is the first
-    pub run-broken : j < done → Answers file r marks k j true → Broken (record { run = k + 1; event = j; kind = Secrecy }) ≡ claimedAs (brokenInRun sc d k)
+    pub run-broken : j < done → AnswersEvent file r marks k j true → Broken (record { run = k + 1; event = j; kind = Secrecy }) ≡ claimedAs (brokenInRun sc d k)
     run-broken l here =
         rw (in-run, first-found (eventBreaks sc d k run p) (p .done) j (omega arith) (before sc d run p at trusts) (here sc d run p at trusts), add-one k) refl
 

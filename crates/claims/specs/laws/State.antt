@@ -28,13 +28,13 @@ use Rattle.answers.specs.declared.Claimed.the-variants.{Broken, Nothing}
 use Rattle.claims.specs.laws.First.{first-found, first-none}
 
 -- what a state's marks and positions say
-pub record Stands (file t : List ℕ) (n : ℕ) (r : Runs) (marks : List Bool) (done : List ℕ) (sc : Scenario) (d : State) : Type 0 where
+pub record StandsIn (file t : List ℕ) (n : ℕ) (r : Runs) (marks : List Bool) (done : List ℕ) (sc : Scenario) (d : State) : Type 0 where
   pub given : Given file t n r sc
   pub progress : length (d .progress) ≡ length (sc .runs)
   pub made : (k : ℕ) (p : Progress) → getElem? (d .progress) k ≡ some p → getD done k 0 ≡ p .done
   pub exact : Exact (sc .rows) (length (sc .runs)) (readings sc (setsOf (d .progress))) (d .known) marks
 
-pub stands : {file t : List ℕ} {n : ℕ} {r : Runs} {sc : Scenario} {d : State} {s : CodeState} → Given file t n r sc → IsState sc d s → Stands file t n r (s .marks) (s .done) sc d
+pub stands : {file t : List ℕ} {n : ℕ} {r : Runs} {sc : Scenario} {d : State} {s : CodeState} → Given file t n r sc → IsState sc d s → StandsIn file t n r (s .marks) (s .done) sc d
 stands given is = record { given = given; progress = is .placed .progress; made = is .placed .positions; exact = is .arrays .exact }
 
 module _ (file t : List ℕ) (n : ℕ) (r : Runs) (marks : List Bool) (done : List ℕ) (k : ℕ) where
@@ -44,7 +44,7 @@ module _ (file t : List ℕ) (n : ℕ) (r : Runs) (marks : List Bool) (done : Li
 
   -- none of the first k runs breaks a claim
   abbrev pub NoneBelow : Type 0
-  NoneBelow = (sc : Scenario) (d : State) → Stands file t n r marks done sc d → (i : ℕ) → i < k → brokenInRun sc d i ≡ none
+  NoneBelow = (sc : Scenario) (d : State) → StandsIn file t n r marks done sc d → (i : ℕ) → i < k → brokenInRun sc d i ≡ none
 
 -- a claim is answered where there is one
 is-broken : (o : Option definitions.Claim) (c : Claim) → claimedAs o ≡ Broken c → (x : definitions.Claim) × (o ≡ some x)
@@ -57,13 +57,13 @@ is-nothing (some x) e = cc
 
 module _ (file t : List ℕ) (n : ℕ) (r : Runs) (marks : List Bool) (done : List ℕ) (k : ℕ) (before : NoneBelow file t n r marks done k) where
   -- with all runs passed there is none
-  pub state-none : r .count ≤ k → (sc : Scenario) (d : State) → Stands file t n r marks done sc d → Nothing ≡ claimedAs (broken sc d)
+  pub state-none : r .count ≤ k → (sc : Scenario) (d : State) → StandsIn file t n r marks done sc d → Nothing ≡ claimedAs (broken sc d)
   unfolding broken
   state-none l sc d is = rw (first-none (brokenInRun sc d) (length (sc .runs)) (λ i m. before sc d is i (omega (arith, is .given .runs .count)))) refl
 
   module _ (below : k < r .count) (found : Claimed) (here : FoundIn file t n r marks done k found) where
     -- what is found is so for the state
-    found-here : (sc : Scenario) (d : State) → Stands file t n r marks done sc d → found ≡ claimedAs (brokenInRun sc d k)
+    found-here : (sc : Scenario) (d : State) → StandsIn file t n r marks done sc d → found ≡ claimedAs (brokenInRun sc d k)
     found-here sc d is =
         let run = getElem-there (sc .runs) k (omega (arith, is .given .runs .count)) in
         let p = getElem-there (d .progress) k (omega (arith, is .given .runs .count, is .progress)) in
@@ -71,7 +71,7 @@ module _ (file t : List ℕ) (n : ℕ) (r : Runs) (marks : List Bool) (done : Li
         (record { runs = is .given .runs; good = is .given .good; isRun = run .1; isProgress = p .1; exact = is .exact }) (is .given .rows) (is .made k (p .0) (p .1))
 
     -- a claim that is found, after none, is the first
-    pub state-broken : (c : Claim) → found ≡ Broken c → (sc : Scenario) (d : State) → Stands file t n r marks done sc d → found ≡ claimedAs (broken sc d)
+    pub state-broken : (c : Claim) → found ≡ Broken c → (sc : Scenario) (d : State) → StandsIn file t n r marks done sc d → found ≡ claimedAs (broken sc d)
     unfolding broken
     state-broken c e sc d is =
         let h = found-here sc d is in

@@ -17,9 +17,9 @@ use Rattle.semantics.specs.Guarantee.{GoodTable}
 use Rattle.semantics.specs.Encoding.{RowBytes, trustedBytes, untrustedBytes, globalBytes, intruderBytes, roleBytes, agentVariableBytes, freshVariableBytes, localBytes, publicBytes, secretBytes, sharedBytes, pairBytes, encryptedBytes}
 use Rattle.semantics.specs.laws.Test.{There, mapped-some, mapped-there, mapped₂-there}
 use Rattle.semantics.specs.laws.Value.{rowValue, value-unfolds}
-use Rattle.rows.specs.Rows.{rowsOf}
+use Rattle.rows.specs.Rows.{rowsOf, Shape}
 use Rattle.rows.specs.laws.Table.{table-good}
-use Rattle.cells.specs.Cells.{Shape, secondOf, Canonical}
+use Rattle.cells.specs.Cells.{secondOf, Canonical}
 use Rattle.semantics.specs.laws.Test.{mapped₂-some}
 use Rattle.cells.specs.laws.Cells.{row-there, row-decodes}
 

@@ -12,8 +12,8 @@ use Rattle.semantics.specs.Value.{valueOf}
 use Rattle.semantics.specs.State.{inRun}
 use Rattle.semantics.specs.Runs.{atomAt}
 use Rattle.semantics.specs.laws.Test.{There, both, both-parts}
-use Rattle.rows.specs.Rows.{rowsOf}
-use Rattle.cells.specs.Cells.{cellOf, cellCount, absent, Shape, Within, Readings, cellValue, Canonical, Matches, isFound, notFound}
+use Rattle.rows.specs.Rows.{rowsOf, Shape}
+use Rattle.cells.specs.Cells.{cellOf, cellCount, absent, Within, Readings, cellValue, Canonical, Matches, isFound, notFound}
 use Rattle.cells.specs.laws.Cells.{class-read, left-lower, second-lower}
 use Rattle.classes.specs.Classes.{Named, unnamed, named, NamesRight, Stands, byName, byCell, Classes, Grows, Refilled}
 use Rattle.classes.specs.Filled.{firstClass, secondClass, ClassOf, ofAtom, noFirst, noSecond, ofOther, ofItself, mixed, Filled}

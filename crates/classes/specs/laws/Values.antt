@@ -13,8 +13,8 @@ use Rattle.semantics.specs.Value.{Reading, valueOf}
 use Rattle.semantics.specs.Guarantee.{refersTo, GoodTable}
 use Rattle.semantics.specs.laws.Test.{mapped-some}
 use Rattle.semantics.specs.laws.Value.{rowValue, value-unfolds, value-within, row-induction}
-use Rattle.rows.specs.Rows.{rowsOf}
-use Rattle.cells.specs.Cells.{Shape, Readings, cellValue, secondOf}
+use Rattle.rows.specs.Rows.{rowsOf, Shape}
+use Rattle.cells.specs.Cells.{Readings, cellValue, secondOf}
 use Rattle.cells.specs.laws.Cells.{left-lower, second-lower}
 use Rattle.classes.specs.Classes.{Grows}
 use Rattle.classes.specs.Filled.{mixed}

@@ -10,7 +10,7 @@ use Rattle.semantics.specs.Table.{rowsFrom}
 use Rattle.semantics.specs.Value.{valueOf, asAtoms}
 use Rattle.semantics.specs.Derive.{absentFrom, derivableRow, derived}
 use Rattle.semantics.specs.laws.Derive.{all-there}
-use Rattle.rows.specs.Rows.{rowsOf, placeAs}
+use Rattle.rows.specs.Rows.{rowsOf, placeAs, Shape}
 use Rattle.rows.specs.declared.Place.{Place}
 use Rattle.rows.specs.declared.Place.the-variants.{At, Nowhere}
 use Rattle.rows.specs.laws.Places.{at-some, nowhere-none}
@@ -18,8 +18,6 @@ use Rattle.table.specs.Check.{judgedAs}
 use Rattle.table.specs.declared.Judged.{Judged}
 use Rattle.table.specs.declared.Judged.the-variants as judged
 use Rattle.table.specs.laws.Table.{judged-sized, judged-refused, table-accepted}
-use Rattle.cells.specs.Cells.{Shape}
-use Rattle.cells.specs.laws.Shape.{sized-shape}
 use Rattle.role_level.specs.RoleLevel.{ListedBelow}
 use Rattle.answers.specs.Answers.{numbered, derivedAs}
 use Rattle.answers.specs.declared.Refusal.{Refusal}
@@ -35,7 +33,7 @@ module _ (table list : List ℕ) (target : ℕ) {j : Judged} (check : j ≡ judg
   module _ {n : ℕ} (rows : j ≡ judged.Rows n) where
     -- an accepted one
     pub derive-shape : Shape table n 0
-    derive-shape = sized-shape (judged-sized 0 table n (sym check ∙ rows))
+    derive-shape = judged-sized 0 table n (sym check ∙ rows)
 
     module _ {p : Place} (absent : AbsentAt n list target p) where
       found : p ≡ placeAs (absentFrom (rowsOf table) 0 list target)

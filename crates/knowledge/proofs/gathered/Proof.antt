@@ -6,18 +6,18 @@ use mathlib.Core.Path.{refl}
 use borrow.Author.Needs.{needs}
 use Rattle.cells.specs.Cells.{cellOf}
 use Rattle.knowledge.specs.laws.Filled.{marked, unmarked, Before, filled-none, filled-set, filled-skip, filled-run, filled-all}
-use Rattle.knowledge.specs.Steps.{classAt, On, Filled}
+use Rattle.knowledge.specs.Steps.{classAt, On, FilledCells}
 use Rattle.knowledge.proofs.gathered.Statement.{statement}
 use Rattle.knowledge.proofs.gathered.Tie as tie
 
 abbrev Inv-loop2 : tie.InvT-loop2
-Inv-loop2 start n runs classes marks₀ u r₀ marks r = (r ≤ n) × Filled n runs (classAt classes) (λ x w. On start (cellOf x w)) (Before n u r) marks
+Inv-loop2 start n runs classes marks₀ u r₀ marks r = (r ≤ n) × FilledCells n runs (classAt classes) (λ x w. On start (cellOf x w)) (Before n u r) marks
 
 abbrev μ-loop2 : tie.MeasureT-loop2
 μ-loop2 start n runs classes marks₀ u r₀ marks r = n - r
 
 abbrev Inv-loop : tie.InvT-loop
-Inv-loop start n runs classes marks₀ u₀ marks u = (u ≤ runs + 1) × Filled n runs (classAt classes) (λ x w. On start (cellOf x w)) (Before n u 0) marks
+Inv-loop start n runs classes marks₀ u₀ marks u = (u ≤ runs + 1) × FilledCells n runs (classAt classes) (λ x w. On start (cellOf x w)) (Before n u 0) marks
 
 abbrev μ-loop : tie.MeasureT-loop
 μ-loop start n runs classes marks₀ u₀ marks u = runs + 1 - u

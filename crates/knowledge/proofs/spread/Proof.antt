@@ -5,18 +5,18 @@ use mathlib.Core.Logic.{⊎-elim}
 use borrow.Author.Needs.{needs}
 use Rattle.cells.specs.Cells.{cellOf}
 use Rattle.knowledge.specs.laws.Filled.{marked, unmarked, Before, filled-none, filled-set, filled-skip, filled-run, filled-all}
-use Rattle.knowledge.specs.Steps.{classAt, On, Filled}
+use Rattle.knowledge.specs.Steps.{classAt, On, FilledCells}
 use Rattle.knowledge.proofs.spread.Statement.{statement}
 use Rattle.knowledge.proofs.spread.Tie as tie
 
 abbrev Inv-loop2 : tie.InvT-loop2
-Inv-loop2 marks n runs classes out₀ w r₀ out r = (r ≤ n) × Filled n runs cellOf (λ x v. On marks (classAt classes x v)) (Before n w r) out
+Inv-loop2 marks n runs classes out₀ w r₀ out r = (r ≤ n) × FilledCells n runs cellOf (λ x v. On marks (classAt classes x v)) (Before n w r) out
 
 abbrev μ-loop2 : tie.MeasureT-loop2
 μ-loop2 marks n runs classes out₀ w r₀ out r = n - r
 
 abbrev Inv-loop : tie.InvT-loop
-Inv-loop marks n runs classes out₀ w₀ out w = (w ≤ runs + 1) × Filled n runs cellOf (λ x v. On marks (classAt classes x v)) (Before n w 0) out
+Inv-loop marks n runs classes out₀ w₀ out w = (w ≤ runs + 1) × FilledCells n runs cellOf (λ x v. On marks (classAt classes x v)) (Before n w 0) out
 
 abbrev μ-loop : tie.MeasureT-loop
 μ-loop marks n runs classes out₀ w₀ out w = runs + 1 - w

@@ -10,14 +10,14 @@ use Rattle.semantics.specs.Term.{Term, pair, encrypted, inverse}
 use Rattle.semantics.specs.Inference.{Derives}
 use Rattle.semantics.specs.laws.Test.{both}
 use Rattle.semantics.specs.laws.Inference.{Carried, derives-keeps}
-use Rattle.rows.specs.Rows.{rowsOf}
-use Rattle.cells.specs.Cells.{cellOf, absent, Shape, Readings, cellValue, secondOf, Found, isFound, notFound}
+use Rattle.rows.specs.Rows.{rowsOf, Shape}
+use Rattle.cells.specs.Cells.{cellOf, absent, Readings, cellValue, secondOf, Found, isFound, notFound}
 use Rattle.cells.specs.laws.Cells.{second-left}
 use Rattle.classes.specs.Classes.{Classes}
 use Rattle.knowledge.specs.Marks.{Derivable, Settled}
 use Rattle.knowledge.specs.Steps.{classAt, On, kindAt, leftAt, rightAt, Inside, Gathered, Spread, Opening, byOther, byItself, byNone, IdleAt, Reaches, stays, grows, Finished}
 use Rattle.knowledge.specs.laws.Filled.{set-keeps}
-use Rattle.knowledge.specs.laws.Values.{Has, showsAtom, showsPk, showsSk, showsPair, showsEncrypted, Standing, standsRow, cells-apart, one-value, has-class, stand, one-class, inside}
+use Rattle.knowledge.specs.laws.Values.{Has, showsAtom, showsPk, showsSk, showsPair, showsEncrypted, StandingCell, standsRow, cells-apart, one-value, has-class, stand, one-class, inside}
 use Rattle.knowledge.specs.laws.Sound.{KeyOf, pkKey, skKey, inverse-keys, own-inverse, standing-key, Sound, stands-there, on-value, found-key, reaches-sound}
 
 -- What can be built from terms that are there: pairs and encryptions of such terms.
@@ -32,7 +32,7 @@ built-key a (pkKey e) (there p) = p
 built-key a (skKey e) (there p) = p
 
 -- no atom is a key, and a key's row is of its kind
-key-row : {bytes : List ℕ} {n : ℕ} {readings : Readings} {kind x w : ℕ} {mk : Term → Term} (a : Term) → KeyOf kind mk → Standing bytes n readings x w (mk a)
+key-row : {bytes : List ℕ} {n : ℕ} {readings : Readings} {kind x w : ℕ} {mk : Term → Term} (a : Term) → KeyOf kind mk → StandingCell bytes n readings x w (mk a)
     → (kindAt bytes x ≡ kind) × (leftAt bytes x < n) × Has bytes readings (leftAt bytes x) w a × Has bytes readings x w (mk a)
 key-row a (pkKey e) (standsRow l v (showsAtom f)) = absurd (omega arith)
 key-row a (pkKey e) (standsRow l v (showsPk f b h)) = (f ∙ sym e, b, h, v)
@@ -45,12 +45,12 @@ key-second bytes x (pkKey e) f = second-left bytes x refl (omega arith) refl
 key-second bytes x (skKey e) f = second-left bytes x refl (omega arith) refl
 
 -- a row that stands for a pair or an encryption has that value, and its parts are those of the term
-pair-row : {bytes : List ℕ} {n : ℕ} {readings : Readings} {x w : ℕ} {a b : Term} → Standing bytes n readings x w (pair a b)
+pair-row : {bytes : List ℕ} {n : ℕ} {readings : Readings} {x w : ℕ} {a b : Term} → StandingCell bytes n readings x w (pair a b)
     → (kindAt bytes x ≡ 11) × (leftAt bytes x < n) × (rightAt bytes x < n) × Has bytes readings (leftAt bytes x) w a × Has bytes readings (rightAt bytes x) w b × Has bytes readings x w (pair a b)
 pair-row (standsRow l v (showsAtom f)) = absurd (omega arith)
 pair-row (standsRow l v (showsPair f c d g h)) = (f, c, d, g, h, v)
 
-encrypted-row : {bytes : List ℕ} {n : ℕ} {readings : Readings} {x w : ℕ} {a b : Term} → Standing bytes n readings x w (encrypted a b)
+encrypted-row : {bytes : List ℕ} {n : ℕ} {readings : Readings} {x w : ℕ} {a b : Term} → StandingCell bytes n readings x w (encrypted a b)
     → (kindAt bytes x ≡ 12) × (leftAt bytes x < n) × (rightAt bytes x < n) × Has bytes readings (leftAt bytes x) w a × Has bytes readings (rightAt bytes x) w b × Has bytes readings x w (encrypted a b)
 encrypted-row (standsRow l v (showsAtom f)) = absurd (omega arith)
 encrypted-row (standsRow l v (showsEncrypted f c d g h)) = (f, c, d, g, h, v)

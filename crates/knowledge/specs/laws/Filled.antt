@@ -10,7 +10,7 @@ use mathlib.Core.List.{List, [], _∷_}
 use lib.ListN.{length, getD, set, replicate, length-set, length-replicate}
 use lib.Seq.{getD-set-same, getD-set-other}
 use Rattle.cells.specs.Cells.{absent}
-use Rattle.knowledge.specs.Steps.{On, Inside, Filled, missing}
+use Rattle.knowledge.specs.Steps.{On, Inside, FilledCells, missing}
 
 -- a marked class is one of the list
 pub on-below : (marks : List Bool) (k : ℕ) → On marks k → k < length marks
@@ -77,7 +77,7 @@ Before n u r x w = (x < n) × ((w < u) ⊎ ((w ≡ u) × (x < r)))
 
 module _ (n runs : ℕ) (place : ℕ → ℕ → ℕ) (chosen : ℕ → ℕ → Type 0) where
   -- no cell passed, no mark
-  pub filled-none : Filled n runs place chosen (Before n 0 0) (replicate 480 false)
+  pub filled-none : FilledCells n runs place chosen (Before n 0 0) (replicate 480 false)
   filled-none = record {
     size = length-replicate 480 false;
     from = λ k e. absurd (none-on 480 k e);
@@ -88,9 +88,9 @@ module _ (n runs : ℕ) (place : ℕ → ℕ → ℕ) (chosen : ℕ → ℕ → 
   before-more : (u r x w : ℕ) → Before n u (r + 1) x w → ((x ≡ r) × (w ≡ u)) ⊎ Before n u r x w
   before-more u r x w p = ⊎-elim (λ l. inr (p .0, inl l)) (λ q. ⊎-elim (λ e. inl (e, q .0)) (λ l. inr (p .0, inr (q .0, l))) (eq-or-lt-of-le (omega (arith, q .1)))) (p .1)
 
-  module _ {u r : ℕ} {marks : List Bool} (f : Filled n runs place chosen (Before n u r) marks) where
+  module _ {u r : ℕ} {marks : List Bool} (f : FilledCells n runs place chosen (Before n u r) marks) where
     -- its mark is set
-    pub filled-set : Inside n runs r u → chosen r u → {k : ℕ} → k ≡ place r u → k < absent → {next : List Bool} → next ≡ set marks k true → Filled n runs place chosen (Before n u (r + 1)) next
+    pub filled-set : Inside n runs r u → chosen r u → {k : ℕ} → k ≡ place r u → k < absent → {next : List Bool} → next ≡ set marks k true → FilledCells n runs place chosen (Before n u (r + 1)) next
     filled-set within c {k} e l q = rw q record {
       size = length-set marks k true ∙ f .size;
       from = λ j o. ⊎-elim (λ q. (r, u, within, c, q ∙ e)) (λ h. f .from j h) (set-on marks k j o);
@@ -101,7 +101,7 @@ module _ (n runs : ℕ) (place : ℕ → ℕ → ℕ) (chosen : ℕ → ℕ → 
     }
 
     -- or it has none
-    pub filled-skip : (chosen r u → place r u < absent → ⊥) → {next : List Bool} → next ≡ marks → Filled n runs place chosen (Before n u (r + 1)) next
+    pub filled-skip : (chosen r u → place r u < absent → ⊥) → {next : List Bool} → next ≡ marks → FilledCells n runs place chosen (Before n u (r + 1)) next
     filled-skip no-mark q = rw q record {
       size = f .size;
       from = f .from;
@@ -109,7 +109,7 @@ module _ (n runs : ℕ) (place : ℕ → ℕ → ℕ) (chosen : ℕ → ℕ → 
     }
 
     -- the rows of a run are passed
-    pub filled-run : n ≤ r → Filled n runs place chosen (Before n (u + 1) 0) marks
+    pub filled-run : n ≤ r → FilledCells n runs place chosen (Before n (u + 1) 0) marks
     filled-run l = record {
       size = f .size;
       from = f .from;
@@ -117,7 +117,7 @@ module _ (n runs : ℕ) (place : ℕ → ℕ → ℕ) (chosen : ℕ → ℕ → 
     }
 
   -- all runs are passed
-  pub filled-all : {u : ℕ} {marks : List Bool} → Filled n runs place chosen (Before n u 0) marks → runs < u → Filled n runs place chosen (Inside n runs) marks
+  pub filled-all : {u : ℕ} {marks : List Bool} → FilledCells n runs place chosen (Before n u 0) marks → runs < u → FilledCells n runs place chosen (Inside n runs) marks
   filled-all f l = record {
     size = f .size;
     from = f .from;

@@ -10,12 +10,12 @@ use lib.ListN.{length, set, length-set}
 use Rattle.semantics.specs.Term.{Term, pk, sk, inverse}
 use Rattle.semantics.specs.Inference.{Derives, pairs, first, second, encrypts, decrypts}
 use Rattle.semantics.specs.laws.Test.{both-left}
-use Rattle.rows.specs.Rows.{rowsOf}
-use Rattle.cells.specs.Cells.{cellOf, cellCount, absent, Shape, Readings, cellValue, secondOf, Found, isFound, notFound}
+use Rattle.rows.specs.Rows.{rowsOf, Shape}
+use Rattle.cells.specs.Cells.{cellOf, cellCount, absent, Readings, cellValue, secondOf, Found, isFound, notFound}
 use Rattle.classes.specs.Classes.{Classes}
 use Rattle.knowledge.specs.Steps.{classAt, On, kindAt, leftAt, rightAt, Inside, InverseKinds, pkSk, skPk, Opening, byOther, byItself, byNone, givesWhole, givesFirst, givesSecond, givesContent, GivesAt, Reaches, stays, grows}
 use Rattle.knowledge.specs.laws.Filled.{on-below, set-on}
-use Rattle.knowledge.specs.laws.Values.{Has, Shown, showsAtom, showsPk, showsSk, showsShared, showsPair, showsEncrypted, shown, Parts, pairParts, encryptedParts, parts, Standing, standsAtom, standsRow, cells-apart, one-value, has-value, stand}
+use Rattle.knowledge.specs.laws.Values.{Has, ShownAs, showsAtom, showsPk, showsSk, showsShared, showsPair, showsEncrypted, shown, PartsKnown, pairParts, encryptedParts, parts, StandingCell, standsAtom, standsRow, cells-apart, one-value, has-value, stand}
 
 -- the keys of a kind, and the value of their agent
 pub data KeyOf (kind : ℕ) : (Term → Term) → Type 0 where
@@ -24,7 +24,7 @@ pub data KeyOf (kind : ℕ) : (Term → Term) → Type 0 where
 
 module _ (bytes : List ℕ) (n : ℕ) (readings : Readings) where
   -- a row of a key's kind has a key of its left row's value
-  key-parts : {kind x w : ℕ} {mk : Term → Term} {t : Term} → KeyOf kind mk → kindAt bytes x ≡ kind → Shown bytes n readings x w t
+  key-parts : {kind x w : ℕ} {mk : Term → Term} {t : Term} → KeyOf kind mk → kindAt bytes x ≡ kind → ShownAs bytes n readings x w t
       → (a : Term) × (t ≡ mk a) × (leftAt bytes x < n) × Has bytes readings (leftAt bytes x) w a
   key-parts (pkKey q) e (showsAtom l) = absurd (omega arith)
   key-parts (skKey q) e (showsAtom l) = absurd (omega arith)
@@ -46,7 +46,7 @@ inverse-keys pkSk = (pk, sk, pkKey refl, skKey refl, λ a. refl)
 inverse-keys skPk = (sk, pk, skKey refl, pkKey refl, λ a. refl)
 
 -- a row of another kind stands for a term that is its own inverse
-pub own-inverse : {bytes : List ℕ} {n : ℕ} {readings : Readings} {x w : ℕ} {t : Term} → Standing bytes n readings x w t → (kindAt bytes x ≡ 8 → ⊥) → (kindAt bytes x ≡ 9 → ⊥) → inverse t ≡ t
+pub own-inverse : {bytes : List ℕ} {n : ℕ} {readings : Readings} {x w : ℕ} {t : Term} → StandingCell bytes n readings x w t → (kindAt bytes x ≡ 8 → ⊥) → (kindAt bytes x ≡ 9 → ⊥) → inverse t ≡ t
 own-inverse (standsAtom l) p s = refl
 own-inverse (standsRow l v (showsAtom k)) p s = absurd (omega arith)
 own-inverse (standsRow l v (showsPk e b h)) p s = absurd (p e)
@@ -57,7 +57,7 @@ own-inverse (standsRow l v (showsEncrypted e b c g h)) p s = refl
 
 -- a row of a key's kind stands for a key of its left row's value
 pub standing-key : {bytes : List ℕ} {n : ℕ} {readings : Readings} {kind x w : ℕ} {mk : Term → Term} {t : Term} → KeyOf kind mk → kindAt bytes x ≡ kind
-    → Standing bytes n readings x w t → (a : Term) × (t ≡ mk a) × (leftAt bytes x < n) × Has bytes readings (leftAt bytes x) w a
+    → StandingCell bytes n readings x w t → (a : Term) × (t ≡ mk a) × (leftAt bytes x < n) × Has bytes readings (leftAt bytes x) w a
 standing-key (pkKey q) e (standsAtom l) = absurd (omega arith)
 standing-key (skKey q) e (standsAtom l) = absurd (omega arith)
 standing-key {bytes} {n} {readings} k e (standsRow l v s) = key-parts bytes n readings k e s
@@ -70,7 +70,7 @@ pub record Sound (bytes : List ℕ) (n runs : ℕ) (readings : Readings) (classe
 module _ (bytes : List ℕ) (n runs : ℕ) (shape : Shape bytes n runs) (readings : Readings) (classes : List ℕ)
     (right : Classes (rowsOf bytes) runs (cellValue readings (rowsOf bytes)) classes) where
   -- the cell that gives a class is the one that stands for the values of that class
-  pub stands-there : {r u x w : ℕ} {t : Term} → Inside n runs r u → Has bytes readings r u t → Inside n runs x w → classAt classes r u ≡ cellOf x w → Standing bytes n readings x w t
+  pub stands-there : {r u x w : ℕ} {t : Term} → Inside n runs r u → Has bytes readings r u t → Inside n runs x w → classAt classes r u ≡ cellOf x w → StandingCell bytes n readings x w t
   stands-there {x = x} {w} i h j e =
       let s = stand bytes n runs shape readings classes right i h in
       let few = shape .few in
@@ -115,28 +115,28 @@ module _ (bytes : List ℕ) (n runs : ℕ) (shape : Shape bytes n runs) (reading
         let v = has-value bytes n runs shape readings classes right i (rw e at b) in
         (x, u, v .0, i, v .1, go (parts bytes n runs shape readings x u (v .0) (i .0) k (v .1)), e)
       where
-        go : {t : Term} → Parts bytes n readings x u t → Derives known t
+        go : {t : Term} → PartsKnown bytes n readings x u t → Derives known t
         go (pairParts f c d g h) = pairs (sound .derives (c, i .1) g l) (sound .derives (d, i .1) h s)
         go (encryptedParts f c d g h) = encrypts (sound .derives (c, i .1) g l) (sound .derives (d, i .1) h s)
     gives-sound {x} {u} {class} i (givesFirst k o e) b =
         let v = on-value marks (sound .size) i o in
         go (parts bytes n runs shape readings x u (v .0) (i .0) (omega arith) (v .1)) (sound .derives i (v .1) o)
       where
-        go : {t : Term} → Parts bytes n readings x u t → Derives known t → Derived class
+        go : {t : Term} → PartsKnown bytes n readings x u t → Derives known t → Derived class
         go (pairParts {a = a} f c c′ g h) d = (leftAt bytes x, u, a, (c, i .1), g, first d, e)
         go (encryptedParts f c c′ g h) d = absurd (omega arith)
     gives-sound {x} {u} {class} i (givesSecond k o e) b =
         let v = on-value marks (sound .size) i o in
         go (parts bytes n runs shape readings x u (v .0) (i .0) (omega arith) (v .1)) (sound .derives i (v .1) o)
       where
-        go : {t : Term} → Parts bytes n readings x u t → Derives known t → Derived class
+        go : {t : Term} → PartsKnown bytes n readings x u t → Derives known t → Derived class
         go (pairParts {b = b} f c c′ g h) d = (rightAt bytes x, u, b, (c′, i .1), h, second d, e)
         go (encryptedParts f c c′ g h) d = absurd (omega arith)
     gives-sound {x} {u} {class} i (givesContent k o q e) b =
         let v = on-value marks (sound .size) i o in
         go (parts bytes n runs shape readings x u (v .0) (i .0) (omega arith) (v .1)) (sound .derives i (v .1) o)
       where
-        go : {t : Term} → Parts bytes n readings x u t → Derives known t → Derived class
+        go : {t : Term} → PartsKnown bytes n readings x u t → Derives known t → Derived class
         go (pairParts f c c′ g h) d = absurd (omega arith)
         go (encryptedParts {a = a} f c c′ g h) d = (leftAt bytes x, u, a, (c, i .1), g, decrypts d (opening-sound (c′, i .1) h q), e)
 

@@ -8,7 +8,8 @@ use mathlib.Core.Logic.{inl, inr, ⊎-elim}
 use mathlib.Core.Bool.{Bool, true, false}
 use mathlib.Core.List.{List}
 use lib.ListN.{length, getD, set, List·getD-eq-default}
-use Rattle.cells.specs.Cells.{cellOf, cellCount, absent, Shape, Found}
+use Rattle.rows.specs.Rows.{Shape}
+use Rattle.cells.specs.Cells.{cellOf, cellCount, absent, Found}
 use Rattle.cells.specs.laws.Cells.{left-lower, second-lower, second-right}
 use Rattle.knowledge.specs.Steps.{classAt, On, kindAt, leftAt, rightAt, Inside, InverseKinds, Opening, byOther, byItself, byNone, Gives, givesWhole, givesFirst, givesSecond, givesContent, Idle, Gained, gains, idles, IdleAt, GainedAt, RowGained, rowGains, rowIdles, Reaches, stays, grows, missing}
 use Rattle.knowledge.specs.laws.Filled.{marked, missing-set, missing-falls}

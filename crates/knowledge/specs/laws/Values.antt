@@ -13,9 +13,9 @@ use Rattle.semantics.specs.Guarantee.{refersTo}
 use Rattle.semantics.specs.Encoding.{RowBytes, trustedBytes, untrustedBytes, globalBytes, intruderBytes, roleBytes, agentVariableBytes, freshVariableBytes, localBytes, publicBytes, secretBytes, sharedBytes, pairBytes, encryptedBytes}
 use Rattle.semantics.specs.laws.Test.{There, mapped-some}
 use Rattle.semantics.specs.laws.Value.{rowValue, value-unfolds}
-use Rattle.rows.specs.Rows.{rowsOf}
+use Rattle.rows.specs.Rows.{rowsOf, Shape}
 use Rattle.rows.specs.laws.Table.{table-good}
-use Rattle.cells.specs.Cells.{cellOf, absent, Shape, Within, Readings, cellValue}
+use Rattle.cells.specs.Cells.{cellOf, absent, Within, Readings, cellValue}
 use Rattle.cells.specs.laws.Cells.{row-there, row-decodes}
 use Rattle.classes.specs.Classes.{Classes, Stands, byName, byCell}
 pub use Rattle.knowledge.specs.Marks.{Has}
@@ -27,30 +27,30 @@ pub cells-apart : (x w y v : ℕ) → x < 96 → y < 96 → cellOf x w ≡ cellO
 cells-apart x w y v l k e = (omega arith, omega arith)
 
 -- What the value of a row says of its kind and its parts.
-pub data Shown (bytes : List ℕ) (n : ℕ) (readings : Readings) (x w : ℕ) : Term → Type 0 where
-  showsAtom : {t : Term} → kindAt bytes x < 8 → Shown bytes n readings x w t
-  showsPk : {a : Term} → kindAt bytes x ≡ 8 → leftAt bytes x < n → Has bytes readings (leftAt bytes x) w a → Shown bytes n readings x w (pk a)
-  showsSk : {a : Term} → kindAt bytes x ≡ 9 → leftAt bytes x < n → Has bytes readings (leftAt bytes x) w a → Shown bytes n readings x w (sk a)
-  showsShared : {a b : Term} → kindAt bytes x ≡ 10 → Shown bytes n readings x w (shared a b)
+pub data ShownAs (bytes : List ℕ) (n : ℕ) (readings : Readings) (x w : ℕ) : Term → Type 0 where
+  showsAtom : {t : Term} → kindAt bytes x < 8 → ShownAs bytes n readings x w t
+  showsPk : {a : Term} → kindAt bytes x ≡ 8 → leftAt bytes x < n → Has bytes readings (leftAt bytes x) w a → ShownAs bytes n readings x w (pk a)
+  showsSk : {a : Term} → kindAt bytes x ≡ 9 → leftAt bytes x < n → Has bytes readings (leftAt bytes x) w a → ShownAs bytes n readings x w (sk a)
+  showsShared : {a b : Term} → kindAt bytes x ≡ 10 → ShownAs bytes n readings x w (shared a b)
   showsPair :
       {a b : Term} → kindAt bytes x ≡ 11 → leftAt bytes x < n → rightAt bytes x < n → Has bytes readings (leftAt bytes x) w a → Has bytes readings (rightAt bytes x) w b
-      → Shown bytes n readings x w (pair a b)
+      → ShownAs bytes n readings x w (pair a b)
   showsEncrypted :
       {a b : Term} → kindAt bytes x ≡ 12 → leftAt bytes x < n → rightAt bytes x < n → Has bytes readings (leftAt bytes x) w a → Has bytes readings (rightAt bytes x) w b
-      → Shown bytes n readings x w (encrypted a b)
+      → ShownAs bytes n readings x w (encrypted a b)
 
 -- The values of the parts of a pair or an encryption.
-pub data Parts (bytes : List ℕ) (n : ℕ) (readings : Readings) (x w : ℕ) : Term → Type 0 where
+pub data PartsKnown (bytes : List ℕ) (n : ℕ) (readings : Readings) (x w : ℕ) : Term → Type 0 where
   pairParts :
       {a b : Term} → kindAt bytes x ≡ 11 → leftAt bytes x < n → rightAt bytes x < n → Has bytes readings (leftAt bytes x) w a → Has bytes readings (rightAt bytes x) w b
-      → Parts bytes n readings x w (pair a b)
+      → PartsKnown bytes n readings x w (pair a b)
   encryptedParts :
       {a b : Term} → kindAt bytes x ≡ 12 → leftAt bytes x < n → rightAt bytes x < n → Has bytes readings (leftAt bytes x) w a → Has bytes readings (rightAt bytes x) w b
-      → Parts bytes n readings x w (encrypted a b)
+      → PartsKnown bytes n readings x w (encrypted a b)
 
 module _ (bytes : List ℕ) (n runs : ℕ) (shape : Shape bytes n runs) (readings : Readings) where
   -- a row with a value shows it
-  pub shown : (x w : ℕ) (t : Term) → x < n → Has bytes readings x w t → Shown bytes n readings x w t
+  pub shown : (x w : ℕ) (t : Term) → x < n → Has bytes readings x w t → ShownAs bytes n readings x w t
   shown x w t l e =
       let row = row-there bytes n runs shape x l in
       let good = table-good bytes (shape .table) in
@@ -59,7 +59,7 @@ module _ (bytes : List ℕ) (n runs : ℕ) (shape : Shape bytes n runs) (reading
       (sym (value-unfolds good (readings w) x (row .1)) ∙ e)
     where
       go : {k a b : ℕ} {row : Row} → RowBytes k a b row → kindAt bytes x ≡ k → leftAt bytes x ≡ a → rightAt bytes x ≡ b
-          → ((y : ℕ) → List·Memᴰ y (refersTo row) → y < x) → rowValue (readings w) (valueOf (readings w) (rowsOf bytes)) row ≡ some t → Shown bytes n readings x w t
+          → ((y : ℕ) → List·Memᴰ y (refersTo row) → y < x) → rowValue (readings w) (valueOf (readings w) (rowsOf bytes)) row ≡ some t → ShownAs bytes n readings x w t
       go trustedBytes ek el er low v = showsAtom (omega arith)
       go untrustedBytes ek el er low v = showsAtom (omega arith)
       go globalBytes ek el er low v = showsAtom (omega arith)
@@ -85,10 +85,10 @@ module _ (bytes : List ℕ) (n runs : ℕ) (shape : Shape bytes n runs) (reading
           rw (p .4) (showsEncrypted {a = p .0} {b = p .1} ek (omega (arith, low a (here refl))) (omega (arith, low b (later (here refl)))) (rw el (p .2)) (rw er (p .3)))
 
   -- a row of kind 11 or 12 with a value has parts with values
-  pub parts : (x w : ℕ) (t : Term) → x < n → 11 ≤ kindAt bytes x → Has bytes readings x w t → Parts bytes n readings x w t
+  pub parts : (x w : ℕ) (t : Term) → x < n → 11 ≤ kindAt bytes x → Has bytes readings x w t → PartsKnown bytes n readings x w t
   parts x w t l k e = go (shown x w t l e)
     where
-      go : {t : Term} → Shown bytes n readings x w t → Parts bytes n readings x w t
+      go : {t : Term} → ShownAs bytes n readings x w t → PartsKnown bytes n readings x w t
       go (showsAtom f) = absurd (omega arith)
       go (showsPk f a g) = absurd (omega arith)
       go (showsSk f a g) = absurd (omega arith)
@@ -116,9 +116,9 @@ module _ (bytes : List ℕ) (n runs : ℕ) (shape : Shape bytes n runs) (reading
       go encryptedBytes = inr (omega arith, refl)
 
 -- A cell that stands for a value: an atom's row for an atom, or a row of another kind with that value.
-pub data Standing (bytes : List ℕ) (n : ℕ) (readings : Readings) (x w : ℕ) : Term → Type 0 where
-  standsAtom : {a : Atom} → kindAt bytes x < 8 → Standing bytes n readings x w (atom a)
-  standsRow : {t : Term} → 8 ≤ kindAt bytes x → Has bytes readings x w t → Shown bytes n readings x w t → Standing bytes n readings x w t
+pub data StandingCell (bytes : List ℕ) (n : ℕ) (readings : Readings) (x w : ℕ) : Term → Type 0 where
+  standsAtom : {a : Atom} → kindAt bytes x < 8 → StandingCell bytes n readings x w (atom a)
+  standsRow : {t : Term} → 8 ≤ kindAt bytes x → Has bytes readings x w t → ShownAs bytes n readings x w t → StandingCell bytes n readings x w t
 
 module _ (bytes : List ℕ) (n runs : ℕ) (shape : Shape bytes n runs) (readings : Readings) (classes : List ℕ)
     (right : Classes (rowsOf bytes) runs (cellValue readings (rowsOf bytes)) classes) where
@@ -152,13 +152,13 @@ module _ (bytes : List ℕ) (n runs : ℕ) (shape : Shape bytes n runs) (reading
 
   -- and a cell with a value has a class, that of a cell that stands for the value
   pub stand : {r u : ℕ} {t : Term} → Inside n runs r u → Has bytes readings r u t
-      → (x : ℕ) × (w : ℕ) × Inside n runs x w × (classAt classes r u ≡ cellOf x w) × Standing bytes n readings x w t
+      → (x : ℕ) × (w : ℕ) × Inside n runs x w × (classAt classes r u ≡ cellOf x w) × StandingCell bytes n readings x w t
   stand {r} {u} {t} i e =
       let a = right .stands r u t (inside i) e in
       let j : Inside n runs (a .0) (a .1) = (omega (arith, a .3 .row, shape .count), a .3 .run) in
       (a .0, a .1, j, a .2, go (a .0) (a .1) (j .0) (a .4))
     where
-      go : (x w : ℕ) → x < n → Stands (rowsOf bytes) (cellValue readings (rowsOf bytes)) x w t → Standing bytes n readings x w t
+      go : (x w : ℕ) → x < n → Stands (rowsOf bytes) (cellValue readings (rowsOf bytes)) x w t → StandingCell bytes n readings x w t
       go x w l (byName f c q) = rw q (standsAtom (⊎-elim (λ k. k .0) (λ k. absurd (Option·none-ne-some _ (sym (k .1) ∙ f))) (atom-kind bytes n runs shape readings x l)))
       go x w l (byCell f v) =
           standsRow (⊎-elim (λ k. absurd (Option·none-ne-some _ (sym f ∙ k .1 .1))) (λ k. k .0) (atom-kind bytes n runs shape readings x l)) v (shown bytes n runs shape readings x w t l v)

@@ -5,12 +5,12 @@ use native.Mathlib.Omega.{arith}
 use lib.ListN.{length}
 use borrow.Author.Needs.{needs}
 use Rattle.records.specs.laws.Records.{rest-whole}
-use Rattle.records.specs.laws.Roles.{Passed, passed-none, passed-more, passed-all, passed-four}
+use Rattle.records.specs.laws.Roles.{PassedRoles, passed-none, passed-more, passed-all, passed-four}
 use Rattle.records.proofs.roles_present.Statement.{statement}
 use Rattle.records.proofs.roles_present.Tie as tie
 
 abbrev Inv-loop : tie.InvT-loop
-Inv-loop b i₀ at₀ i at = (i ≤ 4) × ((at ≤ length b + 1277) × Passed b i at)
+Inv-loop b i₀ at₀ i at = (i ≤ 4) × ((at ≤ length b + 1277) × PassedRoles b i at)
 
 abbrev μ-loop : tie.MeasureT-loop
 μ-loop b i₀ at₀ i at = 4 - i

@@ -87,17 +87,17 @@ unfolding badRole roleRecords
 roles-all rows base b roles e = rw e (ap (firstBad (goodRole rows (rolesPresent (roleRecords (partAt base b)))) 0) (left-all roleLength base b))
 
 -- so many records are passed, and the others are left
-abbrev pub Passed : List ℕ → ℕ → ℕ → Type 0
-Passed b i at = (base : ℕ) → length (roleRecords (partAt base b)) ≡ i + length (recordsLeft roleLength base b at)
+abbrev pub PassedRoles : List ℕ → ℕ → ℕ → Type 0
+PassedRoles b i at = (base : ℕ) → length (roleRecords (partAt base b)) ≡ i + length (recordsLeft roleLength base b at)
 
 -- none is passed at first
-pub passed-none : (b : List ℕ) → Passed b 0 0
+pub passed-none : (b : List ℕ) → PassedRoles b 0 0
 unfolding roleRecords
 passed-none b base = ap length (left-all roleLength base b) ∙ omega arith
 
-module _ (b : List ℕ) (i at : ℕ) (passed : Passed b i at) where
+module _ (b : List ℕ) (i at : ℕ) (passed : PassedRoles b i at) where
   -- one more
-  pub passed-more : at < length b → {n : ℕ} → n ≡ roleLength (drop at b) → Passed b (i + 1) (at + n)
+  pub passed-more : at < length b → {n : ℕ} → n ≡ roleLength (drop at b) → PassedRoles b (i + 1) (at + n)
   passed-more l e base = rw e (passed base ∙ ap (λ (r : List Part). i + length r) (left-cons roleLength role-bytes base b at l) ∙ omega arith)
 
   -- all of the block, or the first four, are present

@@ -9,12 +9,12 @@ use Rattle.answers.specs.Answers.{scenarioIn, replayedAs}
 use Rattle.runs.specs.laws.Blocks.{opened-framed}
 use Rattle.state.specs.State.{Given}
 use Rattle.state.specs.laws.Given.{opened-knowledge, given-layout}
-use Rattle.replay.specs.laws.Follow.{Followed, follow-start, follow-end, follow-refused, follow-size, follow-on, claim-broken, claim-none}
+use Rattle.replay.specs.laws.Follow.{FollowedSteps, follow-start, follow-end, follow-refused, follow-size, follow-on, claim-broken, claim-none}
 use Rattle.replay.proofs.followed.Statement.{statement}
 use Rattle.replay.proofs.followed.Tie as tie
 
 abbrev Inv-loop : tie.InvT-loop
-Inv-loop file trace r n t s₀ at₀ s at = (at ≤ length trace) × Followed (scenarioIn file) trace at s
+Inv-loop file trace r n t s₀ at₀ s at = (at ≤ length trace) × FollowedSteps (scenarioIn file) trace at s
 
 abbrev μ-loop : tie.MeasureT-loop
 μ-loop file trace r n t s₀ at₀ s at = length trace - at

@@ -26,8 +26,8 @@ use Rattle.answers.specs.declared.Refusal.{Refusal}
 use Rattle.answers.specs.declared.Opened.the-variants as opening
 use Rattle.state.specs.State.{IsState}
 use Rattle.state.specs.declared.State.{State as CodeState}
-use Rattle.steps.specs.declared.Stepped.{Stepped}
-use Rattle.steps.specs.Steps.{stepAfter, StepDone, isStep, noStep}
+use Rattle.replay_steps.specs.declared.Stepped.{Stepped}
+use Rattle.replay_steps.specs.Steps.{stepAfter, StepDone, isStep, noStep}
 use Rattle.answers.specs.declared.Replayed.the-variants.{Refused, Broken, NoClaim}
 use Rattle.replay.specs.Replay.{followedOf}
 
@@ -92,7 +92,7 @@ taken-size sc d d′ bytes size e = go (firstStep bytes) refl e
         (omega arith, omega arith)
 
 -- a trace followed up to a place, at which the code has a state: what is left of it decides
-pub record Followed (sc : Scenario) (trace : List ℕ) (at : ℕ) (s : CodeState) : Type 0 where
+pub record FollowedSteps (sc : Scenario) (trace : List ℕ) (at : ℕ) (s : CodeState) : Type 0 where
   pub d : State
   pub fuel : ℕ
   pub isState : IsState sc d s
@@ -100,10 +100,10 @@ pub record Followed (sc : Scenario) (trace : List ℕ) (at : ℕ) (s : CodeState
   pub left : replayedFrom (length trace) sc 0 (initial sc) trace ≡ replayedFrom fuel sc at d (drop at trace)
 
 -- at its start
-pub follow-start : (sc : Scenario) (trace : List ℕ) {s : CodeState} → IsState sc (initial sc) s → Followed sc trace 0 s
+pub follow-start : (sc : Scenario) (trace : List ℕ) {s : CodeState} → IsState sc (initial sc) s → FollowedSteps sc trace 0 s
 follow-start sc trace state = record { d = initial sc; fuel = length trace; isState = state; enough = omega arith; left = refl }
 
-module _ {sc : Scenario} {trace : List ℕ} {at : ℕ} {s : CodeState} (f : Followed sc trace at s) where
+module _ {sc : Scenario} {trace : List ℕ} {at : ℕ} {s : CodeState} (f : FollowedSteps sc trace at s) where
   -- at its end
   pub follow-end : length trace ≤ at → followedOf sc trace ≡ accepted (broken sc (f .d))
   unfolding followedOf
@@ -137,10 +137,10 @@ module _ {sc : Scenario} {trace : List ℕ} {at : ℕ} {s : CodeState} (f : Foll
         go (noStep e g) = absurd (true≢false (sym h ∙ e))
         go (isStep {d′} e g st) = let w = taken-size sc (f .d) d′ part (p .length) g in (w .0, omega (arith, w .1, ap length rest, length-drop at trace))
 
-    pub follow-on : p .allowed ≡ true → Followed sc trace (at + p .length) (p .state)
+    pub follow-on : p .allowed ≡ true → FollowedSteps sc trace (at + p .length) (p .state)
     follow-on h = go done
       where
-        go : StepDone sc (f .d) part p → Followed sc trace (at + p .length) (p .state)
+        go : StepDone sc (f .d) part p → FollowedSteps sc trace (at + p .length) (p .state)
         go (noStep e g) = absurd (true≢false (sym h ∙ e))
         go (isStep {d′} e g st) =
             let w = taken-size sc (f .d) d′ part (p .length) g in

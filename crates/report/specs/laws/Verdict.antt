@@ -13,7 +13,7 @@ use Rattle.semantics.specs.Verdict.{verdict, shortBuffer, searched, bufferAfter
 use Rattle.answers.specs.Answers.{searchedAs}
 use Rattle.answers.specs.declared.Verdict.{Verdict}
 use Rattle.text.specs.declared.Text.{Text}
-use Rattle.text.specs.Text.{verdictText, Holds, Shown}
+use Rattle.text.specs.Text.{verdictText, HoldsText, Shown}
 use Rattle.text.specs.laws.Adds.{holds-as}
 
 -- of a buffer that is long enough nothing more is asked
@@ -23,7 +23,7 @@ long-enough file buffer l = ap (λ (b : Bool). _>>=_ (opened file) (λ sc. _>>_ 
 
 module _ (file buffer : List ℕ) (long : 128 ≤ length buffer) where
   -- so the text is the same for every such buffer
-  pub holds-for-all : {t : Text} → Holds t (verdictText (searched file buffer)) → (other : List ℕ) → 128 ≤ length other → Holds t (verdictText (searched file other))
+  pub holds-for-all : {t : Text} → HoldsText t (verdictText (searched file buffer)) → (other : List ℕ) → 128 ≤ length other → HoldsText t (verdictText (searched file other))
   holds-for-all h other l = holds-as (ap verdictText (long-enough file buffer long ∙ sym (long-enough file other l))) h
 
 -- what Search answers and leaves

@@ -19,9 +19,9 @@ use Rattle.semantics.specs.laws.Test.{same-test}
 use Rattle.semantics.specs.laws.List.{mem-map, mem-present, getElem-below}
 use Rattle.semantics.specs.laws.Inference.{derivable-exact}
 use Rattle.semantics.specs.laws.Value.{asAtoms-value, value-within}
-use Rattle.rows.specs.Rows.{rowsOf}
+use Rattle.rows.specs.Rows.{rowsOf, Shape}
 use Rattle.rows.specs.laws.Table.{table-good, table-row}
-use Rattle.cells.specs.Cells.{Shape, Within, cellValue, Canonical}
+use Rattle.cells.specs.Cells.{Within, cellValue, Canonical}
 use Rattle.classes.specs.Classes.{named, NamesRight, Grows, Refilled}
 use Rattle.classes.specs.laws.Classes.{no-values}
 use Rattle.knowledge.specs.Marks.{Marked, Derivable, Covers, Exact}

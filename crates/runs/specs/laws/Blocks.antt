@@ -14,13 +14,13 @@ use Rattle.frame.specs.Framing.{IsFramed}
 use Rattle.frame.specs.laws.Frame.{framed-whole, framing-framed}
 
 -- a part whose bytes are those of the file from its start on
-pub record Stands (file : List ℕ) (part : Part) : Type 0 where
+pub record PartStands (file : List ℕ) (part : Part) : Type 0 where
   pub inside : part .start + length (part .bytes) ≤ length file
   pub same : (i : ℕ) → i < length (part .bytes) → getD (part .bytes) i 0 ≡ getD file (part .start + i) 0
 
 module _ (file : List ℕ) where
   -- so are those of each block from a place on
-  from-stands : (k n at : ℕ) (s : List ℕ) → s ≡ drop at file → at ≤ length file → framed n s ≡ true → k < n → Stands file (blockFrom k at s)
+  from-stands : (k n at : ℕ) (s : List ℕ) → s ≡ drop at file → at ≤ length file → framed n s ≡ true → k < n → PartStands file (blockFrom k at s)
   unfolding blockFrom
   from-stands zero n at s e l f h =
       let w = framed-whole n s f h .0 in
@@ -38,7 +38,7 @@ module _ (file : List ℕ) where
       from-stands k (n - 1) (at + m) (drop m s) (ap (λ (x : List ℕ). drop m x) e ∙ drop-drop m at file) (omega (arith, w .0)) (w .1) (omega arith)
 
   -- of a framed file
-  pub block-stands : IsFramed file → (k : ℕ) → k < 4 → Stands file (block k file)
+  pub block-stands : IsFramed file → (k : ℕ) → k < 4 → PartStands file (block k file)
   unfolding block
   block-stands f k h = from-stands k 4 5 (drop 5 file) refl (f .size) (f .blocks) h
 

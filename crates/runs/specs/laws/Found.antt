@@ -25,7 +25,7 @@ use Rattle.records.specs.Records.{partAt, recordAt, eventAt}
 use Rattle.records.specs.laws.Roles.{role-good, own-eventsIn}
 use Rattle.records.specs.laws.Runs.{run-bytes}
 use Rattle.runs.specs.Runs.{RunAt, IsRun}
-use Rattle.runs.specs.laws.Blocks.{Stands, block-stands, opened-framed}
+use Rattle.runs.specs.laws.Blocks.{PartStands, block-stands, opened-framed}
 use Rattle.records.specs.laws.Begins.{begins-record, begins-each}
 use Rattle.runs.specs.laws.Events.{record-count, record-each}
 
@@ -40,9 +40,9 @@ getElem-map f [] i = refl
 getElem-map f (x ∷ xs) zero = refl
 getElem-map f (x ∷ xs) (suc i) = getElem-map f xs i
 
-module _ (file : List ℕ) (base : ℕ) (b : List ℕ) (stands : Stands file (partAt base b)) where
+module _ (file : List ℕ) (base : ℕ) (b : List ℕ) (stands : PartStands file (partAt base b)) where
   -- the bytes of a block from a place on stand in the file too
-  stands-from : (at : ℕ) → at ≤ length b → Stands file (partAt (base + at) (drop at b))
+  stands-from : (at : ℕ) → at ≤ length b → PartStands file (partAt (base + at) (drop at b))
   stands-from at l = record {
     inside = let d = length-drop at b in omega (arith, stands .inside);
     same = λ i m. let z : base + (at + i) ≡ base + at + i = omega arith in
@@ -80,7 +80,7 @@ module _ (file : List ℕ) (base : ℕ) (b : List ℕ) (stands : Stands file (pa
       let c = leb→le (suc roles) (length (take (suc roles) (drop at b))) (search both-parts) in
       omega (arith, length-take (suc roles) (drop at b), length-drop at b)
 
-module _ (file : List ℕ) (start : ℕ) (s : List ℕ) (stands : Stands file (partAt start s)) (rows : List Row) (roles i : ℕ) (good : T (goodRole rows roles i (recordAt roleLength start s))) where
+module _ (file : List ℕ) (start : ℕ) (s : List ℕ) (stands : PartStands file (partAt start s)) (rows : List Row) (roles i : ℕ) (good : T (goodRole rows roles i (recordAt roleLength start s))) where
   parts : T (leb (roleLength s) (length s) && ltb i mostRoles && leb (eventCount s) mostEvents && knowledgeFits rows (knowledgeIn s) && every (eventFits rows roles) (eventsIn (partAt start s)))
   parts = rw role-good at good
 
@@ -132,10 +132,10 @@ module _ (file : List ℕ) (sc : Scenario) (accepts : opened file ≡ accepted s
   roles-count : length (sc .roles) ≡ roleCount file
   roles-count = roles-length ∙ sym (badRole-present (o .rows) (roleParts file) (o .roles))
 
-  roles-stand : Stands file (rolePart file)
+  roles-stand : PartStands file (rolePart file)
   roles-stand = block-stands file (opened-framed file sc accepts) 1 (omega arith)
 
-  runs-stand : Stands file (runPart file)
+  runs-stand : PartStands file (runPart file)
   runs-stand = block-stands file (opened-framed file sc accepts) 2 (omega arith)
 
   -- the record of a role

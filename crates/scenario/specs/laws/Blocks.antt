@@ -11,11 +11,10 @@ use Rattle.semantics.specs.Roles.{badRole, absentRoleFrom, roleRecords, rolesPr
 use Rattle.semantics.specs.WellFormed.{illFormed}
 use Rattle.semantics.specs.Runs.{runRecords, badRun, badKnowledgeFrom}
 use Rattle.semantics.specs.Scenario.{termPart, rolePart, runPart, knowledgePart, roleParts, roleCount, runParts, scenarioOf}
-use Rattle.rows.specs.Rows.{IsTable, Sized, rowsOf, placeAs}
+use Rattle.rows.specs.Rows.{IsTable, Sized, rowsOf, placeAs, Shape}
 use Rattle.rows.specs.declared.Place.{Place}
 use Rattle.table.specs.Check.{judgedAs}
 use Rattle.table.specs.declared.Judged.{Judged}
-use Rattle.cells.specs.Cells.{Shape}
 use Rattle.cells.specs.laws.Shape.{shape-sized}
 use Rattle.records.specs.Records.{partAt}
 

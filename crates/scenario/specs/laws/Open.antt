@@ -14,12 +14,10 @@ use Rattle.semantics.specs.WellFormed.{illFormed}
 use Rattle.semantics.specs.Runs.{runLength, runIn, runRecords, runsFrom, badRun, badKnowledgeFrom}
 use Rattle.semantics.specs.Scenario.{Scenario, termPart, rolePart, runPart, knowledgePart, roleParts, roleCount, runParts, scenarioOf, opened}
 use Rattle.semantics.specs.laws.Open.{badRole-present}
-use Rattle.rows.specs.Rows.{rowsOf, placeAs}
+use Rattle.rows.specs.Rows.{rowsOf, placeAs, Shape}
 use Rattle.rows.specs.laws.Places.{at-some, nowhere-none}
 use Rattle.rows.specs.declared.Place.{Place}
 use Rattle.rows.specs.declared.Place.the-variants.{At, Nowhere}
-use Rattle.cells.specs.Cells.{Shape}
-use Rattle.cells.specs.laws.Shape.{sized-shape}
 use Rattle.frame.specs.Framing.{framingOf}
 use Rattle.table.specs.Check.{judgedAs}
 use Rattle.table.specs.declared.Judged.{Judged}
@@ -89,7 +87,7 @@ module _ (file : List ℕ) where
 
         module _ {n : ℕ} (rows : j ≡ judged.Rows n) where
           pub terms-shape : Shape (termPart file .bytes) n 0
-          terms-shape = sized-shape (judged-sized (termPart file .start) (termPart file .bytes) n (sym table ∙ rows))
+          terms-shape = judged-sized (termPart file .start) (termPart file .bytes) n (sym table ∙ rows)
 
           pub opened-rows : {o : Opened} → o ≡ openedAs file (judgedRows file (rowsOf (termPart file .bytes))) → o ≡ openedAs file (opened file)
           opened-rows h = rw (opened-framed, table-accepted (termPart file .bytes) (terms-shape .table) (termPart file .start)) h

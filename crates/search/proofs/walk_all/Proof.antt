@@ -1,13 +1,14 @@
 -- `walk_all` walks through the whole list of an accepted file. The memory is an array of zeros at first, which says nothing. Assumes nothing.
 use native.Mathlib.Omega.{arith}
 use borrow.Author.Needs.{needs}
+use Rattle.cells.specs.laws.Shape.{shape-sized}
 use mathlib.Core.Path.{_≡_, refl, _∙_}
 use lib.ListN.{length}
 use Rattle.semantics.specs.Scenario.{Scenario}
 use Rattle.runs.specs.laws.Blocks.{opened-framed}
 use Rattle.state.specs.laws.Given.{opened-knowledge, given-layout}
-use Rattle.same.specs.laws.Memory.{remembers-start}
-use Rattle.same.specs.laws.Start.{state-first, first-finds}
+use Rattle.search_same.specs.laws.Memory.{remembers-start}
+use Rattle.search_same.specs.laws.Start.{state-first, first-finds}
 use Rattle.search.specs.laws.Events.{total-left}
 use Rattle.search.proofs.walk_all.Statement.{statement}
 use Rattle.search.proofs.walk_all.Tie as tie
@@ -27,7 +28,7 @@ variable-rows-requires : tie.Need-variable-rows-requires
 variable-rows-requires c κs =
     let p = c .before .before .before .before .before .before .before .before .before .pre .0 in
     let shape = given-layout _ _ (p .isOpened) (p .layout) (c .before .before .before .before .before .before .runs-of .ensures) (c .before .before .before .before .before .block-of .ensures) .shape in
-    record { table = shape .table; count = shape .count; size = shape .size; few = shape .few }
+    shape-sized shape
 
 slice-aggregate-walk-3 : tie.Need-slice-aggregate-walk-3
 slice-aggregate-walk-3 c =

@@ -23,8 +23,8 @@ use Rattle.answers.specs.laws.Answers.{opened-refused, answer-found}
 use Rattle.answers.specs.declared.Refusal.{Refusal}
 use Rattle.answers.specs.declared.Checked.the-variants as checking
 use Rattle.answers.specs.declared.Opened.the-variants as opening
-use Rattle.breaks.specs.Walk.{judged, over, bufferAs, Finds}
-use Rattle.breaks.specs.laws.Walk.{walk-cut}
+use Rattle.search_breaks.specs.Walk.{judged, over, bufferAs, Finds}
+use Rattle.search_breaks.specs.laws.Walk.{walk-cut}
 use Rattle.answers.specs.declared.Walked.{Walked}
 use Rattle.answers.specs.declared.Walked.the-variants as walking
 use Rattle.answers.specs.declared.Verdict.{Verdict as CodeVerdict}

@@ -7,8 +7,8 @@ use mathlib.Core.Option.{some}
 use Rattle.semantics.specs.Term.{Term}
 use Rattle.semantics.specs.Inference.{member}
 use Rattle.semantics.specs.Table.{Row}
-use Rattle.rows.specs.Rows.{rowsOf}
-use Rattle.cells.specs.Cells.{Shape, Readings, cellValue}
+use Rattle.rows.specs.Rows.{rowsOf, Shape}
+use Rattle.cells.specs.Cells.{Readings, cellValue}
 use Rattle.classes.specs.Classes.{NamesRight, Grows, Refilled}
 use Rattle.classes.specs.laws.Values.{cell-kept}
 use Rattle.knowledge.specs.Marks.{Covers, Settled}

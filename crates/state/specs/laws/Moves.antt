@@ -32,7 +32,7 @@ use Rattle.cells.specs.Cells.{Within, Readings, cellValue}
 use Rattle.classes.specs.Classes.{NamesRight}
 use Rattle.knowledge.specs.Marks.{Marked, Derivable, Exact}
 use Rattle.runs.specs.Runs.{EventRead}
-use Rattle.start.specs.laws.Names.{agent-atom, agent-term}
+use Rattle.state_start.specs.laws.Names.{agent-atom, agent-term}
 use Rattle.state.specs.declared.State.{State as CodeState}
 use Rattle.state.specs.Readings.{SetsOf, setsOf, withSets, readings}
 use Rattle.state.specs.State.{Placed, Arrays, IsState, Sets}

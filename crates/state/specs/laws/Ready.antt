@@ -14,8 +14,8 @@ use Rattle.semantics.specs.State.{Value, State, Active, paired}
 use Rattle.semantics.specs.Moves.{toSet, setAfter}
 use Rattle.semantics.specs.laws.Reached.{Standing}
 use Rattle.semantics.specs.laws.Moves.{ActiveIn, active-in}
-use Rattle.rows.specs.Rows.{rowsOf}
-use Rattle.cells.specs.Cells.{Shape, Within, Readings, cellValue}
+use Rattle.rows.specs.Rows.{rowsOf, Shape}
+use Rattle.cells.specs.Cells.{Within, Readings, cellValue}
 use Rattle.classes.specs.Classes.{Grows, Refilled}
 use Rattle.knowledge.specs.Marks.{Settled}
 use Rattle.runs.specs.declared.RunEvent.{RunEvent}

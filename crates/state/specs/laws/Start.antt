@@ -25,8 +25,8 @@ use Rattle.semantics.specs.Encoding.{RowBytes, trustedBytes, untrustedBytes, gl
 use Rattle.semantics.specs.laws.List.{mem-map, mem-present, mem-keep, mem-numbersFrom, mem-getElem, getElem-below, getElem-there, getElem-getD}
 use Rattle.semantics.specs.laws.Reached.{Standing}
 use Rattle.semantics.specs.laws.Value.{value-unfolds, value-within}
-use Rattle.rows.specs.Rows.{rowsOf}
-use Rattle.cells.specs.Cells.{cellOf, absent, Shape, Within, Readings, cellValue}
+use Rattle.rows.specs.Rows.{rowsOf, Shape}
+use Rattle.cells.specs.Cells.{cellOf, absent, Within, Readings, cellValue}
 use Rattle.cells.specs.laws.Cells.{row-there, row-decodes}
 use Rattle.classes.specs.Classes.{Named, NamesRight, unnamed, Classes, Grows, Refilled}
 use Rattle.classes.specs.laws.Classes.{no-values, classes-same}
@@ -38,7 +38,7 @@ use Rattle.runs.specs.Runs.{RunsAt, RunAt}
 use Rattle.state.specs.Readings.{SetsOf, setsIn, setsOf, readings}
 use Rattle.state.specs.State.{Given, Arrays, IsState}
 use Rattle.state.specs.laws.Readings.{reading-run}
-use Rattle.start.specs.Start.{firstReading, AreAgents, Entered, StartMarks}
+use Rattle.state_start.specs.Start.{firstReading, AreAgents, Entered, StartMarks}
 use Rattle.state.specs.Start.{upTo, Agents, BegunTo}
 
 -- an atom's row is a row of the table
@@ -338,10 +338,6 @@ pub agents-inside : (file : List ℕ) (sc : Scenario) (r : Runs) → RunsAt file
 agents-inside file sc r runs u z l =
     let w = getElem-there (sc .runs) (u - 1) (omega (arith, runs .count)) in
     omega (arith, runs .each (u - 1) (w .0) (w .1) .agentsInside, runs .roles)
-
--- the shape of a table does not turn on the runs
-pub shape-alone : {t : List ℕ} {n runs : ℕ} → Shape t n runs → Shape t n 0
-shape-alone shape = record { table = shape .table; count = shape .count; size = shape .size; few = shape .few; fewRuns = omega arith }
 
 -- the loop over the runs of a given scenario
 module _ {file t : List ℕ} {n : ℕ} {r : Runs} {sc : Scenario} (given : Given file t n r sc) where

@@ -5,12 +5,12 @@ use native.Mathlib.Omega.{arith}
 use mathlib.Core.Path.{sym, _∙_}
 use lib.ListN.{length}
 use borrow.Author.Needs.{needs}
-use Rattle.table.specs.laws.Passed.{Passed, passed-none, passed-all, passed-short, passed-refused, passed-more}
+use Rattle.table.specs.laws.Passed.{PassedRows, passed-none, passed-all, passed-short, passed-refused, passed-more}
 use Rattle.table.proofs.check.Statement.{statement}
 use Rattle.table.proofs.check.Tie as tie
 
 abbrev Inv-loop : tie.InvT-loop
-Inv-loop t at i₀ variables₀ i variables = Passed t i variables
+Inv-loop t at i₀ variables₀ i variables = PassedRows t i variables
 
 abbrev μ-loop : tie.MeasureT-loop
 μ-loop t at i₀ variables₀ i variables = length t - 3 * i

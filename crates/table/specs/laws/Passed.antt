@@ -22,7 +22,7 @@ use Rattle.table.specs.laws.Below.{rowsBelow, below-length}
 use Rattle.table.specs.laws.Refusal.{number-none, number-some, variables-with}
 
 -- i rows are passed: they are a table with so many variables
-pub record Passed (t : List ℕ) (i variables : ℕ) : Type 0 where
+pub record PassedRows (t : List ℕ) (i variables : ℕ) : Type 0 where
   pub few : i ≤ 96
   pub within : 3 * i ≤ length t
   pub table : IsTable (take (3 * i) t)
@@ -43,10 +43,10 @@ take-three : (t : List ℕ) (n : ℕ) → n + 3 ≤ length t → take (n + 3) t 
 take-three t n h = take-add n 3 t ∙ ap (λ (x : List ℕ). take n t ++ take 3 x) (drop-three t n h)
 
 -- no row is passed at first
-pub passed-none : (t : List ℕ) → Passed t 0 0
+pub passed-none : (t : List ℕ) → PassedRows t 0 0
 passed-none t = record { few = omega arith; within = omega arith; table = table-empty .0; counted = rw (table-empty .1); fewVariables = omega arith }
 
-module _ (t : List ℕ) (i v : ℕ) (p : Passed t i v) where
+module _ (t : List ℕ) (i v : ℕ) (p : PassedRows t i v) where
   -- the rest is read on from row i
   passed-rest : (at : ℕ) → rowsFrom at [] t ≡ rowsFrom (at + 3 * i) (rowsBelow t i) (drop (3 * i) t)
   passed-rest at =
@@ -75,7 +75,7 @@ module _ (t : List ℕ) (i v : ℕ) (p : Passed t i v) where
 
     -- a row that is not refused is passed
     pub passed-more : (n : ℕ) → 0 ≡ numberOr (rowRefusal (rowsBelow t i) (decodedAt t i))
-        → (getD t (3 * i) 0 ≡ 6 → n ≡ v + 1) × ((getD t (3 * i) 0 ≡ 6 → ⊥) → n ≡ v) → Passed t (i + 1) n
+        → (getD t (3 * i) 0 ≡ 6 → n ≡ v + 1) × ((getD t (3 * i) 0 ≡ 6 → ⊥) → n ≡ v) → PassedRows t (i + 1) n
     unfolding decodedAt
     passed-more n e w = record {
       few = omega (arith, good .few, below-length t (i + 1) (omega arith) (table .0));

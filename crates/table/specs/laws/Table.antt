@@ -63,6 +63,7 @@ judged-sized at bytes n j =
       count = w .1;
       size = omega (arith, table-length bytes (w .0), w .1);
       few = omega (arith, table-good bytes (w .0) .few, w .1);
+      fewRuns = omega arith;
     }
 
 -- a table is accepted at every place

@@ -7,7 +7,7 @@ use mathlib.Core.List.{List, [], _∷_, _++_, append-assoc, append-nil}
 use lib.ListN.{length, getD, take, set, length-append, length-take}
 use lib.Seq.{take-suc, take-suc-set, take-all}
 use Rattle.text.specs.declared.Text.{Text}
-use Rattle.text.specs.Text.{Holds, Adds}
+use Rattle.text.specs.Text.{HoldsText, Adds}
 
 pub adds-none : (t : Text) → Adds t [] t
 adds-none t = record { size = omega arith; same = sym (append-nil (take (t .len) (t .bytes))) }
@@ -26,17 +26,17 @@ pub adds-as : {t r : Text} {xs ys : List ℕ} → xs ≡ ys → Adds t xs r → 
 adds-as {t} {r} e a = record { size = a .size ∙ ap (λ (l : List ℕ). t .len + length l) e; same = a .same ∙ ap (λ (l : List ℕ). take (t .len) (t .bytes) ++ l) e }
 
 -- to an empty text
-pub adds-all : {t r : Text} {xs : List ℕ} → t .len ≡ 0 → Adds t xs r → Holds r xs
+pub adds-all : {t r : Text} {xs : List ℕ} → t .len ≡ 0 → Adds t xs r → HoldsText r xs
 adds-all {t} {r} {xs} e a = record { size = omega (arith, a .size); same = a .same ∙ ap (λ (m : ℕ). take m (t .bytes) ++ xs) e }
 
-pub holds-as : {t : Text} {xs ys : List ℕ} → xs ≡ ys → Holds t xs → Holds t ys
+pub holds-as : {t : Text} {xs ys : List ℕ} → xs ≡ ys → HoldsText t xs → HoldsText t ys
 holds-as e h = record { size = h .size ∙ ap length e; same = h .same ∙ e }
 
 -- what it holds are bytes of its own
-pub holds-fits : {t : Text} {bytes : List ℕ} → Holds t bytes → t .len ≤ length (t .bytes)
+pub holds-fits : {t : Text} {bytes : List ℕ} → HoldsText t bytes → t .len ≤ length (t .bytes)
 holds-fits {t} h = omega (arith, h .size, ap length (h .same), length-take (t .len) (t .bytes))
 
-pub holds-count : {t : Text} {bytes : List ℕ} → Holds t bytes → t .len ≡ length (take (t .len) (t .bytes))
+pub holds-count : {t : Text} {bytes : List ℕ} → HoldsText t bytes → t .len ≡ length (take (t .len) (t .bytes))
 holds-count h = h .size ∙ sym (ap length (h .same))
 
 -- a word byte by byte

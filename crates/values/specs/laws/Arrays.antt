@@ -9,8 +9,7 @@ use Rattle.semantics.specs.Term.{Atom}
 use Rattle.semantics.specs.Scenario.{Scenario}
 use Rattle.semantics.specs.State.{Value, State, Active, paired}
 use Rattle.semantics.specs.laws.Moves.{ActiveIn, active-in}
-use Rattle.rows.specs.Rows.{rowsOf}
-use Rattle.cells.specs.Cells.{Shape}
+use Rattle.rows.specs.Rows.{rowsOf, Shape}
 use Rattle.classes.specs.Classes.{Grows, Refilled}
 use Rattle.knowledge.specs.Marks.{Settled}
 use Rattle.runs.specs.declared.RunEvent.{RunEvent}

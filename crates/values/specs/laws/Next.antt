@@ -15,9 +15,9 @@ use Rattle.semantics.specs.Runs.{atomOf, atomAt}
 use Rattle.semantics.specs.Scenario.{Scenario}
 use Rattle.semantics.specs.State.{State, Active, newVariables}
 use Rattle.semantics.specs.Moves.{toSet}
-use Rattle.rows.specs.Rows.{rowsOf}
+use Rattle.rows.specs.Rows.{rowsOf, Shape}
 use Rattle.rows.specs.laws.Decode.{variable-six}
-use Rattle.cells.specs.Cells.{cellOf, absent, Shape}
+use Rattle.cells.specs.Cells.{cellOf, absent}
 use Rattle.cells.specs.laws.Cells.{row-there, row-decodes}
 use Rattle.runs.specs.declared.RunEvent.{RunEvent}
 use Rattle.state.specs.declared.State.{State as CodeState}

@@ -1,7 +1,6 @@
 -- `variables::mark_parts` meets its contract: a marked row that is no atom marks its parts, and any other row marks nothing. Assumes nothing.
 use borrow.Author.Tests.{not-true, not-false}
 use Rattle.cells.specs.laws.Cells.{left-small, second-small}
-use Rattle.cells.specs.laws.Shape.{sized-shape}
 use Rattle.variables.specs.laws.Beneath.{closed-unmarked, closed-atom, closed-parts}
 use native.Mathlib.Omega.{arith}
 use borrow.Author.Needs.{needs}
@@ -15,10 +14,10 @@ returns-2 : tie.Need-returns-2
 returns-2 c = let s = c .before .before .before .before .before in closed-atom (s .args .t .now) (s .args .n) (s .pre .0) (s .args .r) (s .pre .1) (s .args .below .now) (rw (c .before .kind-of .ensures .0) at (c .if2 .taken))
 
 element-write-below : tie.Need-element-write-below
-element-write-below c = let s = c .before .before .before .before .before .before in left-small (s .args .t .now) (s .args .n) 0 (sized-shape (s .pre .0)) (s .args .r) (s .pre .1) (omega arith) (c .left-of .ensures .0)
+element-write-below c = let s = c .before .before .before .before .before .before in left-small (s .args .t .now) (s .args .n) 0 (s .pre .0) (s .args .r) (s .pre .1) (omega arith) (c .left-of .ensures .0)
 
 element-write-below-2 : tie.Need-element-write-below-2
-element-write-below-2 c = let s = c .before .before .before .before .before .before .before in second-small (s .args .t .now) (s .args .n) 0 (sized-shape (s .pre .0)) (s .args .r) (s .pre .1) (omega arith) (c .second-of .ensures .0)
+element-write-below-2 c = let s = c .before .before .before .before .before .before .before in second-small (s .args .t .now) (s .args .n) 0 (s .pre .0) (s .args .r) (s .pre .1) (omega arith) (c .second-of .ensures .0)
 
 returns-3 : tie.Need-returns-3
 returns-3 c =

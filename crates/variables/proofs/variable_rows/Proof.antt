@@ -3,14 +3,14 @@ use Prim.Native.Nat.{_-_, _≤_}
 use mathlib.Core.Bool.{false≢true}
 use mathlib.Core.Logic.{⊎-elim}
 use mathlib.Core.Path.{sym, _∙_}
-use Rattle.variables.specs.laws.Rows.{Gathered, gathered-none, gathered-other, gathered-variable, gathered-all, place-left}
+use Rattle.variables.specs.laws.Rows.{GatheredRows, gathered-none, gathered-other, gathered-variable, gathered-all, place-left}
 use native.Mathlib.Omega.{arith}
 use borrow.Author.Needs.{needs}
 use Rattle.variables.proofs.variable_rows.Statement.{statement}
 use Rattle.variables.proofs.variable_rows.Tie as tie
 
 abbrev Inv-loop : tie.InvT-loop
-Inv-loop t n set found₀ count₀ x₀ found count x = (x ≤ n) × Gathered t n set found count x
+Inv-loop t n set found₀ count₀ x₀ found count x = (x ≤ n) × GatheredRows t n set found count x
 
 abbrev μ-loop : tie.MeasureT-loop
 μ-loop t n set found₀ count₀ x₀ found count x = n - x

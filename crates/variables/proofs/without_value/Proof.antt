@@ -2,7 +2,7 @@
 use Prim.Native.Nat.{_-_, _≤_}
 use mathlib.Core.Logic.{⊎-elim}
 use mathlib.Core.Path.{_∙_, sym}
-use Rattle.variables.specs.laws.Rows.{Cleared, cleared-none, cleared-kept, cleared-gone}
+use Rattle.variables.specs.laws.Rows.{ClearedRows, cleared-none, cleared-kept, cleared-gone}
 use Rattle.cells.specs.laws.Cells.{class-read}
 use native.Mathlib.Omega.{arith}
 use borrow.Author.Needs.{needs}
@@ -10,7 +10,7 @@ use Rattle.variables.proofs.without_value.Statement.{statement}
 use Rattle.variables.proofs.without_value.Tie as tie
 
 abbrev Inv-loop : tie.InvT-loop
-Inv-loop values u less₀ x₀ less x = (x ≤ 96) × Cleared less₀ values u x less
+Inv-loop values u less₀ x₀ less x = (x ≤ 96) × ClearedRows less₀ values u x less
 
 abbrev μ-loop : tie.MeasureT-loop
 μ-loop values u less₀ x₀ less x = 96 - x

@@ -22,7 +22,6 @@ use Rattle.rows.specs.Rows.{rowsOf, Sized}
 use Rattle.rows.specs.laws.Table.{table-good}
 use Rattle.cells.specs.Cells.{secondOf}
 use Rattle.cells.specs.laws.Cells.{parts-referred, row-there, row-decodes, left-lower, second-lower}
-use Rattle.cells.specs.laws.Shape.{sized-shape}
 use Rattle.variables.specs.Variables.{Beneath, In, ClosedFrom}
 
 -- a test that is true passes
@@ -138,8 +137,8 @@ module _ (bytes : List ℕ) (n : ℕ) (sized : Sized bytes n) (r : ℕ) (low : r
   -- nor has an atom
   pub closed-atom : (below : List Bool) → getD bytes (3 * r) 0 < 8 → (x : ℕ) → ClosedFrom (rowsOf bytes) x (r + 1) below → ClosedFrom (rowsOf bytes) x r below
   closed-atom below h x s = closed-more s λ row f m q k.
-      let w = row-there bytes n 0 (sized-shape sized) r low in
-      absurd (no-parts (row-decodes bytes n 0 (sized-shape sized) r low) h q (rw (← Option·some-injective (w .0) row (sym (w .1) ∙ f)) at k))
+      let w = row-there bytes n 0 sized r low in
+      absurd (no-parts (row-decodes bytes n 0 sized r low) h q (rw (← Option·some-injective (w .0) row (sym (w .1) ∙ f)) at k))
 
   -- a marked row marks its parts
   pub closed-parts : (below : List Bool) → In below r → 8 ≤ getD bytes (3 * r) 0 → {a b : ℕ} → a ≡ getD bytes (3 * r + 1) 0 → b ≡ secondOf bytes r
@@ -150,22 +149,22 @@ module _ (bytes : List ℕ) (n : ℕ) (sized : Sized bytes n) (r : ℕ) (low : r
       (two-parts decodes h q (rw (← Option·some-injective own row (sym at-r ∙ f)) at k))
     where
       own : Row
-      own = row-there bytes n 0 (sized-shape sized) r low .0
+      own = row-there bytes n 0 sized r low .0
 
       at-r : getElem? (rowsOf bytes) r ≡ some own
-      at-r = row-there bytes n 0 (sized-shape sized) r low .1
+      at-r = row-there bytes n 0 sized r low .1
 
       decodes : RowBytes (getD bytes (3 * r) 0) (getD bytes (3 * r + 1) 0) (getD bytes (3 * r + 2) 0) own
-      decodes = row-decodes bytes n 0 (sized-shape sized) r low
+      decodes = row-decodes bytes n 0 sized r low
 
       refers : List·Memᴰ (getD bytes (3 * r + 1) 0) (refersTo own) × List·Memᴰ (secondOf bytes r) (refersTo own)
       refers = parts-referred decodes h
 
       left-low : a < r
-      left-low = omega (arith, left-lower bytes n 0 (sized-shape sized) r low h)
+      left-low = omega (arith, left-lower bytes n 0 sized r low h)
 
       second-low : b < r
-      second-low = omega (arith, second-lower bytes n 0 (sized-shape sized) r low h)
+      second-low = omega (arith, second-lower bytes n 0 sized r low h)
 
       few : n ≤ 96
       few = sized .few

@@ -69,7 +69,7 @@ written-small rows count x l low before i k = go (ℕ-discrete i count)
     go (no d) = rw (getD-set-other rows count i x 0 d) (before i k)
 
 -- the variables among the first x rows of a table that are in a set have the first places of an array
-pub record Gathered (t : List ℕ) (n : ℕ) (wanted : List Bool) (rows : List ℕ) (count x : ℕ) : Type 0 where
+pub record GatheredRows (t : List ℕ) (n : ℕ) (wanted : List Bool) (rows : List ℕ) (count x : ℕ) : Type 0 where
   pub size : length rows ≡ 8
   pub few : count ≤ variablesBelow t x
   pub small : (i : ℕ) → i < 8 → getD rows i 0 < 96
@@ -79,7 +79,7 @@ pub record Gathered (t : List ℕ) (n : ℕ) (wanted : List Bool) (rows : List �
   pub all : (y : ℕ) → y < x → getD t (3 * y) 0 ≡ 6 → In wanted y → (i : ℕ) × (i < count) × (getD rows i 0 ≡ y)
 
 -- no row
-pub gathered-none : (t : List ℕ) (n : ℕ) (wanted : List Bool) → Gathered t n wanted (replicate 8 0) 0 0
+pub gathered-none : (t : List ℕ) (n : ℕ) (wanted : List Bool) → GatheredRows t n wanted (replicate 8 0) 0 0
 gathered-none t n wanted = record {
   size = refl;
   few = omega arith;
@@ -100,9 +100,9 @@ module _ (t : List ℕ) (n : ℕ) (sized : Sized t n) where
       let next : variablesBelow t (suc x) ≡ variablesBelow t (x + 1) = ap (variablesBelow t) (sym (add-one x)) in
       (omega (arith, more, next), omega (arith, more, keep-first variableRow (rowsOf t) (suc x), table-good t (sized .table) .fewVariables))
 
-  module _ (wanted : List Bool) {rows : List ℕ} {count x : ℕ} (g : Gathered t n wanted rows count x) where
+  module _ (wanted : List Bool) {rows : List ℕ} {count x : ℕ} (g : GatheredRows t n wanted rows count x) where
     -- row x is no variable, or not in the set
-    pub gathered-other : (getD t (3 * x) 0 ≡ 6 → In wanted x → ⊥) → Gathered t n wanted rows count (x + 1)
+    pub gathered-other : (getD t (3 * x) 0 ≡ 6 → In wanted x → ⊥) → GatheredRows t n wanted rows count (x + 1)
     gathered-other other = record {
       size = g .size;
       few =
@@ -116,7 +116,7 @@ module _ (t : List ℕ) (n : ℕ) (sized : Sized t n) where
     }
 
     -- row x is a variable of the set
-    pub gathered-variable : x < n → getD t (3 * x) 0 ≡ 6 → In wanted x → Gathered t n wanted (set rows count x) (count + 1) (x + 1)
+    pub gathered-variable : x < n → getD t (3 * x) 0 ≡ 6 → In wanted x → GatheredRows t n wanted (set rows count x) (count + 1) (x + 1)
     gathered-variable l e inside =
         let place = place-left (g .few) l e in
         let free : count < length rows = omega (arith, place .1, g .size) in record {
@@ -143,15 +143,15 @@ module _ (t : List ℕ) (n : ℕ) (sized : Sized t n) where
     }
 
 -- the rows below a number have lost those with a value, and the others are as they were
-pub record Cleared (before : List Bool) (values : List ℕ) (u x : ℕ) (less : List Bool) : Type 0 where
+pub record ClearedRows (before : List Bool) (values : List ℕ) (u x : ℕ) (less : List Bool) : Type 0 where
   pub size : length less ≡ 96
   pub done : (y : ℕ) → y < x → getD less y false ≡ (getD before y false && eqb (getD values (cellOf y u) absent) absent)
   pub rest : (y : ℕ) → x ≤ y → getD less y false ≡ getD before y false
 
-pub cleared-none : (before : List Bool) (values : List ℕ) (u : ℕ) → length before ≡ 96 → Cleared before values u 0 before
+pub cleared-none : (before : List Bool) (values : List ℕ) (u : ℕ) → length before ≡ 96 → ClearedRows before values u 0 before
 cleared-none before values u sized = record { size = sized; done = λ y l. absurd (omega arith); rest = λ y l. refl }
 
-module _ {before : List Bool} {values : List ℕ} {u x : ℕ} {less : List Bool} (c : Cleared before values u x less) where
+module _ {before : List Bool} {values : List ℕ} {u x : ℕ} {less : List Bool} (c : ClearedRows before values u x less) where
   and-true : (b : Bool) → b ≡ (b && true)
   and-true true = refl
   and-true false = refl
@@ -161,7 +161,7 @@ module _ {before : List Bool} {values : List ℕ} {u x : ℕ} {less : List Bool}
   and-false false = refl
 
   -- a row without a value stays
-  pub cleared-kept : getD values (cellOf x u) absent ≡ absent → Cleared before values u (x + 1) less
+  pub cleared-kept : getD values (cellOf x u) absent ≡ absent → ClearedRows before values u (x + 1) less
   cleared-kept e = record {
     size = c .size;
     done = below-more _ x (c .done) (rw (eq-eqb (getD values (cellOf x u) absent) absent e) (c .rest x (omega arith) ∙ and-true (getD before x false)));
@@ -169,7 +169,7 @@ module _ {before : List Bool} {values : List ℕ} {u x : ℕ} {less : List Bool}
   }
 
   -- a row with one goes
-  pub cleared-gone : x < 96 → (getD values (cellOf x u) absent ≡ absent → ⊥) → Cleared before values u (x + 1) (set less x false)
+  pub cleared-gone : x < 96 → (getD values (cellOf x u) absent ≡ absent → ⊥) → ClearedRows before values u (x + 1) (set less x false)
   cleared-gone l d = record {
     size = length-set less x false ∙ c .size;
     done =

@@ -23,9 +23,9 @@ use Rattle.semantics.specs.Encoding.{RowBytes, trustedBytes, untrustedBytes, gl
 use Rattle.semantics.specs.laws.Test.{both, both-left, passes-true, fails-false}
 use Rattle.semantics.specs.laws.List.{mem-joined, mem-map, mem-numbersFrom}
 use Rattle.semantics.specs.laws.Moves.{suits-exact, mem-candidates}
-use Rattle.rows.specs.Rows.{rowsOf}
+use Rattle.rows.specs.Rows.{rowsOf, Shape}
 use Rattle.rows.specs.laws.Decode.{six-atom}
-use Rattle.cells.specs.Cells.{Shape, Canonical}
+use Rattle.cells.specs.Cells.{Canonical}
 use Rattle.cells.specs.laws.Cells.{row-there, row-decodes}
 use Rattle.variables.specs.Variables.{isFresh, firstRun, runCount, Higher, valuesFrom, NamesAtom, NotBefore, NextOf, hasNext, hasNone, TellsValue, takes, takesNot}
 use Rattle.variables.specs.declared.NextValue.the-variants.{Value as isValue, Nothing}

@@ -19,7 +19,6 @@ use Rattle.rows.specs.Rows.{rowsOf, Sized}
 use Rattle.rows.specs.laws.Decode.{variable-six, six-atom}
 use Rattle.cells.specs.Cells.{cellOf, absent}
 use Rattle.cells.specs.laws.Cells.{row-there, row-decodes}
-use Rattle.cells.specs.laws.Shape.{sized-shape}
 use Rattle.variables.specs.Variables.{Beneath, unsetFrom, TellsUnset, NextUnset, isNext, noNext}
 
 module _ {A B : Type 0} (f : B → Option A) (b : B → Bool) (p : A → Bool) (n : B) (ns : List B) where
@@ -116,8 +115,8 @@ module _ (bytes : List ℕ) (n : ℕ) (sized : Sized bytes n) (names : List ℕ)
     -- a row that is no variable
     pub passed-other : (getD bytes (3 * y) 0 ≡ 6 → ⊥) → NoneUnset (rowsOf bytes) names u below from (y + 1)
     passed-other d = passed-more λ pattern b sets tells. unset-other (rowsOf bytes) sets pattern within λ a e.
-        let w = row-there bytes n 0 (sized-shape sized) y low in
-        unset-false sets a (λ t _. d (variable-six (row-decodes bytes n 0 (sized-shape sized) y low) a (rw (w .1) at e) t))
+        let w = row-there bytes n 0 sized y low in
+        unset-false sets a (λ t _. d (variable-six (row-decodes bytes n 0 sized y low) a (rw (w .1) at e) t))
 
     -- a variable that is set
     pub passed-set : {name : ℕ} → name ≡ getD names (cellOf y u) absent → (name ≡ absent → ⊥) → NoneUnset (rowsOf bytes) names u below from (y + 1)
@@ -128,8 +127,8 @@ module _ (bytes : List ℕ) (n : ℕ) (sized : Sized bytes n) (names : List ℕ)
     pub next-unset : getD below y false ≡ true → getD bytes (3 * y) 0 ≡ 6 → {name : ℕ} → name ≡ getD names (cellOf y u) absent → name ≡ absent → from ≤ y
         → (pattern : ℕ) → Beneath (rowsOf bytes) pattern below → NextUnset (rowsOf bytes) names u pattern from y
     next-unset e k q f l pattern b =
-        let w = row-there bytes n 0 (sized-shape sized) y low in
-        let v = six-atom (row-decodes bytes n 0 (sized-shape sized) y low) k in
+        let w = row-there bytes n 0 sized y low in
+        let v = six-atom (row-decodes bytes n 0 sized y low) k in
         let atom : atomAt (rowsOf bytes) y ≡ some (v .0) = rw (w .1) (v .1) in
         isNext (v .0) within l atom (v .2) (sym q ∙ f) λ sets tells.
         passed pattern b sets tells

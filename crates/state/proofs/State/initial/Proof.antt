@@ -6,7 +6,8 @@ use mathlib.Core.Path.{_≡_, refl, sym, ap}
 use lib.ListN.{length, length-set}
 use Rattle.semantics.specs.Scenario.{Scenario}
 use Rattle.state.specs.State.{Given}
-use Rattle.state.specs.laws.Start.{Begun, given-none, given-agents, given-more, given-listed, given-start, shape-alone}
+use Rattle.cells.specs.laws.Shape.{shape-sized}
+use Rattle.state.specs.laws.Start.{Begun, given-none, given-agents, given-more, given-listed, given-start}
 use Rattle.state.proofs.State.initial.Statement.{statement}
 use Rattle.state.proofs.State.initial.Tie as tie
 
@@ -29,7 +30,7 @@ entered-requires : tie.Need-entered-requires Inv-loop μ-loop
 entered-requires c κs =
     let s = c .before .before .before .before .before .before in
     let given = s .pre .1 .0 in
-    (shape-alone (given .shape), (omega (arith, given .runs .few, c .before .loop-test .taken), given-agents given (c .agents-of .ensures (s .pre .0) (given .runs) (given .good))))
+    (shape-sized (given .shape), (omega (arith, given .runs .few, c .before .loop-test .taken), given-agents given (c .agents-of .ensures (s .pre .0) (given .runs) (given .good))))
 
 refill-requires : tie.Need-refill-requires Inv-loop μ-loop
 refill-requires c κs =
@@ -53,7 +54,7 @@ start-marks-requires : tie.Need-start-marks-requires Inv-loop μ-loop
 start-marks-requires c κs =
     let s = c .before .before .before .before .before in
     let given = s .pre .1 .0 in
-    (shape-alone (given .shape), given-listed given _ (s .pre .1 .1))
+    (shape-sized (given .shape), given-listed given _ (s .pre .1 .1))
 
 settle-requires : tie.Need-settle-requires Inv-loop μ-loop
 settle-requires c κs = let s = c .before .before .before .before .before .before .before in (s .pre .1 .0 .shape, c .before .before .before .loop .inv .1)
