@@ -15,6 +15,13 @@ impl Cells {
     pub const ABSENT: u16 = 480;
 }
 
+// A run that is looked at, in a table with so many rows and a scenario with so many runs.
+pub struct Scope {
+    pub rows: usize,
+    pub runs: usize,
+    pub run: usize,
+}
+
 // The cell of a row in a run.
 pub fn cell(r: usize, u: usize) -> usize
     requires { ⌜ (r < 96) × (u ≤ 4) ⌝ }

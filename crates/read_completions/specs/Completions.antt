@@ -73,7 +73,7 @@ module _ (bytes classes : List ℕ) (marks : List Bool) (pattern : Pattern) wher
       (k : Completion bytes classes marks pattern) (i : ℕ) → i < pattern .vars .count → GetsDerivable k (getD (pattern .vars .rows) i 0) → (c : ℕ) → GetsClass k i c → InRow marked i c
 
   -- what the search for completions begins with
-  pub record Ready (marked : List Bool) : Type 0 where
+  pub record MarkedScene (marked : List Bool) : Type 0 where
     pub scene : Scene bytes classes marks pattern
     pub known : MarkedDomains marked
 
@@ -98,12 +98,12 @@ module _ (bytes classes : List ℕ) (marks : List Bool) (pattern : Pattern) wher
       pub each : (y : ℕ) → y < 96 → MissesNone i y (InRow sets y)
 
     -- what the set of row r is made of: those of its parts
-    abbrev pub RowsReady : List Bool → ℕ → ℕ → List Bool → Type 0
-    RowsReady marked i r sets = Ready marked × (RowsMissNone i sets × ((i < pattern .vars .count) × (r < pattern .scope .rows)))
+    abbrev pub SetsBelow : List Bool → ℕ → ℕ → List Bool → Type 0
+    SetsBelow marked i r sets = MarkedScene marked × (RowsMissNone i sets × ((i < pattern .vars .count) × (r < pattern .scope .rows)))
 
     -- domains that miss no completion with which the pattern is derivable, where those before miss none
-    abbrev pub Kept : List Bool → Type 0
-    Kept less = (k : Completion bytes classes marks pattern) → InDomains k dom → GetsDerivable k (pattern .row) → InDomains k less
+    abbrev pub CompletionsKept : List Bool → Type 0
+    CompletionsKept less = (k : Completion bytes classes marks pattern) → InDomains k dom → GetsDerivable k (pattern .row) → InDomains k less
 
     -- a test that is true where there is such a completion
     abbrev pub Completable : Bool → Type 0
@@ -112,7 +112,7 @@ module _ (bytes classes : List ℕ) (marks : List Bool) (pattern : Pattern) wher
 -- the classes that variable i gets where row r, a variable too, is derivable, whatever the table, its classes and marks
 abbrev pub VariableSet : Pattern → List Bool → List Bool → ℕ → ℕ → List Bool → Type 0
 VariableSet pattern dom marked i r set =
-    (bytes classes : List ℕ) (marks : List Bool) → Ready bytes classes marks pattern marked → MissesNone bytes classes marks pattern dom i r (In set)
+    (bytes classes : List ℕ) (marks : List Bool) → MarkedScene bytes classes marks pattern marked → MissesNone bytes classes marks pattern dom i r (In set)
 
 -- each domain has a class
 abbrev pub NoneEmpty : VariableRows → List Bool → Type 0

@@ -8,13 +8,13 @@ ghost use Rattle.rows.specs.Rows.{Shape};
 ghost use Rattle.cells.specs.Cells.{cellCount};
 ghost use Rattle.variables.specs.Variables.{In, AreVariables};
 ghost use Rattle.read_possible.specs.Tests.{RowInRun};
-ghost use Rattle.read_completions.specs.Completions.{Scene, Ready, NeedsAt, NeededAdded, Matched, MissesNone, RowsReady, VariableSet, NoneEmpty, Kept, Completable, Completes};
+ghost use Rattle.read_completions.specs.Completions.{Scene, MarkedScene, NeedsAt, NeededAdded, Matched, MissesNone, SetsBelow, VariableSet, NoneEmpty, CompletionsKept, Completable, Completes};
 use cells::Cells;
+use cells::Scope;
 use cells::cell;
 use read_domains::Domains;
 use read_domains::Sets;
 use read_fits::Needs;
-use read_fits::Scope;
 use rows::Kind;
 use variables::VariableRows;
 
@@ -160,7 +160,7 @@ fn set_at(
     i: usize,
     r: usize,
 ) -> [bool; Cells::COUNT]
-    requires { ⌜ RowsReady (now t) (now classes) (now marks) pattern (now dom) (now marked) i r (now sets) ⌝ }
+    requires { ⌜ SetsBelow (now t) (now classes) (now marks) pattern (now dom) (now marked) i r (now sets) ⌝ }
     ensures { λ set. ⌜ MissesNone (now (t .entry)) (now (classes .entry)) (now (marks .entry)) pattern (now (dom .entry)) i r (In set) ⌝ }
 {
     if knowledge::class_at(classes, r, pattern.scope.run) < Cells::ABSENT {
@@ -197,7 +197,7 @@ fn set_of(
     below: &[bool; 96],
     i: usize,
 ) -> [bool; Cells::COUNT]
-    requires { ⌜ Ready (now t) (now classes) (now marks) pattern (now marked) × (i < pattern .vars .count) ⌝ }
+    requires { ⌜ MarkedScene (now t) (now classes) (now marks) pattern (now marked) × (i < pattern .vars .count) ⌝ }
     ensures { λ set. ⌜ MissesNone (now (t .entry)) (now (classes .entry)) (now (marks .entry)) pattern (now (dom .entry)) i (pattern .row) (In set) ⌝ }
 {
     let x = pattern.row;
@@ -233,8 +233,8 @@ fn narrowed(
     marked: &[bool; Domains::CELLS],
     below: &[bool; 96],
 ) -> [bool; Domains::CELLS]
-    requires { ⌜ Ready (now t) (now classes) (now marks) pattern (now marked) ⌝ }
-    ensures { λ less. ⌜ Kept (now (t .entry)) (now (classes .entry)) (now (marks .entry)) pattern dom less ⌝ }
+    requires { ⌜ MarkedScene (now t) (now classes) (now marks) pattern (now marked) ⌝ }
+    ensures { λ less. ⌜ CompletionsKept (now (t .entry)) (now (classes .entry)) (now (marks .entry)) pattern dom less ⌝ }
 {
     let vars = pattern.vars;
     let mut less = dom;
@@ -273,8 +273,8 @@ fn settled(
     marked: &[bool; Domains::CELLS],
     below: &[bool; 96],
 ) -> [bool; Domains::CELLS]
-    requires { ⌜ Ready (now t) (now classes) (now marks) pattern (now marked) ⌝ }
-    ensures { λ less. ⌜ Kept (now (t .entry)) (now (classes .entry)) (now (marks .entry)) pattern dom less ⌝ }
+    requires { ⌜ MarkedScene (now t) (now classes) (now marks) pattern (now marked) ⌝ }
+    ensures { λ less. ⌜ CompletionsKept (now (t .entry)) (now (classes .entry)) (now (marks .entry)) pattern dom less ⌝ }
 {
     let vars = pattern.vars;
     let mut less = dom;
@@ -397,7 +397,7 @@ fn completable(
     below: &[bool; 96],
     depth: usize,
 ) -> bool
-    requires { ⌜ Ready (now t) (now classes) (now marks) pattern (now marked) ⌝ }
+    requires { ⌜ MarkedScene (now t) (now classes) (now marks) pattern (now marked) ⌝ }
     ensures { λ b. ⌜ Completable (now (t .entry)) (now (classes .entry)) (now (marks .entry)) pattern dom b ⌝ }
 {
     let vars = pattern.vars;
@@ -415,9 +415,7 @@ fn completable(
     let mut c = 0;
     while c < Cells::COUNT {
         if less[i * Cells::COUNT + c] {
-            let mut one = [false; Cells::COUNT];
-            one[c] = true;
-            let only = read_domains::narrow(less, i, one);
+            let only = read_domains::narrow_to(less, i, c);
             if completable(only, t, classes, marks, pattern, marked, below, depth - 1) {
                 return true;
             }

@@ -13,7 +13,7 @@ use Rattle.rows.specs.Rows.{rowsOf, Shape}
 use Rattle.cells.specs.Cells.{cellOf, cellCount, absent}
 use Rattle.knowledge.specs.Marks.{Marked}
 use Rattle.knowledge.specs.Steps.{classAt, kindAt, Inside}
-use Rattle.read_fits.specs.declared.Scope.{Scope}
+use Rattle.cells.specs.declared.Scope.{Scope}
 use Rattle.variables.specs.declared.VariableRows.{VariableRows}
 use Rattle.variables.specs.Variables.{In}
 
@@ -29,8 +29,8 @@ abbrev pub InRow : List Bool → ℕ → ℕ → Type 0
 InRow dom i c = getD dom (i * cellCount + c) false ≡ true
 
 -- the table, classes and marks of a scope
-abbrev pub Arrays : List ℕ → List ℕ → List Bool → Scope → Type 0
-Arrays bytes classes marks scope = Shape bytes (scope .rows) (scope .runs) × ((length classes ≡ cellCount) × (length marks ≡ cellCount))
+abbrev pub Scoped : List ℕ → List ℕ → List Bool → Scope → Type 0
+Scoped bytes classes marks scope = Shape bytes (scope .rows) (scope .runs) × ((length classes ≡ cellCount) × (length marks ≡ cellCount))
 
 -- row y with run w is among the values that the variable of row q may take
 abbrev pub Candidate : List ℕ → ℕ → ℕ → ℕ → ℕ → Type 0
@@ -49,6 +49,10 @@ pub record ListedAt (bytes : List ℕ) (n runs : ℕ) (classes : List ℕ) (mark
 -- what is in a domain, and in the set if it is variable i's, stays in it
 abbrev pub Narrows : List Bool → ℕ → List Bool → List Bool → Type 0
 Narrows dom i set less = (j c : ℕ) → j < 8 → c < cellCount → InRow dom j c → (j ≡ i → In set c) → InRow less j c
+
+-- what is in a domain, and is a given class if it is in variable i's, stays in it
+abbrev pub NarrowsTo : List Bool → ℕ → ℕ → List Bool → Type 0
+NarrowsTo dom i class less = (j c : ℕ) → j < 8 → c < cellCount → InRow dom j c → (j ≡ i → c ≡ class) → InRow less j c
 
 -- what is in a set, or in both of two rows, is in the new set
 pub record Joins (set : List Bool) (rows : List Bool) (l s : ℕ) (more : List Bool) : Type 0 where

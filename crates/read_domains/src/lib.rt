@@ -7,9 +7,9 @@ ghost use lib.ListN.{length, getD};
 ghost use Rattle.cells.specs.Cells.{cellCount};
 ghost use Rattle.knowledge.specs.Steps.{kindAt};
 ghost use Rattle.variables.specs.Variables.{In, AreVariables};
-ghost use Rattle.read_domains.specs.Domains.{setCells, Arrays, InRow, Listed, ListedAt, Narrows, Joins, RowPut, Fit, Slot};
+ghost use Rattle.read_domains.specs.Domains.{setCells, Scoped, InRow, Listed, ListedAt, Narrows, NarrowsTo, Joins, RowPut, Fit, Slot};
 use cells::Cells;
-use read_fits::Scope;
+use cells::Scope;
 use variables::VariableRows;
 
 // A set of classes for each of 8 variables, one after the other.
@@ -59,7 +59,7 @@ fn values_of(
     only: bool,
     q: usize,
 ) -> [bool; Cells::COUNT]
-    requires { ⌜ Arrays (now t) (now classes) (now marks) scope × ((q < scope .rows) × (kindAt (now t) q ≡ 6)) ⌝ }
+    requires { ⌜ Scoped (now t) (now classes) (now marks) scope × ((q < scope .rows) × (kindAt (now t) q ≡ 6)) ⌝ }
     ensures { λ set. ⌜ Listed (now (t .entry)) (scope .rows) (scope .runs) (now (classes .entry)) (now (marks .entry)) only q (In set) ⌝ }
 {
     let mut set = [false; Cells::COUNT];
@@ -94,6 +94,16 @@ pub fn narrow(
     less
 }
 
+// The domains, that of variable i narrowed to one class.
+pub fn narrow_to(dom: [bool; Domains::CELLS], i: usize, class: usize) -> [bool; Domains::CELLS]
+    requires { ⌜ (i < 8) × (class < cellCount) ⌝ }
+    ensures { λ less. ⌜ NarrowsTo dom i class less ⌝ }
+{
+    let mut one = [false; Cells::COUNT];
+    one[class] = true;
+    narrow(dom, i, one)
+}
+
 // For each variable the classes of the values that it may take, or of those that are marked.
 pub fn of_variables(
     t: &[u8],
@@ -103,7 +113,7 @@ pub fn of_variables(
     only: bool,
     vars: VariableRows,
 ) -> [bool; Domains::CELLS]
-    requires { ⌜ Arrays (now t) (now classes) (now marks) scope × AreVariables (now t) (scope .rows) vars ⌝ }
+    requires { ⌜ Scoped (now t) (now classes) (now marks) scope × AreVariables (now t) (scope .rows) vars ⌝ }
     ensures { λ dom. ⌜ ((i : ℕ) → i < vars .count → Listed (now (t .entry)) (scope .rows) (scope .runs) (now (classes .entry)) (now (marks .entry)) only (getD (vars .rows) i 0) (InRow dom i)) ⌝ }
 {
     let rows = vars.rows;

@@ -10,7 +10,7 @@ use Rattle.cells.specs.Cells.{cellOf, cellCount, absent, Readings, cellValue, s
 use Rattle.classes.specs.Classes.{Classes, Grows}
 use Rattle.knowledge.specs.Marks.{Has, Marked}
 use Rattle.knowledge.specs.Steps.{classAt, kindAt, leftAt, Inside}
-use Rattle.read_fits.specs.declared.Scope.{Scope}
+use Rattle.cells.specs.declared.Scope.{Scope}
 
 -- a row of a run that is looked at
 abbrev pub InScope : List ℕ → List ℕ → Scope → ℕ → Type 0
@@ -31,12 +31,12 @@ pub record Extension (bytes : List ℕ) (n runs : ℕ) (classes : List ℕ) (u :
 
 module _ {bytes : List ℕ} {n runs : ℕ} {classes : List ℕ} {u : ℕ} (s : Extension bytes n runs classes u) where
   -- the class of the cells with a value
-  abbrev pub ClassOf : Term → ℕ → Type 0
-  ClassOf t class = (r : ℕ) × (w : ℕ) × Inside n runs r w × Has bytes (s .old) r w t × (class ≡ classAt classes r w)
+  abbrev pub ValueClass : Term → ℕ → Type 0
+  ValueClass t class = (r : ℕ) × (w : ℕ) × Inside n runs r w × Has bytes (s .old) r w t × (class ≡ classAt classes r w)
 
   -- a row gets the value of a class
   abbrev pub Gets : ℕ → ℕ → Type 0
-  Gets q class = (t : Term) × Has bytes (s .new) q u t × ClassOf t class
+  Gets q class = (t : Term) × Has bytes (s .new) q u t × ValueClass t class
 
   -- each row that needs a class gets its value; `absent` is no need
   pub record Needed (need : List ℕ) : Type 0 where

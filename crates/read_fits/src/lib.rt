@@ -5,14 +5,8 @@ ghost use lib.ListN.{length};
 ghost use Rattle.cells.specs.Cells.{cellCount};
 ghost use Rattle.read_fits.specs.Fits.{InScope, MadeInScope, Asked, PartsAsked, PassedDown, NeedsMet};
 use cells::Cells;
+use cells::Scope;
 use rows::Kind;
-
-// A run that is looked at, in a table with so many rows and a scenario with so many runs.
-pub struct Scope {
-    pub rows: usize,
-    pub runs: usize,
-    pub run: usize,
-}
 
 // Notes that row q of run u needs a class, unless it has or needs another already.
 fn ask(need: &mut [u16; 96], classes: &[u16], u: usize, q: usize, class: u16) -> bool

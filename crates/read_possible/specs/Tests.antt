@@ -7,7 +7,7 @@ use lib.ListN.{length, getD}
 use Rattle.rows.specs.Rows.{rowsOf}
 use Rattle.cells.specs.Cells.{cellCount}
 use Rattle.knowledge.specs.Steps.{kindAt, Inside}
-use Rattle.read_fits.specs.declared.Scope.{Scope}
+use Rattle.cells.specs.declared.Scope.{Scope}
 use Rattle.read_fits.specs.Fits.{InScope, CanTake}
 use Rattle.read_possible.specs.Possible.{Possible}
 

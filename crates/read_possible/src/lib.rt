@@ -8,8 +8,8 @@ ghost use Rattle.read_fits.specs.Fits.{CanTake};
 ghost use Rattle.read_possible.specs.Possible.{Possible};
 ghost use Rattle.read_possible.specs.Tests.{TestedRows, RowInRun, TriesMarks};
 use cells::Cells;
+use cells::Scope;
 use cells::cell;
-use read_fits::Scope;
 use rows::Kind;
 
 // Whether row r can still get the value of row y in run w, if that cell is marked and stands for its own value.

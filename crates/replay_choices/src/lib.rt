@@ -63,8 +63,7 @@ fn chosen(
                 names: more,
             };
         }
-        let next = values::put(more, x, k + 1, r, w);
-        more = next;
+        values::put(&mut more, x, k + 1, r, w);
         from = x + 1;
         i += 2;
     }

@@ -26,7 +26,7 @@ pub data StepDone (sc : Scenario) (d : definitions.State) (bytes : List ℕ) (st
       → StepDone sc d bytes stepped
   noStep : stepped .allowed ≡ false → stepAfter sc d (firstStep bytes) ≡ none → StepDone sc d bytes stepped
 
--- classes and marks for an event of run k, from 0: worked on for a read, else as they were
-pub data Worked (rows : List Row) (runs k kind : ℕ) (names classes : List ℕ) (marks : List Bool) (classes′ : List ℕ) (marks′ : List Bool) : Type 0 where
-  forRead : kind ≡ 1 → Refilled rows runs (k + 1) names classes classes′ → Settled rows runs classes′ marks marks′ → Worked rows runs k kind names classes marks classes′ marks′
-  forOther : (kind ≡ 1 → ⊥) → classes′ ≡ classes → marks′ ≡ marks → Worked rows runs k kind names classes marks classes′ marks′
+-- classes and marks for an event of run u: worked on for a read, else as they were
+pub data Worked (rows : List Row) (runs u kind : ℕ) (names classes : List ℕ) (marks : List Bool) (classes′ : List ℕ) (marks′ : List Bool) : Type 0 where
+  forRead : kind ≡ 1 → Refilled rows runs u names classes classes′ → Settled rows runs classes′ marks marks′ → Worked rows runs u kind names classes marks classes′ marks′
+  forOther : (kind ≡ 1 → ⊥) → classes′ ≡ classes → marks′ ≡ marks → Worked rows runs u kind names classes marks classes′ marks′

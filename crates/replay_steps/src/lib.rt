@@ -1,6 +1,6 @@
 // One step of a trace: whether it is allowed, and the state after it.
 ghost use mathlib.Core.Path.{_≡_};
-ghost use Prim.Native.Nat.{_<_};
+ghost use Prim.Native.Nat.{_≤_};
 ghost use lib.ListN.{length};
 ghost use Rattle.semantics.specs.Scenario.{Scenario};
 ghost use Rattle.semantics.specs.State as definitions;
@@ -9,6 +9,7 @@ ghost use Rattle.cells.specs.Cells.{cellCount};
 ghost use Rattle.state.specs.State.{Given, IsState};
 ghost use Rattle.replay_steps.specs.Steps.{StepDone, Worked};
 use cells::Cells;
+use cells::Scope;
 use records::Event;
 use runs::RunEvent;
 use runs::Runs;
@@ -21,22 +22,20 @@ pub struct Stepped {
     pub state: State,
 }
 
-// The marks for the event of run k with its new values, and its classes: worked on for a read, which alone has new values.
+// The marks for an event with its new values, and its classes: worked on for a read, which alone has new values.
 fn worked(
     classes: &mut [u16],
     marks: [bool; Cells::COUNT],
     names: &[u16],
     t: &[u8],
-    n: usize,
-    runs: usize,
-    k: usize,
-    e: RunEvent,
+    scope: Scope,
+    kind: usize,
 ) -> [bool; Cells::COUNT]
-    requires { ⌜ Shape (now t) n runs × ((length (now classes) ≡ cellCount) × ((length (now names) ≡ cellCount) × (k < runs))) ⌝ }
-    ensures { λ more. ⌜ Worked (rowsOf (now (t .entry))) runs k (e .kind) (now (names .entry)) (now (classes .entry)) marks (now (classes .exit)) more ⌝ }
+    requires { ⌜ Shape (now t) (scope .rows) (scope .runs) × ((scope .run ≤ scope .runs) × ((length (now classes) ≡ cellCount) × (length (now names) ≡ cellCount))) ⌝ }
+    ensures { λ more. ⌜ Worked (rowsOf (now (t .entry))) (scope .runs) (scope .run) kind (now (names .entry)) (now (classes .entry)) marks (now (classes .exit)) more ⌝ }
 {
-    if e.kind == Event::READ {
-        return state::with_names(&mut classes[..], marks, names, t, n, runs, k + 1);
+    if kind == Event::READ {
+        return state::with_names(&mut classes[..], marks, names, t, scope);
     }
     marks
 }
@@ -92,7 +91,12 @@ pub fn step(file: &[u8], t: &[u8], n: usize, r: Runs, s: State, trace: &[u8]) ->
         let before = s.done;
         let marks = s.marks;
         let mut classes = s.classes;
-        let more = worked(&mut classes, marks, &names, t, n, r.count, k, e);
+        let scope = Scope {
+            rows: n,
+            runs: r.count,
+            run: k + 1,
+        };
+        let more = worked(&mut classes, marks, &names, t, scope, e.kind);
         if moves::is_allowed(&classes, &more, k, e) {
             let after = moves::perform(&classes, more, t, n, r.count, k, e);
             let done = state::advance(before, k);

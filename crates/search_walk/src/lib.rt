@@ -3,6 +3,8 @@ ghost use Prim.Native.Nat.{_<_};
 ghost use Rattle.search_breaks.specs.Walk.{stateOf, SomeState, SomeClear, SomeChoice, SomeMove, SomeStep, FindsFrom, FindsRun, FindsChoice, FindsMove, FindsStep};
 ghost use Rattle.search_same.specs.Memory.{Remembers, Room};
 use answers::Walked;
+use cells::Cells;
+use cells::Scope;
 use records::Event;
 use search_breaks::Choice;
 use search_breaks::Course;
@@ -177,7 +179,7 @@ fn walk_values(
     }
     if !read_partial::may_be_read(
         classes,
-        marks,
+        &marks,
         t,
         plan.rows,
         plan.runs.count,
@@ -196,17 +198,23 @@ fn walk_values(
                 return Walked::Clean(count);
             }
             NextValue::Value { row: y, run: w } => {
-                let own_names = state::copied(names);
-                let more = values::put(own_names, x, choice.turn.run + 1, y, w);
-                let mut more_classes = state::copied(classes);
-                let more_marks = state::with_names(
+                let mut more = [0; Cells::COUNT];
+                let mut more_classes = [0; Cells::COUNT];
+                let more_marks = values::tried(
+                    &mut more,
                     &mut more_classes,
+                    names,
+                    classes,
                     marks,
-                    &more,
                     t,
-                    plan.rows,
-                    plan.runs.count,
-                    choice.turn.run + 1,
+                    Scope {
+                        rows: plan.rows,
+                        runs: plan.runs.count,
+                        run: choice.turn.run + 1,
+                    },
+                    x,
+                    y,
+                    w,
                 );
                 let found = walk_values(
                     trace,

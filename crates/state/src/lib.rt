@@ -13,6 +13,7 @@ ghost use Rattle.runs.specs.Runs.{RunsAt};
 ghost use Rattle.state.specs.Start.{Agents};
 ghost use Rattle.state.specs.State.{Given, IsState};
 use cells::Cells;
+use cells::Scope;
 use runs::Runs;
 
 // How far each run has come, what its atoms stand for, the classes of values, and the marks, taken apart.
@@ -33,35 +34,33 @@ pub fn advance(done: [usize; 4], k: usize) -> [usize; 4]
     more
 }
 
-// Numbers of cells as an array of their own.
-pub fn copied(cells: &[u16]) -> [u16; Cells::COUNT]
-    requires { ⌜ length (now cells) ≡ cellCount ⌝ }
-    ensures { λ r. ⌜ r ≡ now (cells .entry) ⌝ }
+// Copies the numbers of all cells.
+pub fn copy(to: &mut [u16], from: &[u16])
+    requires { ⌜ (length (now to) ≡ cellCount) × (length (now from) ≡ cellCount) ⌝ }
+    ensures { λ _. ⌜ now (to .exit) ≡ now (from .entry) ⌝ }
 {
-    let mut own = [0; Cells::COUNT];
     let mut i = 0;
     while i < Cells::COUNT {
-        own[i] = cells[i];
+        to[i] = from[i];
         i += 1;
     }
-    own
 }
 
-// The marks once the names of run u have grown; the classes are filled anew.
+// The marks once the names of a run have grown; the classes are filled anew.
 pub fn with_names(
     classes: &mut [u16],
     marks: [bool; Cells::COUNT],
     names: &[u16],
     t: &[u8],
-    n: usize,
-    runs: usize,
-    u: usize,
+    scope: Scope,
 ) -> [bool; Cells::COUNT]
-    requires { ⌜ Shape (now t) n runs × ((length (now classes) ≡ cellCount) × ((length (now names) ≡ cellCount) × (u ≤ runs))) ⌝ }
-    ensures { λ more. ⌜ Refilled (rowsOf (now (t .entry))) runs u (now (names .entry)) (now (classes .entry)) (now (classes .exit)) ⌝ }
-    ensures { λ more. ⌜ Settled (rowsOf (now (t .entry))) runs (now (classes .exit)) marks more ⌝ }
+    requires { ⌜ Shape (now t) (scope .rows) (scope .runs) × ((scope .run ≤ scope .runs) × ((length (now classes) ≡ cellCount) × (length (now names) ≡ cellCount))) ⌝ }
+    ensures { λ more. ⌜ Refilled (rowsOf (now (t .entry))) (scope .runs) (scope .run) (now (names .entry)) (now (classes .entry)) (now (classes .exit)) ⌝ }
+    ensures { λ more. ⌜ Settled (rowsOf (now (t .entry))) (scope .runs) (now (classes .exit)) marks more ⌝ }
 {
-    classes::refill(&mut classes[..], t, n, runs, names, u);
+    let n = scope.rows;
+    let runs = scope.runs;
+    classes::refill(&mut classes[..], t, n, runs, names, scope.run);
     knowledge::settle(marks, t, n, runs, &classes[..])
 }
 

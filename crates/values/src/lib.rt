@@ -1,23 +1,45 @@
 // New values of a read, given to its variables one after the other: each is one store into the names.
 ghost use mathlib.Core.Path.{_≡_};
 ghost use Prim.Native.Nat.{_<_, _≤_};
-ghost use lib.ListN.{set};
-ghost use Rattle.cells.specs.Cells.{cellOf};
+ghost use lib.ListN.{length, set};
+ghost use Rattle.rows.specs.Rows.{rowsOf, Shape};
+ghost use Rattle.cells.specs.Cells.{cellOf, cellCount};
+ghost use Rattle.classes.specs.Classes.{Refilled};
+ghost use Rattle.knowledge.specs.Marks.{Settled};
 use cells::Cells;
+use cells::Scope;
 use cells::cell;
 
-// The names once the variable of row x has the value of row r with run w, in run u.
-pub fn put(
-    names: [u16; Cells::COUNT],
+// Gives the variable of row x the value of row r with run w, in run u.
+pub fn put(names: &mut [u16], x: usize, u: usize, r: usize, w: usize)
+    requires { ⌜ (length (now names) ≡ cellCount) × ((x < 96) × ((u ≤ 4) × ((r < 96) × (w ≤ 4)))) ⌝ }
+    ensures { λ _. ⌜ now (names .exit) ≡ set (now (names .entry)) (cellOf x u) (cellOf r w) ⌝ }
+{
+    names[cell(x, u)] = cell(r, w) as u16;
+}
+
+// Tries a value, of row r with run w, for the variable of row x: the names and classes before it, with the value, go into arrays that are lent; the answer is the marks with it.
+pub fn tried(
+    names: &mut [u16],
+    classes: &mut [u16],
+    before: &[u16],
+    filled: &[u16],
+    marks: [bool; Cells::COUNT],
+    t: &[u8],
+    scope: Scope,
     x: usize,
-    u: usize,
     r: usize,
     w: usize,
-) -> [u16; Cells::COUNT]
-    requires { ⌜ (x < 96) × ((u ≤ 4) × ((r < 96) × (w ≤ 4))) ⌝ }
-    ensures { λ more. ⌜ more ≡ set names (cellOf x u) (cellOf r w) ⌝ }
+) -> [bool; Cells::COUNT]
+    requires { ⌜ Shape (now t) (scope .rows) (scope .runs) × ((scope .run ≤ scope .runs) × ((x < 96) × ((r < 96) × (w ≤ 4)))) ⌝ }
+    requires { ⌜ (length (now names) ≡ cellCount) × (length (now classes) ≡ cellCount) ⌝ }
+    requires { ⌜ (length (now before) ≡ cellCount) × (length (now filled) ≡ cellCount) ⌝ }
+    ensures { λ more. ⌜ now (names .exit) ≡ set (now (before .entry)) (cellOf x (scope .run)) (cellOf r w) ⌝ }
+    ensures { λ more. ⌜ Refilled (rowsOf (now (t .entry))) (scope .runs) (scope .run) (now (names .exit)) (now (filled .entry)) (now (classes .exit)) ⌝ }
+    ensures { λ more. ⌜ Settled (rowsOf (now (t .entry))) (scope .runs) (now (classes .exit)) marks more ⌝ }
 {
-    let mut more = names;
-    more[cell(x, u)] = cell(r, w) as u16;
-    more
+    state::copy(&mut names[..], before);
+    put(&mut names[..], x, scope.run, r, w);
+    state::copy(&mut classes[..], filled);
+    state::with_names(&mut classes[..], marks, &names[..], t, scope)
 }

@@ -15,7 +15,7 @@ use Rattle.read_completions.proofs.+completable.Lts-completable as comp
 use Rattle.read_completions.proofs.is_empty.Reads as is-empty-reads
 use Rattle.read_completions.proofs.settled.Reads as settled-reads
 use Rattle.read_completions.proofs.tied.Reads as tied-reads
-use Rattle.read_domains.proofs.narrow.Reads as narrow-reads
+use Rattle.read_domains.proofs.narrow_to.Reads as narrow-to-reads
 use Rattle.read_completions.proofs.+completable.{statement}
 use Rattle.read_completions.proofs.+completable.Tie.{close}
 
@@ -31,7 +31,7 @@ completable-below t =
     and 5 completable-kinds.ps (falls 5 completable-kinds.ps _<_ μ-completable t) completable.Pre
 
 abbrev completable-env : ℕ → completable-lts.Claims
-completable-env t = (settled-reads.Asked, settled-reads.Learnt, is-empty-reads.Asked, is-empty-reads.Learnt, tied-reads.Asked, tied-reads.Learnt, narrow-reads.Asked, narrow-reads.Learnt, completable-below t, completable.Post)
+completable-env t = (settled-reads.Asked, settled-reads.Learnt, is-empty-reads.Asked, is-empty-reads.Learnt, tied-reads.Asked, tied-reads.Learnt, narrow-to-reads.Asked, narrow-to-reads.Learnt, completable-below t, completable.Post)
 
 abbrev completable-Inv-loop : completable-lts.InvT-loop
 completable-Inv-loop t classes marks pattern marked below depth less i c₀ c = (c ≤ cellCount) × Tried t classes marks pattern less i c
@@ -80,13 +80,10 @@ completable-array-read-if4 t c =
     let s = c .before .before .before .before .before .before .before .before .before .before .before .before .before .before .before in
     omega (arith, s .pre .1 .scene .low .few, c .before .before .if3 .left, c .loop-test .taken)
 
-completable-array-write-one : (t : ℕ) → completable-lts.Need-array-write-one (completable-env t) (completable-at t) completable.Post completable-Inv-loop completable-μ-loop
-completable-array-write-one t c = omega (arith, c .before .loop-test .taken)
-
-completable-narrow-requires : (t : ℕ) → completable-lts.Need-narrow-requires (completable-env t) (completable-at t) completable.Post completable-Inv-loop completable-μ-loop
-completable-narrow-requires t c κs =
+completable-narrow-to-requires : (t : ℕ) → completable-lts.Need-narrow-to-requires (completable-env t) (completable-at t) completable.Post completable-Inv-loop completable-μ-loop
+completable-narrow-to-requires t c κs =
     let s = c .before .before .before .before .before .before .before .before .before .before .before .before .before .before .before .before in
-    omega (arith, s .pre .1 .scene .low .few, c .before .before .before .if3 .left)
+    (omega (arith, s .pre .1 .scene .low .few, c .before .before .before .if3 .left), c .before .loop-test .taken)
 
 completable-sub-completable : (t : ℕ) → completable-lts.Need-sub-completable (completable-env t) (completable-at t) completable.Post completable-Inv-loop completable-μ-loop
 completable-sub-completable t c = omega (arith, c .before .before .before .before .before .before .before .before .if2 .left)
@@ -114,4 +111,4 @@ completable-returns-5 t c =
     completable-kept (s .pre .1 .scene) (s .args .dom) (c .before .before .before .before .before .before .before .before .before .before .settled .result) (c .before .before .before .before .before .before .before .before .before .before .settled .ensures) (tried-all (s .pre .1 .scene) (c .before .before .before .before .before .before .before .before .before .before .settled .result) (omega (arith, c .before .before .if3 .left)) (omega (arith, c .loop-test .left)) (c .before .loop .inv .1) _)
 
 pub +completable-spec : {M : Type 1} → statement M
-+completable-spec = close μ-completable λ t. completable-lts.spec (completable-env t) (completable-at t) completable.Post completable-Inv-loop completable-μ-loop (λ c κs. search needs) (completable-is-empty-requires t) (completable-returns t) (completable-returns-2 t) (completable-tied-requires t) (completable-returns-3 t) (completable-loop-holds t) (completable-mul-if4 t) (completable-add-if4 t) (completable-array-read-if4 t) (completable-array-write-one t) (completable-narrow-requires t) (completable-sub-completable t) (completable-completable-requires t) (completable-returns-4 t) (λ c. search needs) (completable-loop-less t) (completable-loop-again t) (completable-returns-5 t)
++completable-spec = close μ-completable λ t. completable-lts.spec (completable-env t) (completable-at t) completable.Post completable-Inv-loop completable-μ-loop (λ c κs. search needs) (completable-is-empty-requires t) (completable-returns t) (completable-returns-2 t) (completable-tied-requires t) (completable-returns-3 t) (completable-loop-holds t) (completable-mul-if4 t) (completable-add-if4 t) (completable-array-read-if4 t) (completable-narrow-to-requires t) (completable-sub-completable t) (completable-completable-requires t) (completable-returns-4 t) (λ c. search needs) (completable-loop-less t) (completable-loop-again t) (completable-returns-5 t)

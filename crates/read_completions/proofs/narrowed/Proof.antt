@@ -1,6 +1,6 @@
 -- `read_completions::narrowed` meets its contract. The loop's invariant: the domains so far miss no completion. The measure is how many variables are left. Assumes nothing.
 use Rattle.read_completions.specs.laws.Search.{kept-more}
-use Rattle.read_completions.specs.Completions.{Kept}
+use Rattle.read_completions.specs.Completions.{CompletionsKept}
 use mathlib.Core.Logic.{⊎-elim}
 use Prim.Native.Nat.{_-_, _≤_}
 use native.Mathlib.Omega.{arith}
@@ -9,7 +9,7 @@ use Rattle.read_completions.proofs.narrowed.Statement.{statement}
 use Rattle.read_completions.proofs.narrowed.Tie as tie
 
 abbrev Inv-loop : tie.InvT-loop
-Inv-loop t classes marks pattern marked below vars less₀ i₀ less i = (i ≤ vars .count) × Kept t classes marks pattern less₀ less
+Inv-loop t classes marks pattern marked below vars less₀ i₀ less i = (i ≤ vars .count) × CompletionsKept t classes marks pattern less₀ less
 
 abbrev μ-loop : tie.MeasureT-loop
 μ-loop t classes marks pattern marked below vars less₀ i₀ less i = vars .count - i

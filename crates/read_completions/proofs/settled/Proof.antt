@@ -1,6 +1,6 @@
 -- `read_completions::settled` meets its contract. The loop's invariant: the domains so far miss no completion. The measure is how many rounds are left. Assumes nothing.
 use Rattle.read_completions.specs.laws.Search.{kept-both}
-use Rattle.read_completions.specs.Completions.{Kept}
+use Rattle.read_completions.specs.Completions.{CompletionsKept}
 use Rattle.cells.specs.Cells.{cellCount}
 use Prim.Native.Nat.{_-_, _≤_}
 use native.Mathlib.Omega.{arith}
@@ -9,7 +9,7 @@ use Rattle.read_completions.proofs.settled.Statement.{statement}
 use Rattle.read_completions.proofs.settled.Tie as tie
 
 abbrev Inv-loop : tie.InvT-loop
-Inv-loop t classes marks pattern marked below vars less₀ round₀ less round = (round ≤ cellCount) × Kept t classes marks pattern less₀ less
+Inv-loop t classes marks pattern marked below vars less₀ round₀ less round = (round ≤ cellCount) × CompletionsKept t classes marks pattern less₀ less
 
 abbrev μ-loop : tie.MeasureT-loop
 μ-loop t classes marks pattern marked below vars less₀ round₀ less round = cellCount - round

@@ -7,7 +7,6 @@ use mathlib.Core.Bool.{Bool, true, false, false≢true}
 use mathlib.Core.List.{List}
 use mathlib.Core.Option.{Option·some-injective}
 use lib.ListN.{length, getD, set, replicate, length-replicate, getD-replicate}
-use lib.Seq.{getD-set-same, getD-set-other}
 use Rattle.semantics.specs.Term.{Term}
 use Rattle.semantics.specs.Inference.{Derives}
 use Rattle.rows.specs.Rows.{rowsOf, Shape}
@@ -24,7 +23,7 @@ use Rattle.read_possible.specs.laws.Known.{Way, byMark, byParts, way}
 use Rattle.read_possible.specs.laws.Tests.{kind-most, pair-parts}
 use Rattle.variables.specs.declared.VariableRows.{VariableRows}
 use Rattle.variables.specs.Variables.{In}
-use Rattle.read_domains.specs.laws.Sets.{stays}
+use Rattle.read_domains.specs.laws.Sets.{stays, in-set}
 use Rattle.read_domains.specs.Domains.{setCells, InRow, Listed, Fit, Slot, isAt, isNone, Joins, RowPut}
 use Rattle.read_completions.specs.declared.Pattern.{Pattern}
 use Rattle.read_completions.specs.Completions.{Scene, TakesCell, Completion, GetsClass, InDomains, GetsDerivable, FromMark, MarkedDomains, NeedsAt, Matched, MissesNone, RowsMissNone, NeededAdded}
@@ -36,10 +35,6 @@ in-all n {c} l = getD-replicate {A = Bool} n c true false l
 -- a class is in a set of all or none by what is repeated
 pub in-mark : {mark : Bool} {c : ℕ} → c < cellCount → mark ≡ true → In (replicate cellCount mark) c
 in-mark {mark} {c} l e = getD-replicate {A = Bool} cellCount c mark false l ∙ e
-
--- a set with one class more
-pub in-set : (xs : List Bool) {class : ℕ} → class < length xs → {c : ℕ} → c ≡ class → In (set xs class true) c
-in-set xs {class} l e = rw e (getD-set-same xs class true false l)
 
 module _ (vars : VariableRows) (i : ℕ) (need : List ℕ) (before : List Bool) where
   -- needs that are not met add nothing

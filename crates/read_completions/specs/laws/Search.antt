@@ -6,7 +6,7 @@ use mathlib.Core.Path.{_≡_, refl, sym, _∙_, subst}
 use mathlib.Core.Bool.{Bool, true, false, false≢true, true≢false}
 use mathlib.Core.List.{List}
 use lib.Dec.{T}
-use lib.ListN.{length, getD, set, replicate, length-replicate}
+use lib.ListN.{length, getD}
 use Rattle.semantics.specs.Term.{Term}
 use Rattle.semantics.specs.Inference.{Derives}
 use Rattle.semantics.specs.Value.{beneath}
@@ -17,14 +17,14 @@ use Rattle.knowledge.specs.Steps.{classAt, kindAt, Inside}
 use Rattle.knowledge.specs.laws.Values.{Has, has-class}
 use Rattle.variables.specs.declared.VariableRows.{VariableRows}
 use Rattle.variables.specs.Variables.{In, Beneath, AreVariables, Unset}
-use Rattle.read_fits.specs.declared.Scope.{Scope}
+use Rattle.cells.specs.declared.Scope.{Scope}
 use Rattle.read_fits.specs.Fits.{Extension, Gets}
 use Rattle.read_fits.specs.laws.Fits.{gets-one}
-use Rattle.read_domains.specs.Domains.{InRow, Listed, Narrows}
+use Rattle.read_domains.specs.Domains.{InRow, Listed, Narrows, NarrowsTo}
 use Rattle.read_possible.specs.Tests.{RowInRun}
 use Rattle.read_completions.specs.declared.Pattern.{Pattern}
-use Rattle.read_completions.specs.Completions.{NoneEmpty, Scene, TakesCell, Completion, GetsClass, InDomains, GetsDerivable, MarkedDomains, MissesNone, Kept, Completable, AllTake, Completes}
-use Rattle.read_completions.specs.laws.Rows.{gets-low, takes-gets, takes-class, takes-marked, in-set}
+use Rattle.read_completions.specs.Completions.{NoneEmpty, Scene, TakesCell, Completion, GetsClass, InDomains, GetsDerivable, MarkedDomains, MissesNone, CompletionsKept, Completable, AllTake, Completes}
+use Rattle.read_completions.specs.laws.Rows.{gets-low, takes-gets, takes-class, takes-marked}
 
 -- the domains of the pattern's variables miss no value, or none that is marked
 abbrev AllListed : List ℕ → List ℕ → List Bool → Pattern → Bool → List Bool → Type 0
@@ -64,18 +64,18 @@ module _ {bytes classes : List ℕ} {marks : List Bool} {pattern : Pattern} (sce
 
   module _ (dom : List Bool) where
     -- one domain is narrowed
-    pub kept-more : {i : ℕ} → i < pattern .vars .count → (less : List Bool) (set next : List Bool) → Kept bytes classes marks pattern dom less → MissesNone bytes classes marks pattern less i (pattern .row) (In set)
-        → Narrows less i set next → Kept bytes classes marks pattern dom next
+    pub kept-more : {i : ℕ} → i < pattern .vars .count → (less : List Bool) (set next : List Bool) → CompletionsKept bytes classes marks pattern dom less → MissesNone bytes classes marks pattern less i (pattern .row) (In set)
+        → Narrows less i set next → CompletionsKept bytes classes marks pattern dom next
     kept-more {i} l less set next kept covered narrows k within d j m c g =
         let before = kept k within d in
         narrows j c (omega (arith, scene .low .few)) (gets-low scene k _ g) (before j m c g) (λ e. covered k before d c (rw e at g))
 
     -- one more round
-    pub kept-both : (less next : List Bool) → Kept bytes classes marks pattern dom less → Kept bytes classes marks pattern less next → Kept bytes classes marks pattern dom next
+    pub kept-both : (less next : List Bool) → CompletionsKept bytes classes marks pattern dom less → CompletionsKept bytes classes marks pattern less next → CompletionsKept bytes classes marks pattern dom next
     kept-both less next kept more k within d = more k (kept k within d) d
 
     -- a domain without a class
-    pub completable-empty : (less : List Bool) → Kept bytes classes marks pattern dom less → {b : Bool} → (NoneEmpty (pattern .vars) less → b ≡ false) → b ≡ true
+    pub completable-empty : (less : List Bool) → CompletionsKept bytes classes marks pattern dom less → {b : Bool} → (NoneEmpty (pattern .vars) less → b ≡ false) → b ≡ true
         → (answer : Bool) → Completable bytes classes marks pattern dom answer
     completable-empty less kept f e answer k within d = absurd (is-true e (f (λ i l. let g = takes-gets scene k (k .filled i l) in (_, (gets-low scene k _ g, kept k within d i l _ g)))))
 
@@ -89,7 +89,7 @@ module _ {bytes classes : List ℕ} {marks : List Bool} {pattern : Pattern} (sce
         go (yes q) = true≢false (sym (within i m c (rw q at g)) ∙ z)
         go (no n) = tried k within d e (omega arith) g
 
-    pub tried-more : {i c : ℕ} → i < pattern .vars .count → c < cellCount → (only : List Bool) → Narrows dom i (set (replicate cellCount false) c true) only → {b : Bool} → Completable bytes classes marks pattern only b → b ≡ false
+    pub tried-more : {i c : ℕ} → i < pattern .vars .count → c < cellCount → (only : List Bool) → NarrowsTo dom i c only → {b : Bool} → Completable bytes classes marks pattern only b → b ≡ false
         → TriedIn i c → TriedIn i (c + 1)
     tried-more {i} {c} m low only narrows {b} passed z tried k within d e l g = go (ℕ-discrete e c)
       where
@@ -99,14 +99,14 @@ module _ {bytes classes : List ℕ} {marks : List Bool} {pattern : Pattern} (sce
             still : InDomains k only
             still j lj c′ h =
                 narrows j c′ (omega (arith, scene .low .few)) (gets-low scene k _ h) (within j lj c′ h)
-                (λ same. in-set (replicate cellCount false) (omega (arith, length-replicate {A = Bool} cellCount false)) (gets-one (k .extension) _ (rw same at h) g ∙ q))
+                (λ same. gets-one (k .extension) _ (rw same at h) g ∙ q)
         go (no n) = tried k within d e (omega arith) g
 
     pub tried-all : {i c : ℕ} → i < pattern .vars .count → cellCount ≤ c → TriedIn i c → (answer : Bool) → Completable bytes classes marks pattern dom answer
     tried-all {i} m h tried answer k within d = let g = takes-gets scene k (k .filled i m) in absurd (tried k within d _ (omega (arith, gets-low scene k _ g)) g)
 
     -- what later domains pass, earlier ones do
-    pub completable-kept : (less : List Bool) → Kept bytes classes marks pattern dom less → {answer : Bool} → Completable bytes classes marks pattern less answer → Completable bytes classes marks pattern dom answer
+    pub completable-kept : (less : List Bool) → CompletionsKept bytes classes marks pattern dom less → {answer : Bool} → Completable bytes classes marks pattern less answer → Completable bytes classes marks pattern dom answer
     completable-kept less kept passed k within d = passed k (kept k within d) d
 
 -- the test of the unset variables beneath the pattern

@@ -21,6 +21,10 @@ stays xs k b {j} same e = go (ℕ-discrete j k)
     go (yes q) = rw q (getD-set-same xs k b false (rw q at (on-below xs j e)) ∙ same q)
     go (no f) = getD-set-other xs k j b false f ∙ e
 
+-- the element that is written is in
+pub in-set : (xs : List Bool) {class : ℕ} → class < length xs → {c : ℕ} → c ≡ class → In (set xs class true) c
+in-set xs {class} l e = rw e (getD-set-same xs class true false l)
+
 -- what is to be true below a number is true, and so below the next, once that is written
 pub one-more :
     (P : ℕ → Type 0) (place : ℕ → ℕ) (c : ℕ) (xs : List Bool) (b : Bool) → place c < length xs → (P c → b ≡ true) → ((e : ℕ) → place e ≡ place c → e ≡ c)

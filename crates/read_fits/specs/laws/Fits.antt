@@ -19,7 +19,7 @@ use Rattle.classes.specs.laws.Kinds.{firstPart, secondPart, value-made}
 use Rattle.classes.specs.laws.Values.{cell-kept}
 use Rattle.knowledge.specs.Steps.{classAt, kindAt, leftAt, Inside}
 use Rattle.knowledge.specs.laws.Values.{Has, StandingCell, standsAtom, standsRow, has-value, stand, one-class}
-use Rattle.read_fits.specs.Fits.{Extension, ClassOf, Gets, Needed, Asked, PartsAsked, PassedDown, CanGet, CanTake, NeedsMet}
+use Rattle.read_fits.specs.Fits.{Extension, ValueClass, Gets, Needed, Asked, PartsAsked, PassedDown, CanGet, CanTake, NeedsMet}
 
 -- a row has one value
 one-term : {o : Option Term} {t s : Term} → o ≡ some t → o ≡ some s → t ≡ s
@@ -27,7 +27,7 @@ one-term {t = t} {s} e f = Option·some-injective t s (sym e ∙ f)
 
 module _ {bytes : List ℕ} {n runs : ℕ} {classes : List ℕ} {u : ℕ} (s : Extension bytes n runs classes u) where
   -- a value has one class
-  class-one : {t : Term} {c d : ℕ} → ClassOf s t c → ClassOf s t d → c ≡ d
+  class-one : {t : Term} {c d : ℕ} → ValueClass s t c → ValueClass s t d → c ≡ d
   class-one a b = a .4 ∙ one-class bytes n runs (s .shape) (s .old) classes (s .right) (a .2) (b .2) (a .3) (b .3) ∙ sym (b .4)
 
   -- so a row gets the value of one class only

@@ -30,7 +30,7 @@ Parted t runs k row values names more from i =
     (e : RunEvent) (sc : Scenario) (d : definitions.State) (s : State) (a : Active) → NextMove t runs k e sc d s a → names ≡ s .names → row ≡ e .row → e .kind ≡ 1 → ValuesPart sc d a (s .names) values from i more
 
 abbrev Inv-loop : tie.InvT-loop
-Inv-loop t n runs k row values names below more₀ from₀ i₀ more from i = (from ≤ n) × (i ≤ 2 * from) × Parted t runs k row values names more from i
+Inv-loop t n runs k row values names below more₀ from₀ i₀ more from i = (from ≤ n) × (i ≤ 2 * from) × Parted t runs k row values names more from i × (length more ≡ cellCount)
 
 abbrev μ-loop : tie.MeasureT-loop
 μ-loop t n runs k row values names below more₀ from₀ i₀ more from i = n - from
@@ -41,7 +41,7 @@ beneath-requires c κs = let s = c .before .before in (shape-sized (s .pre .0), 
 loop-holds : tie.Need-loop-holds Inv-loop μ-loop
 loop-holds c =
     let v = c .before .before .before .args .values .now in
-    (omega arith, omega arith, λ e sc d s a next same row kind. subst (λ (m : List ℕ). ValuesPart sc d a (s .names) v 0 0 m) (sym same) (part-none next kind v))
+    (omega arith, omega arith, λ e sc d s a next same row kind. subst (λ (m : List ℕ). ValuesPart sc d a (s .names) v 0 0 m) (sym same) (part-none next kind v), search needs)
 
 next-unset-requires : tie.Need-next-unset-requires Inv-loop μ-loop
 next-unset-requires c κs =
@@ -98,49 +98,53 @@ returns-4 c e sc d s a next same row kind =
     let may′ : TellsValue (sc .rows) (length (sc .runs)) (more .y) (getD (p .args .values .now) (l .loop .i) 0) (getD (p .args .values .now) (l .loop .i + 1) 0) (c .before .may-take .result) = may-carry (next .rows) (next .count) (c .before .before .before .before .wide .ensures .0) (c .before .before .wide2 .ensures .0) may in
     part-not next kind _ (l .loop .from) (l .loop .i) (l .loop .more) (l .loop .inv .2 e sc d s a next same row kind) (more .first) (c .before .before .before .before .before .before .if3 .left) (no-value may′ (not-true _ (c .if4 .taken)))
 
+slice-aggregate-put : tie.Need-slice-aggregate-put Inv-loop μ-loop
+slice-aggregate-put c = sym (c .before .before .before .before .before .before .before .before .before .before .before .before .loop .inv .3)
+
 put-requires : tie.Need-put-requires Inv-loop μ-loop
 put-requires c κs =
-    let p = c .before .before .before .before .before .before .before .before .before .before .before .before .before .before .before in
-    let view = c .before .before .before .before .before .before .before .before .next-unset .ensures _ (c .before .before .before .before .before .before .before .before .before .before .before .before .beneath .ensures) in
-    let w = variable-found (p .args .t .now) (p .args .n) (p .args .runs) (p .pre .0) _ _ _ _ _ view (c .before .before .before .before .before .before .before .if1 .left) in
-    let may = c .before .may-take .ensures (w .3 .0) (w .3 .1) in
-    let fits = value-fits (omega (arith, p .pre .0 .count, p .pre .0 .few)) (p .pre .0 .fewRuns) may (not-false _ (c .if4 .left)) in
-    (omega (arith, w .0, p .pre .0 .few), (omega (arith, p .pre .1 .0, p .pre .0 .fewRuns), (fits .0, fits .1)))
+    let p = c .before .before .before .before .before .before .before .before .before .before .before .before .before .before .before .before in
+    let view = c .before .before .before .before .before .before .before .before .before .next-unset .ensures _ (c .before .before .before .before .before .before .before .before .before .before .before .before .before .beneath .ensures) in
+    let w = variable-found (p .args .t .now) (p .args .n) (p .args .runs) (p .pre .0) _ _ _ _ _ view (c .before .before .before .before .before .before .before .before .if1 .left) in
+    let may = c .before .before .may-take .ensures (w .3 .0) (w .3 .1) in
+    let fits = value-fits (omega (arith, p .pre .0 .count, p .pre .0 .few)) (p .pre .0 .fewRuns) may (not-false _ (c .before .if4 .left)) in
+    (c .before .before .before .before .before .before .before .before .before .before .before .before .loop .inv .3, (omega (arith, w .0, p .pre .0 .few), (omega (arith, p .pre .1 .0, p .pre .0 .fewRuns), (fits .0, fits .1))))
 
 add-from : tie.Need-add-from Inv-loop μ-loop
 add-from c =
-    let p = c .before .before .before .before .before .before .before .before .before .before .before .before .before .before .before .before in
-    let view = c .before .before .before .before .before .before .before .before .before .next-unset .ensures _ (c .before .before .before .before .before .before .before .before .before .before .before .before .before .beneath .ensures) in
-    let w = variable-found (p .args .t .now) (p .args .n) (p .args .runs) (p .pre .0) _ _ _ _ _ view (c .before .before .before .before .before .before .before .before .if1 .left) in
+    let p = c .before .before .before .before .before .before .before .before .before .before .before .before .before .before .before .before .before .before in
+    let view = c .before .before .before .before .before .before .before .before .before .before .before .next-unset .ensures _ (c .before .before .before .before .before .before .before .before .before .before .before .before .before .before .before .beneath .ensures) in
+    let w = variable-found (p .args .t .now) (p .args .n) (p .args .runs) (p .pre .0) _ _ _ _ _ view (c .before .before .before .before .before .before .before .before .before .before .if1 .left) in
     record { fits = omega (arith, w .0, p .pre .0 .few) }
 
 add-i : tie.Need-add-i Inv-loop μ-loop
-add-i c = let l = c .before .before .before .before .before .before .before .before .before .before .before .before in record { fits = omega (arith, l .loop .inv .0, l .loop .inv .1, c .before .before .before .before .before .before .before .before .before .before .before .before .before .before .before .before .pre .0 .few) }
+add-i c = let l = c .before .before .before .before .before .before .before .before .before .before .before .before .before .before in record { fits = omega (arith, l .loop .inv .0, l .loop .inv .1, c .before .before .before .before .before .before .before .before .before .before .before .before .before .before .before .before .before .before .pre .0 .few) }
 
 loop-less : tie.Need-loop-less Inv-loop μ-loop
 loop-less c =
-    let p = c .before .before .before .before .before .before .before .before .before .before .before .before .before .before .before .before in
-    let view = c .before .before .before .before .before .before .before .before .before .next-unset .ensures _ (c .before .before .before .before .before .before .before .before .before .before .before .before .before .beneath .ensures) in
-    let w = variable-found (p .args .t .now) (p .args .n) (p .args .runs) (p .pre .0) _ _ _ _ _ view (c .before .before .before .before .before .before .before .before .if1 .left) in
+    let p = c .before .before .before .before .before .before .before .before .before .before .before .before .before .before .before .before .before .before in
+    let view = c .before .before .before .before .before .before .before .before .before .before .before .next-unset .ensures _ (c .before .before .before .before .before .before .before .before .before .before .before .before .before .before .before .beneath .ensures) in
+    let w = variable-found (p .args .t .now) (p .args .n) (p .args .runs) (p .pre .0) _ _ _ _ _ view (c .before .before .before .before .before .before .before .before .before .before .if1 .left) in
     omega (arith, w .0, w .1)
 
 loop-again : tie.Need-loop-again Inv-loop μ-loop
 loop-again c =
-    let p = c .before .before .before .before .before .before .before .before .before .before .before .before .before .before .before .before in
-    let l = c .before .before .before .before .before .before .before .before .before .before .before .before in
-    let view = c .before .before .before .before .before .before .before .before .before .next-unset .ensures _ (c .before .before .before .before .before .before .before .before .before .before .before .before .before .beneath .ensures) in
-    let w = variable-found (p .args .t .now) (p .args .n) (p .args .runs) (p .pre .0) _ _ _ _ _ view (c .before .before .before .before .before .before .before .before .if1 .left) in (
+    let p = c .before .before .before .before .before .before .before .before .before .before .before .before .before .before .before .before .before .before in
+    let l = c .before .before .before .before .before .before .before .before .before .before .before .before .before .before in
+    let view = c .before .before .before .before .before .before .before .before .before .before .before .next-unset .ensures _ (c .before .before .before .before .before .before .before .before .before .before .before .before .before .before .before .beneath .ensures) in
+    let w = variable-found (p .args .t .now) (p .args .n) (p .args .runs) (p .pre .0) _ _ _ _ _ view (c .before .before .before .before .before .before .before .before .before .before .if1 .left) in (
       omega (arith, w .0),
       omega (arith, w .1, l .loop .inv .1),
       λ e sc d s a next same row kind.
-          let view′ : NextUnset (rowsOf (p .args .t .now)) (s .names) (p .args .k + 1) (e .row) (l .loop .from) (c .before .before .before .before .before .before .before .before .before .next-unset .result) = rw (← same, ← row) view in
-          let more = another next (p .pre .0 .count) (l .loop .from) _ view′ (c .before .before .before .before .before .before .before .before .if1 .left) in
-          let may = c .before .before .may-take .ensures (more .y) (ap (λ (rs : List Row). atomAt rs (c .before .before .before .before .before .before .before .before .before .next-unset .result)) (sym (next .rows)) ∙ more .isAtom) in
-          let may′ : TellsValue (sc .rows) (length (sc .runs)) (more .y) (getD (p .args .values .now) (l .loop .i) 0) (getD (p .args .values .now) (l .loop .i + 1) 0) (c .before .before .may-take .result) = may-carry (next .rows) (next .count) (c .before .before .before .before .before .wide .ensures .0) (c .before .before .before .wide2 .ensures .0) may in
-          let value = taken-value may′ (not-false _ (c .before .if4 .left)) in
-          let part = part-more next kind _ (l .loop .from) (l .loop .i) (l .loop .more) (l .loop .inv .2 e sc d s a next same row kind) _ (more .y) (more .low) (more .from-on) (more .isAtom) (more .isVariable) (more .unset) (more .first) (c .before .before .before .before .before .before .before .if3 .left) (value .0) (value .1 .1) in
-          part-carry _ _ _ _ _ (l .loop .more) (c .put .result) (c .put .ensures) (c .before .before .before .before .before .wide .ensures .0) (c .before .before .before .wide2 .ensures .0) part,
+          let view′ : NextUnset (rowsOf (p .args .t .now)) (s .names) (p .args .k + 1) (e .row) (l .loop .from) (c .before .before .before .before .before .before .before .before .before .before .before .next-unset .result) = rw (← same, ← row) view in
+          let more = another next (p .pre .0 .count) (l .loop .from) _ view′ (c .before .before .before .before .before .before .before .before .before .before .if1 .left) in
+          let may = c .before .before .before .before .may-take .ensures (more .y) (ap (λ (rs : List Row). atomAt rs (c .before .before .before .before .before .before .before .before .before .before .before .next-unset .result)) (sym (next .rows)) ∙ more .isAtom) in
+          let may′ : TellsValue (sc .rows) (length (sc .runs)) (more .y) (getD (p .args .values .now) (l .loop .i) 0) (getD (p .args .values .now) (l .loop .i + 1) 0) (c .before .before .before .before .may-take .result) = may-carry (next .rows) (next .count) (c .before .before .before .before .before .before .before .wide .ensures .0) (c .before .before .before .before .before .wide2 .ensures .0) may in
+          let value = taken-value may′ (not-false _ (c .before .before .before .if4 .left)) in
+          let part = part-more next kind _ (l .loop .from) (l .loop .i) (l .loop .more) (l .loop .inv .2 e sc d s a next same row kind) _ (more .y) (more .low) (more .from-on) (more .isAtom) (more .isVariable) (more .unset) (more .first) (c .before .before .before .before .before .before .before .before .before .if3 .left) (value .0) (value .1 .1) in
+          part-carry _ _ _ _ _ (l .loop .more) (c .before .put .last .0) (c .before .put .ensures) (c .before .before .before .before .before .before .before .wide .ensures .0) (c .before .before .before .before .before .wide2 .ensures .0) part,
+      omega (arith, c .before .put .kept, l .loop .inv .3),
     )
 
 pub chosen-spec : {M : Type 1} → statement M
-chosen-spec = tie.close (tie.spec Inv-loop μ-loop beneath-requires loop-holds (λ c. search needs) (λ c. search needs) (λ c. search needs) next-unset-requires add-if2 returns returns-2 add-if3 returns-3 (λ c. search needs) (λ c κs. search needs) (λ c. search needs) (λ c. search needs) (λ c κs. search needs) may-take-requires returns-4 (λ c. search needs) put-requires add-from add-i loop-less loop-again)
+chosen-spec = tie.close (tie.spec Inv-loop μ-loop beneath-requires loop-holds (λ c. search needs) (λ c. search needs) (λ c. search needs) next-unset-requires add-if2 returns returns-2 add-if3 returns-3 (λ c. search needs) (λ c κs. search needs) (λ c. search needs) (λ c. search needs) (λ c κs. search needs) may-take-requires returns-4 slice-aggregate-put (λ c. search needs) put-requires add-from add-i loop-less loop-again)

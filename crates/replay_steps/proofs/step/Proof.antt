@@ -154,7 +154,7 @@ worked-requires : tie.Need-worked-requires
 worked-requires c κs =
     let p = start (c .before .before .before .before .before .before .before .before .before) .pre in
     let names : length (c .before .before .before .before .before .before .before .valued .result .names) ≡ 480 = search (needs, c .before .before .before .before .before .before .before .valued .ok) in
-    (p .2 .shape, (p .3 .arrays .classed .size, (names, run-few (c .before .before .before .before .before .before .before .before .before))))
+    (p .2 .shape, (omega (arith, run-few (c .before .before .before .before .before .before .before .before .before)), (p .3 .arrays .classed .size, names)))
 
 is-allowed-requires : tie.Need-is-allowed-requires
 is-allowed-requires c κs =
@@ -191,4 +191,4 @@ returns-8 c sc d given state = unsuited (c .before) sc d given state (c .if6 .le
 
 pub step-spec : {M : Type 1} → statement M
 step-spec =
-    tie.close (tie.spec returns (λ c. search needs) (λ c κs. search needs) (λ c. search needs) (λ c κs. search needs) (λ c. search needs) (λ c. search needs) returns-2 returns-3 returns-4 (λ c. search needs) (λ c. search needs) (λ c. search needs) (λ c. search needs) (λ c. search needs) returns-5 event-of-requires (λ c. search needs) (λ c. search needs) (λ c. search needs) valued-requires slice-aggregate-worked (λ c. search (needs, c .before .before .before .before .before .before .before .valued .ok)) worked-requires (λ c. search needs) is-allowed-requires (λ c. search needs) perform-requires advance-requires (λ c κs. search needs) returns-6 returns-7 returns-8)
+    tie.close (tie.spec returns (λ c. search needs) (λ c κs. search needs) (λ c. search needs) (λ c κs. search needs) (λ c. search needs) (λ c. search needs) returns-2 returns-3 returns-4 (λ c. search needs) (λ c. search needs) (λ c. search needs) (λ c. search needs) (λ c. search needs) returns-5 event-of-requires (λ c. search needs) (λ c. search needs) (λ c. search needs) valued-requires (λ c. search needs) slice-aggregate-worked (λ c. search (needs, c .before .before .before .before .before .before .before .valued .ok)) worked-requires (λ c. search needs) is-allowed-requires (λ c. search needs) perform-requires advance-requires (λ c κs. search needs) returns-6 returns-7 returns-8)

@@ -13,5 +13,4 @@ returns-2 : tie.Need-returns-2
 returns-2 c = forOther (c .if1 .left) refl refl
 
 pub worked-spec : {M : Type 1} → statement M
-worked-spec =
-    tie.close (tie.spec (λ c. search needs) (λ c κs. search needs) (λ c. search needs) returns returns-2)
+worked-spec = tie.close (tie.spec (λ c κs. search needs) (λ c. search needs) returns returns-2)

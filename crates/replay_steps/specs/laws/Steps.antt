@@ -144,6 +144,6 @@ suited-none next values h kind = only-none next kind values (valuesIn values) h
 
 -- classes and marks that were worked on are ready for the event
 pub worked-ready : {t : List ℕ} {n runs k : ℕ} {e : RunEvent} {sc : Scenario} {d : State} {s : CodeState} {a : Active} → NextMove t runs k e sc d s a → Shape t n runs → Due n runs k (e .own) (e .peer) (e .row) → (vs : List Value) (names : List ℕ)
-    → Sets sc d a vs names → ((e .kind ≡ 1 → ⊥) → vs ≡ []) → {classes : List ℕ} {marks : List Bool} → Worked (rowsOf t) runs k (e .kind) names (s .classes) (s .marks) classes marks → Ready sc d a vs names classes marks
+    → Sets sc d a vs names → ((e .kind ≡ 1 → ⊥) → vs ≡ []) → {classes : List ℕ} {marks : List Bool} → Worked (rowsOf t) runs (k + 1) (e .kind) names (s .classes) (s .marks) classes marks → Ready sc d a vs names classes marks
 worked-ready next shape due vs names sets only (forRead kind refilled settled) = grown-ready next shape due vs names sets refilled settled
 worked-ready next shape due vs names sets only (forOther kind e f) = let z = only kind in rw (z, e, f) (kept-ready next (rw z at sets))

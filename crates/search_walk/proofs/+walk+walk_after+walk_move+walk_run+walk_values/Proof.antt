@@ -56,10 +56,8 @@ use Rattle.moves.proofs.is_allowed.Reads as is-allowed-reads
 use Rattle.read_partial.proofs.may_be_read.Reads as may-be-read-reads
 use Rattle.runs.proofs.event_of.Reads as event-of-reads
 use Rattle.state.proofs.advance.Reads as advance-reads
-use Rattle.state.proofs.copied.Reads as copied-reads
 use Rattle.moves.proofs.perform.Reads as perform-reads
-use Rattle.state.proofs.with_names.Reads as with-names-reads
-use Rattle.values.proofs.put.Reads as put-reads
+use Rattle.values.proofs.tried.Reads as tried-reads
 use Rattle.variables.proofs.beneath.Reads as beneath-reads
 use Rattle.variables.proofs.next_unset.Reads as next-unset-reads
 use Rattle.variables.proofs.next_value.Reads as next-value-reads
@@ -124,7 +122,7 @@ abbrev walk-run-env : ℕ → walk-run-lts.Claims
 walk-run-env t = (event-of-reads.Asked, event-of-reads.Learnt, no-values-reads.Asked, no-values-reads.Learnt, beneath-reads.Asked, beneath-reads.Learnt, walk-values-below t, walk-values.Post, walk-move-below t, walk-move.Post)
 
 abbrev walk-values-env : ℕ → walk-values-lts.Claims
-walk-values-env t = (next-unset-reads.Asked, next-unset-reads.Learnt, walk-move-below t, walk-move.Post, may-be-read-reads.Asked, may-be-read-reads.Learnt, next-value-reads.Asked, next-value-reads.Learnt, copied-reads.Asked, copied-reads.Learnt, put-reads.Asked, put-reads.Learnt, with-names-reads.Asked, with-names-reads.Learnt, with-value-reads.Asked, with-value-reads.Learnt, walk-values-below t, walk-values.Post, behind-reads.Asked, behind-reads.Learnt, is-clean-reads.Asked, is-clean-reads.Learnt, count-of-reads.Asked, count-of-reads.Learnt)
+walk-values-env t = (next-unset-reads.Asked, next-unset-reads.Learnt, walk-move-below t, walk-move.Post, may-be-read-reads.Asked, may-be-read-reads.Learnt, next-value-reads.Asked, next-value-reads.Learnt, tried-reads.Asked, tried-reads.Learnt, with-value-reads.Asked, with-value-reads.Learnt, walk-values-below t, walk-values.Post, behind-reads.Asked, behind-reads.Learnt, is-clean-reads.Asked, is-clean-reads.Learnt, count-of-reads.Asked, count-of-reads.Learnt)
 
 abbrev walk-Inv-loop : walk-lts.InvT-loop
 walk-Inv-loop trace₀ memory₀ file t plan course names classes marks reach count₀ k₀ trace memory count k =
@@ -136,13 +134,13 @@ abbrev walk-μ-loop : walk-lts.MeasureT-loop
 walk-μ-loop trace₀ memory₀ file t plan course names classes marks reach count₀ k₀ trace memory count k = plan .runs .count - k
 
 abbrev walk-values-Inv-loop : walk-values-lts.InvT-loop
-walk-values-Inv-loop trace₀ memory₀ file t plan course own names classes marks reach choice event values under x count₀ row₀ run₀ trace memory count row run =
+walk-values-Inv-loop trace₀ memory₀ file t plan course own names classes reach choice marks event values under x count₀ row₀ run₀ trace memory count row run =
     (trace ≡ trace₀) × (count ≤ reach .left) × (row ≤ plan .rows)
     × ((m : SomeChoice file t plan course own names classes marks (reach .at) choice) (unset : of-values.NextFor t own choice x) (more : x ≡ plan .rows → ⊥) → of-values.Tried unset reach m more row run count)
     × Remembers file t plan memory
 
 abbrev walk-values-μ-loop : walk-values-lts.MeasureT-loop
-walk-values-μ-loop trace₀ memory₀ file t plan course own names classes marks reach choice event values under x count₀ row₀ run₀ trace memory count row run = (plan .rows - row) * 6 + (6 - run)
+walk-values-μ-loop trace₀ memory₀ file t plan course own names classes reach choice marks event values under x count₀ row₀ run₀ trace memory count row run = (plan .rows - row) * 6 + (6 - run)
 
 -- there are four positions
 many : (t : ℕ) (c : walk-after-lts.Start (walk-after-env t) (walk-after-at t) walk-after.Post) → length (c .args .course .done) ≡ 4
@@ -386,158 +384,146 @@ walk-values-returns t c = (
   c .before .before .before .before .walk-move .ensures .1,
 )
 
+walk-values-slice-aggregate-may-be-read : (t : ℕ) → walk-values-lts.Need-slice-aggregate-may-be-read (walk-values-env t) (walk-values-at t) walk-values.Post walk-values-Inv-loop walk-values-μ-loop
+walk-values-slice-aggregate-may-be-read t c = search (needs, c .before .before .before .before .before .before .before .before .before .before .before .before .before .before .before .before .before .good .1 .1 .1 .1 .1 .1 .1 .1 .1 .0)
+
 walk-values-may-be-read-requires : (t : ℕ) → walk-values-lts.Need-may-be-read-requires (walk-values-env t) (walk-values-at t) walk-values.Post walk-values-Inv-loop walk-values-μ-loop
-walk-values-may-be-read-requires t c κs = let m = c .before .before .before .before .before .before .before .before .before .before .before .before .before .before .before .before .pre .1 .0 in (m .read .move .clear .here .reached .given .shape, (m .read .move .due, m .choosing .arrays .classed .size))
+walk-values-may-be-read-requires t c κs = let m = c .before .before .before .before .before .before .before .before .before .before .before .before .before .before .before .before .before .pre .1 .0 in (m .read .move .clear .here .reached .given .shape, (m .read .move .due, (m .choosing .arrays .classed .size, search (needs, c .before .before .before .before .before .before .before .before .before .before .before .before .before .before .before .before .before .good .1 .1 .1 .1 .1 .1 .1 .1 .1 .0))))
 
 walk-values-returns-2 : (t : ℕ) → walk-values-lts.Need-returns-2 (walk-values-env t) (walk-values-at t) walk-values.Post walk-values-Inv-loop walk-values-μ-loop
 walk-values-returns-2 t c = (
-  λ m. let s = c .before .before .before .before .before .before .before .before .before .before .before .before .before .before .before .before .before .before in
+  λ m. let s = c .before .before .before .before .before .before .before .before .before .before .before .before .before .before .before .before .before .before .before in
       from-state.finds-nil (m .read .sc) (s .args .reach .left)
       (branches-pruned (s .args .plan) (m .read .sc) (s .args .reach .depth) (m .read .d) (suc (s .args .choice .turn .run)) (m .read .a) (m .vs) _ (λ ws takes. c .before .may-be-read .ensures (m .read .sc) (m .read .d) (m .read .s) (m .read .a) (s .args .choice .from) (m .xs) (m .vs) ws _ (m .read .move .next) (m .read .isRead) (m .choosing .setting) (m .choosing .arrays) takes (not-true _ (c .if2 .taken))))
       (s .args .trace .now) (s .args .reach .at),
-  c .before .before .before .before .before .before .before .before .before .before .before .before .before .before .before .before .before .before .pre .1 .1 .remembers,
+  c .before .before .before .before .before .before .before .before .before .before .before .before .before .before .before .before .before .before .before .pre .1 .1 .remembers,
 )
 
 walk-values-loop-holds : (t : ℕ) → walk-values-lts.Need-loop-holds (walk-values-env t) (walk-values-at t) walk-values.Post walk-values-Inv-loop walk-values-μ-loop
-walk-values-loop-holds t c = let s = c .before .before .before .before .before .before .before .before .before .before .before .before .before .before .before .before .before .before in (refl, omega arith, omega arith, (λ m unset more. of-values.tried-none unset (s .args .reach) m more), s .pre .1 .1 .remembers)
+walk-values-loop-holds t c = let s = c .before .before .before .before .before .before .before .before .before .before .before .before .before .before .before .before .before .before .before in (refl, omega arith, omega arith, (λ m unset more. of-values.tried-none unset (s .args .reach) m more), s .pre .1 .1 .remembers)
 
 walk-values-next-value-requires : (t : ℕ) → walk-values-lts.Need-next-value-requires (walk-values-env t) (walk-values-at t) walk-values.Post walk-values-Inv-loop walk-values-μ-loop
 walk-values-next-value-requires t c κs =
-    let s = c .before .before .before .before .before .before .before .before .before .before .before .before .before .before .before .before .before .before .before in
+    let s = c .before .before .before .before .before .before .before .before .before .before .before .before .before .before .before .before .before .before .before .before in
     let m = s .pre .1 .0 in
-    (m .read .move .clear .here .reached .given .shape, (of-values.row-low (c .before .before .before .before .before .next-unset .ensures) (s .args .reach) m (c .before .before .before .if1 .left), c .loop .inv .2))
+    (m .read .move .clear .here .reached .given .shape, (of-values.row-low (c .before .before .before .before .before .before .next-unset .ensures) (s .args .reach) m (c .before .before .before .before .if1 .left), c .loop .inv .2))
 
 walk-values-same-length-3 : (t : ℕ) → walk-values-lts.Need-same-length-3 (walk-values-env t) (walk-values-at t) walk-values.Post walk-values-Inv-loop walk-values-μ-loop
 walk-values-same-length-3 t c = omega (arith, ap length (c .before .before .before .loop .inv .0))
 
 walk-values-same-length-4 : (t : ℕ) → walk-values-lts.Need-same-length-4 (walk-values-env t) (walk-values-at t) walk-values.Post walk-values-Inv-loop walk-values-μ-loop
-walk-values-same-length-4 t c = omega (arith, c .before .before .before .loop .inv .4 .size, c .before .before .before .before .before .before .before .before .before .before .before .before .before .before .before .before .before .before .before .before .before .before .pre .1 .1 .remembers .size)
+walk-values-same-length-4 t c = omega (arith, c .before .before .before .loop .inv .4 .size, c .before .before .before .before .before .before .before .before .before .before .before .before .before .before .before .before .before .before .before .before .before .before .before .pre .1 .1 .remembers .size)
 
 walk-values-returns-3 : (t : ℕ) → walk-values-lts.Need-returns-3 (walk-values-env t) (walk-values-at t) walk-values.Post walk-values-Inv-loop walk-values-μ-loop
 walk-values-returns-3 t c = (
-  λ m. let s = c .before .before .before .before .before .before .before .before .before .before .before .before .before .before .before .before .before .before .before .before .before .before in
+  λ m. let s = c .before .before .before .before .before .before .before .before .before .before .before .before .before .before .before .before .before .before .before .before .before .before .before in
       let l = c .before .before .before .loop in
-      let unset = c .before .before .before .before .before .before .before .before .next-unset .ensures in
-      let more = c .before .before .before .before .before .before .if1 .left in
+      let unset = c .before .before .before .before .before .before .before .before .before .next-unset .ensures in
+      let more = c .before .before .before .before .before .before .before .if1 .left in
       rw (← l .inv .0) (of-values.tried-end unset (s .args .reach) m more (c .before .before .next-value .ensures) (c .enum-told .given .1) (l .inv .3 m unset more) (l .trace)),
   c .before .before .before .loop .inv .4,
 )
 
-walk-values-copied-requires : (t : ℕ) → walk-values-lts.Need-copied-requires (walk-values-env t) (walk-values-at t) walk-values.Post walk-values-Inv-loop walk-values-μ-loop
-walk-values-copied-requires t c κs = c .before .before .before .before .before .before .before .before .before .before .before .before .before .before .before .before .before .before .before .before .before .before .before .pre .1 .0 .choosing .setting .size
+walk-values-add-t47 : (t : ℕ) → walk-values-lts.Need-add-t47 (walk-values-env t) (walk-values-at t) walk-values.Post walk-values-Inv-loop walk-values-μ-loop
+walk-values-add-t47 t c = let m = c .before .before .before .before .before .before .before .before .before .before .before .before .before .before .before .before .before .before .before .before .before .before .before .before .before .before .before .pre .1 .0 .read in record { fits = omega (arith, m .move .clear .here .reached .given .runs .few, m .move .due .isRun) }
 
-walk-values-add-put : (t : ℕ) → walk-values-lts.Need-add-put (walk-values-env t) (walk-values-at t) walk-values.Post walk-values-Inv-loop walk-values-μ-loop
-walk-values-add-put t c = let m = c .before .before .before .before .before .before .before .before .before .before .before .before .before .before .before .before .before .before .before .before .before .before .before .before .before .pre .1 .0 .read in record { fits = omega (arith, m .move .clear .here .reached .given .runs .few, m .move .due .isRun) }
-
-walk-values-put-requires : (t : ℕ) → walk-values-lts.Need-put-requires (walk-values-env t) (walk-values-at t) walk-values.Post walk-values-Inv-loop walk-values-μ-loop
-walk-values-put-requires t c κs =
-    let s = c .before .before .before .before .before .before .before .before .before .before .before .before .before .before .before .before .before .before .before .before .before .before .before .before .before in
+walk-values-tried-requires : (t : ℕ) → walk-values-lts.Need-tried-requires (walk-values-env t) (walk-values-at t) walk-values.Post walk-values-Inv-loop walk-values-μ-loop
+walk-values-tried-requires t c κs =
+    let s = c .before .before .before .before .before .before .before .before .before .before .before .before .before .before .before .before .before .before .before .before .before .before .before .before .before .before .before in
     let m = s .pre .1 .0 in
-    let unset = c .before .before .before .before .before .before .before .before .before .before .before .next-unset .ensures in
-    let more = c .before .before .before .before .before .before .before .before .before .if1 .left in
-    let low = of-values.value-within unset (s .args .reach) m more (c .before .before .before .before .before .next-value .ensures) (c .before .before .before .next .given .1) in
-    let given = m .read .move .clear .here .reached .given in
-    (omega (arith, of-values.row-low unset (s .args .reach) m more, given .shape .few), (omega (arith, given .runs .few, m .read .move .due .isRun), (omega (arith, low .0, given .shape .few), low .1)))
+    let unset = c .before .before .before .before .before .before .before .before .before .before .before .before .before .next-unset .ensures in
+    let more = c .before .before .before .before .before .before .before .before .before .before .before .if1 .left in
+    let low = of-values.value-within unset (s .args .reach) m more (c .before .before .before .before .before .before .next-value .ensures) (c .before .before .before .before .next .given .1) in
+    let shape = m .read .move .clear .here .reached .given .shape in
+    ((shape, (omega (arith, m .read .move .due .isRun), (omega (arith, of-values.row-low unset (s .args .reach) m more, shape .few), (omega (arith, low .0, shape .few), low .1)))), ((search needs, search needs), (m .choosing .setting .size, m .choosing .arrays .classed .size)))
 
-walk-values-copied-requires-2 : (t : ℕ) → walk-values-lts.Need-copied-requires-2 (walk-values-env t) (walk-values-at t) walk-values.Post walk-values-Inv-loop walk-values-μ-loop
-walk-values-copied-requires-2 t c κs = c .before .before .before .before .before .before .before .before .before .before .before .before .before .before .before .before .before .before .before .before .before .before .before .before .before .before .pre .1 .0 .choosing .arrays .classed .size
-
-walk-values-add-with-names : (t : ℕ) → walk-values-lts.Need-add-with-names (walk-values-env t) (walk-values-at t) walk-values.Post walk-values-Inv-loop walk-values-μ-loop
-walk-values-add-with-names t c = let m = c .before .before .before .before .before .before .before .before .before .before .before .before .before .before .before .before .before .before .before .before .before .before .before .before .before .before .before .before .before .before .pre .1 .0 .read in record { fits = omega (arith, m .move .clear .here .reached .given .runs .few, m .move .due .isRun) }
-
-walk-values-with-names-requires : (t : ℕ) → walk-values-lts.Need-with-names-requires (walk-values-env t) (walk-values-at t) walk-values.Post walk-values-Inv-loop walk-values-μ-loop
-walk-values-with-names-requires t c κs =
-    let m = c .before .before .before .before .before .before .before .before .before .before .before .before .before .before .before .before .before .before .before .before .before .before .before .before .before .before .before .before .before .before .pre .1 .0 in
-    let size = ap length (c .before .before .before .before .put .ensures) ∙ length-set (c .before .before .before .before .before .before .copied .result) _ _ ∙ ap length (c .before .before .before .before .before .before .copied .ensures) ∙ m .choosing .setting .size in
-    (m .read .move .clear .here .reached .given .shape, (ap length (c .before .before .before .copied2 .ensures) ∙ m .choosing .arrays .classed .size, (size, omega (arith, m .read .move .due .isRun))))
-
-walk-values-sub-t40 : (t : ℕ) → walk-values-lts.Need-sub-t40 (walk-values-env t) (walk-values-at t) walk-values.Post walk-values-Inv-loop walk-values-μ-loop
-walk-values-sub-t40 t c = omega (arith, c .before .before .before .before .before .before .before .before .before .before .before .before .before .before .before .before .before .before .loop .inv .1)
+walk-values-sub-t47 : (t : ℕ) → walk-values-lts.Need-sub-t47 (walk-values-env t) (walk-values-at t) walk-values.Post walk-values-Inv-loop walk-values-μ-loop
+walk-values-sub-t47 t c = omega (arith, c .before .before .before .before .before .before .before .before .before .before .before .before .before .before .before .loop .inv .1)
 
 walk-values-with-value-requires : (t : ℕ) → walk-values-lts.Need-with-value-requires (walk-values-env t) (walk-values-at t) walk-values.Post walk-values-Inv-loop walk-values-μ-loop
 walk-values-with-value-requires t c κs =
-    let s = c .before .before .before .before .before .before .before .before .before .before .before .before .before .before .before .before .before .before .before .before .before .before .before .before .before .before .before .before .before .before .before .before .before .before .before .before .before in
+    let s = c .before .before .before .before .before .before .before .before .before .before .before .before .before .before .before .before .before .before .before .before .before .before .before .before .before .before .before .before .before .before .before .before .before .before .before in
     let m = s .pre .1 .0 in
-    let unset = c .before .before .before .before .before .before .before .before .before .before .before .before .before .before .before .before .before .before .before .before .before .before .before .next-unset .ensures in
-    let more = c .before .before .before .before .before .before .before .before .before .before .before .before .before .before .before .before .before .before .before .before .before .if1 .left in
-    let low = of-values.value-within unset (s .args .reach) m more (c .before .before .before .before .before .before .before .before .before .before .before .before .before .before .before .before .before .next-value .ensures) (c .before .before .before .before .before .before .before .before .before .before .before .before .before .before .before .next .given .1) in
+    let unset = c .before .before .before .before .before .before .before .before .before .before .before .before .before .before .before .before .before .before .before .before .before .next-unset .ensures in
+    let more = c .before .before .before .before .before .before .before .before .before .before .before .before .before .before .before .before .before .before .before .if1 .left in
+    let low = of-values.value-within unset (s .args .reach) m more (c .before .before .before .before .before .before .before .before .before .before .before .before .before .before .next-value .ensures) (c .before .before .before .before .before .before .before .before .before .before .before .before .next .given .1) in
     (of-values.few-chosen unset (s .args .reach) m more, (omega (arith, low .0, m .read .move .clear .here .reached .given .shape .few), omega (arith, low .1)))
 
-walk-values-add-t57 : (t : ℕ) → walk-values-lts.Need-add-t57 (walk-values-env t) (walk-values-at t) walk-values.Post walk-values-Inv-loop walk-values-μ-loop
-walk-values-add-t57 t c =
-    let s = c .before .before .before .before .before .before .before .before .before .before .before .before .before .before .before .before .before .before .before .before .before .before .before .before .before .before .before .before .before .before .before .before .before .before .before .before .before .before in
+walk-values-add-t61 : (t : ℕ) → walk-values-lts.Need-add-t61 (walk-values-env t) (walk-values-at t) walk-values.Post walk-values-Inv-loop walk-values-μ-loop
+walk-values-add-t61 t c =
+    let s = c .before .before .before .before .before .before .before .before .before .before .before .before .before .before .before .before .before .before .before .before .before .before .before .before .before .before .before .before .before .before .before .before .before .before .before .before in
     let m = s .pre .1 .0 in
-    record { fits = omega (arith, of-values.row-low (c .before .before .before .before .before .before .before .before .before .before .before .before .before .before .before .before .before .before .before .before .before .before .before .before .next-unset .ensures) (s .args .reach) m (c .before .before .before .before .before .before .before .before .before .before .before .before .before .before .before .before .before .before .before .before .before .before .if1 .left), m .read .move .clear .here .reached .given .shape .few) }
+    record { fits = omega (arith, of-values.row-low (c .before .before .before .before .before .before .before .before .before .before .before .before .before .before .before .before .before .before .before .before .before .before .next-unset .ensures) (s .args .reach) m (c .before .before .before .before .before .before .before .before .before .before .before .before .before .before .before .before .before .before .before .before .if1 .left), m .read .move .clear .here .reached .given .shape .few) }
 
 walk-values-walk-values-requires : (t : ℕ) → walk-values-lts.Need-walk-values-requires (walk-values-env t) (walk-values-at t) walk-values.Post walk-values-Inv-loop walk-values-μ-loop
 walk-values-walk-values-requires t c κs =
-    let s = c .before .before .before .before .before .before .before .before .before .before .before .before .before .before .before .before .before .before .before .before .before .before .before .before .before .before .before .before .before .before .before .before .before .before .before .before .before .before in
+    let s = c .before .before .before .before .before .before .before .before .before .before .before .before .before .before .before .before .before .before .before .before .before .before .before .before .before .before .before .before .before .before .before .before .before .before .before .before in
     let m = s .pre .1 .0 in
-    let l = c .before .before .before .before .before .before .before .before .before .before .before .before .before .before .before .before .before .before .before .loop in
-    let unset = c .before .before .before .before .before .before .before .before .before .before .before .before .before .before .before .before .before .before .before .before .before .before .before .before .next-unset .ensures in
-    let more = c .before .before .before .before .before .before .before .before .before .before .before .before .before .before .before .before .before .before .before .before .before .before .if1 .left in (
+    let l = c .before .before .before .before .before .before .before .before .before .before .before .before .before .before .before .before .loop in
+    let unset = c .before .before .before .before .before .before .before .before .before .before .before .before .before .before .before .before .before .before .before .before .before .before .next-unset .ensures in
+    let more = c .before .before .before .before .before .before .before .before .before .before .before .before .before .before .before .before .before .before .before .before .if1 .left in (
       omega (arith, s .pre .0, of-values.row-low unset (s .args .reach) m more, of-values.row-from unset (s .args .reach) m more),
-      (of-values.grown unset (s .args .reach) m more (c .before .before .before .before .before .before .before .before .before .before .before .before .before .before .before .before .before .before .next-value .ensures) (c .before .before .before .before .before .before .before .before .before .before .before .before .before .before .before .before .next .given .1) (l .inv .3 m unset more) (c .before .before .before .before .before .before .before .with-names .result) (rw (c .before .before .before .before .before .before .before .before .before .before .before .before .before .before .copied .ensures) at (c .before .before .before .before .before .before .before .before .before .before .before .before .put .ensures)) (rw (c .before .before .before .before .before .before .before .before .before .before .before .copied2 .ensures) at (c .before .before .before .before .before .before .before .with-names .ensures .0)) (c .before .before .before .before .before .before .before .with-names .ensures .1) (c .with-value .ensures), room-on (s .pre .1 .1) (l .inv .0) (l .inv .4) _ (omega arith) (omega arith)),
+      (of-values.grown unset (s .args .reach) m more (c .before .before .before .before .before .before .before .before .before .before .before .before .before .before .before .next-value .ensures) (c .before .before .before .before .before .before .before .before .before .before .before .before .before .next .given .1) (l .inv .3 m unset more) (c .before .before .before .before .before .before .before .before .tried .result) (c .before .before .before .before .before .before .before .before .tried .ensures .0) (c .before .before .before .before .before .before .before .before .tried .ensures .1 .0) (c .before .before .before .before .before .before .before .before .tried .ensures .1 .1) (c .with-value .ensures), room-on (s .pre .1 .1) (l .inv .0) (l .inv .4) _ (omega arith) (omega arith)),
     )
 
 walk-values-behind-requires : (t : ℕ) → walk-values-lts.Need-behind-requires (walk-values-env t) (walk-values-at t) walk-values.Post walk-values-Inv-loop walk-values-μ-loop
 walk-values-behind-requires t c κs =
-    let s = c .before .before .before .before .before .before .before .before .before .before .before .before .before .before .before .before .before .before .before .before .before .before .before .before .before .before .before .before .before .before .before .before .before .before .before .before .before .before .before .before .before .before .before in
+    let s = c .before .before .before .before .before .before .before .before .before .before .before .before .before .before .before .before .before .before .before .before .before .before .before .before .before .before .before .before .before .before .before .before .before .before .before .before .before .before .before .before .before in
     let m = s .pre .1 .0 in
-    let l = c .before .before .before .before .before .before .before .before .before .before .before .before .before .before .before .before .before .before .before .before .before .before .before .before .loop in
-    let unset = c .before .before .before .before .before .before .before .before .before .before .before .before .before .before .before .before .before .before .before .before .before .before .before .before .before .before .before .before .before .next-unset .ensures in
-    let more = c .before .before .before .before .before .before .before .before .before .before .before .before .before .before .before .before .before .before .before .before .before .before .before .before .before .before .before .if1 .left in
-    let size = of-values.tried-size unset (s .args .reach) m more (c .before .before .before .before .before .before .before .before .before .before .before .before .before .before .before .before .before .before .before .before .before .before .before .next-value .ensures) (c .before .before .before .before .before .before .before .before .before .before .before .before .before .before .before .before .before .before .before .before .before .next .given .1) (l .inv .3 m unset more) (c .before .before .before .before .before .before .before .before .before .before .before .before .with-names .result) (rw (c .before .before .before .before .before .before .before .before .before .before .before .before .before .before .before .before .before .before .before .copied .ensures) at (c .before .before .before .before .before .before .before .before .before .before .before .before .before .before .before .before .before .put .ensures)) (rw (c .before .before .before .before .before .before .before .before .before .before .before .before .before .before .before .before .copied2 .ensures) at (c .before .before .before .before .before .before .before .before .before .before .before .before .with-names .ensures .0)) (c .before .before .before .before .before .before .before .before .before .before .before .before .with-names .ensures .1) (c .before .before .before .before .before .with-value .ensures) (c .before .before .before .before .walk-values .ensures .0) refl in
+    let l = c .before .before .before .before .before .before .before .before .before .before .before .before .before .before .before .before .before .before .before .before .before .loop in
+    let unset = c .before .before .before .before .before .before .before .before .before .before .before .before .before .before .before .before .before .before .before .before .before .before .before .before .before .before .before .next-unset .ensures in
+    let more = c .before .before .before .before .before .before .before .before .before .before .before .before .before .before .before .before .before .before .before .before .before .before .before .before .before .if1 .left in
+    let size = of-values.tried-size unset (s .args .reach) m more (c .before .before .before .before .before .before .before .before .before .before .before .before .before .before .before .before .before .before .before .before .next-value .ensures) (c .before .before .before .before .before .before .before .before .before .before .before .before .before .before .before .before .before .before .next .given .1) (l .inv .3 m unset more) (c .before .before .before .before .before .before .before .before .before .before .before .before .before .tried .result) (c .before .before .before .before .before .before .before .before .before .before .before .before .before .tried .ensures .0) (c .before .before .before .before .before .before .before .before .before .before .before .before .before .tried .ensures .1 .0) (c .before .before .before .before .before .before .before .before .before .before .before .before .before .tried .ensures .1 .1) (c .before .before .before .before .before .with-value .ensures) (c .before .before .before .before .walk-values .ensures .0) refl in
     (omega (arith, l .inv .1, s .pre .1 .1 .budget), omega (arith, size, s .pre .1 .1 .budget))
 
 walk-values-same-length-5 : (t : ℕ) → walk-values-lts.Need-same-length-5 (walk-values-env t) (walk-values-at t) walk-values.Post walk-values-Inv-loop walk-values-μ-loop
-walk-values-same-length-5 t c = omega (arith, c .before .before .before .before .before .before .trace2 .given, ap length (c .before .before .before .before .before .before .before .before .before .before .before .before .before .before .before .before .before .before .before .before .before .before .before .before .before .before .before .loop .inv .0))
+walk-values-same-length-5 t c = omega (arith, c .before .before .before .before .before .before .trace2 .given, ap length (c .before .before .before .before .before .before .before .before .before .before .before .before .before .before .before .before .before .before .before .before .before .before .before .before .loop .inv .0))
 
 walk-values-same-length-6 : (t : ℕ) → walk-values-lts.Need-same-length-6 (walk-values-env t) (walk-values-at t) walk-values.Post walk-values-Inv-loop walk-values-μ-loop
-walk-values-same-length-6 t c = omega (arith, c .before .before .before .before .before .before .before .walk-values .ensures .1 .size, c .before .before .before .before .before .before .before .before .before .before .before .before .before .before .before .before .before .before .before .before .before .before .before .before .before .before .before .before .before .before .before .before .before .before .before .before .before .before .before .before .before .before .before .before .before .before .pre .1 .1 .remembers .size)
+walk-values-same-length-6 t c = omega (arith, c .before .before .before .before .before .before .before .walk-values .ensures .1 .size, c .before .before .before .before .before .before .before .before .before .before .before .before .before .before .before .before .before .before .before .before .before .before .before .before .before .before .before .before .before .before .before .before .before .before .before .before .before .before .before .before .before .before .before .before .pre .1 .1 .remembers .size)
 
 walk-values-returns-4 : (t : ℕ) → walk-values-lts.Need-returns-4 (walk-values-env t) (walk-values-at t) walk-values.Post walk-values-Inv-loop walk-values-μ-loop
 walk-values-returns-4 t c = (
-  λ m. let s = c .before .before .before .before .before .before .before .before .before .before .before .before .before .before .before .before .before .before .before .before .before .before .before .before .before .before .before .before .before .before .before .before .before .before .before .before .before .before .before .before .before .before .before .before .before .before in
-      let l = c .before .before .before .before .before .before .before .before .before .before .before .before .before .before .before .before .before .before .before .before .before .before .before .before .before .before .before .loop in
-      let unset = c .before .before .before .before .before .before .before .before .before .before .before .before .before .before .before .before .before .before .before .before .before .before .before .before .before .before .before .before .before .before .before .before .next-unset .ensures in
-      let more = c .before .before .before .before .before .before .before .before .before .before .before .before .before .before .before .before .before .before .before .before .before .before .before .before .before .before .before .before .before .before .if1 .left in
-      rw (← l .inv .0) (of-values.tried-stops unset (s .args .reach) m more (c .before .before .before .before .before .before .before .before .before .before .before .before .before .before .before .before .before .before .before .before .before .before .before .before .before .before .next-value .ensures) (c .before .before .before .before .before .before .before .before .before .before .before .before .before .before .before .before .before .before .before .before .before .before .before .before .next .given .1) (l .inv .3 m unset more) (c .before .before .before .before .before .before .before .before .before .before .before .before .before .before .before .with-names .result) (rw (c .before .before .before .before .before .before .before .before .before .before .before .before .before .before .before .before .before .before .before .before .before .before .copied .ensures) at (c .before .before .before .before .before .before .before .before .before .before .before .before .before .before .before .before .before .before .before .before .put .ensures)) (rw (c .before .before .before .before .before .before .before .before .before .before .before .before .before .before .before .before .before .before .before .copied2 .ensures) at (c .before .before .before .before .before .before .before .before .before .before .before .before .before .before .before .with-names .ensures .0)) (c .before .before .before .before .before .before .before .before .before .before .before .before .before .before .before .with-names .ensures .1) (c .before .before .before .before .before .before .before .before .with-value .ensures) (c .before .before .before .before .before .before .before .walk-values .ensures .0) (c .before .before .behind .ensures) (sym (c .before .is-clean .ensures) ∙ not-true _ (c .if3 .taken))),
+  λ m. let s = c .before .before .before .before .before .before .before .before .before .before .before .before .before .before .before .before .before .before .before .before .before .before .before .before .before .before .before .before .before .before .before .before .before .before .before .before .before .before .before .before .before .before .before .before in
+      let l = c .before .before .before .before .before .before .before .before .before .before .before .before .before .before .before .before .before .before .before .before .before .before .before .before .loop in
+      let unset = c .before .before .before .before .before .before .before .before .before .before .before .before .before .before .before .before .before .before .before .before .before .before .before .before .before .before .before .before .before .before .next-unset .ensures in
+      let more = c .before .before .before .before .before .before .before .before .before .before .before .before .before .before .before .before .before .before .before .before .before .before .before .before .before .before .before .before .if1 .left in
+      rw (← l .inv .0) (of-values.tried-stops unset (s .args .reach) m more (c .before .before .before .before .before .before .before .before .before .before .before .before .before .before .before .before .before .before .before .before .before .before .before .next-value .ensures) (c .before .before .before .before .before .before .before .before .before .before .before .before .before .before .before .before .before .before .before .before .before .next .given .1) (l .inv .3 m unset more) (c .before .before .before .before .before .before .before .before .before .before .before .before .before .before .before .before .tried .result) (c .before .before .before .before .before .before .before .before .before .before .before .before .before .before .before .before .tried .ensures .0) (c .before .before .before .before .before .before .before .before .before .before .before .before .before .before .before .before .tried .ensures .1 .0) (c .before .before .before .before .before .before .before .before .before .before .before .before .before .before .before .before .tried .ensures .1 .1) (c .before .before .before .before .before .before .before .before .with-value .ensures) (c .before .before .before .before .before .before .before .walk-values .ensures .0) (c .before .before .behind .ensures) (sym (c .before .is-clean .ensures) ∙ not-true _ (c .if3 .taken))),
   c .before .before .before .before .before .before .before .walk-values .ensures .1,
 )
 
 walk-values-add-run : (t : ℕ) → walk-values-lts.Need-add-run (walk-values-env t) (walk-values-at t) walk-values.Post walk-values-Inv-loop walk-values-μ-loop
 walk-values-add-run t c =
-    let s = c .before .before .before .before .before .before .before .before .before .before .before .before .before .before .before .before .before .before .before .before .before .before .before .before .before .before .before .before .before .before .before .before .before .before .before .before .before .before .before .before .before .before .before .before .before .before .before in
-    record { fits = omega (arith, of-values.value-within (c .before .before .before .before .before .before .before .before .before .before .before .before .before .before .before .before .before .before .before .before .before .before .before .before .before .before .before .before .before .before .before .before .before .next-unset .ensures) (s .args .reach) (s .pre .1 .0) (c .before .before .before .before .before .before .before .before .before .before .before .before .before .before .before .before .before .before .before .before .before .before .before .before .before .before .before .before .before .before .before .if1 .left) (c .before .before .before .before .before .before .before .before .before .before .before .before .before .before .before .before .before .before .before .before .before .before .before .before .before .before .before .next-value .ensures) (c .before .before .before .before .before .before .before .before .before .before .before .before .before .before .before .before .before .before .before .before .before .before .before .before .before .next .given .1) .1) }
+    let s = c .before .before .before .before .before .before .before .before .before .before .before .before .before .before .before .before .before .before .before .before .before .before .before .before .before .before .before .before .before .before .before .before .before .before .before .before .before .before .before .before .before .before .before .before .before in
+    record { fits = omega (arith, of-values.value-within (c .before .before .before .before .before .before .before .before .before .before .before .before .before .before .before .before .before .before .before .before .before .before .before .before .before .before .before .before .before .before .before .next-unset .ensures) (s .args .reach) (s .pre .1 .0) (c .before .before .before .before .before .before .before .before .before .before .before .before .before .before .before .before .before .before .before .before .before .before .before .before .before .before .before .before .before .if1 .left) (c .before .before .before .before .before .before .before .before .before .before .before .before .before .before .before .before .before .before .before .before .before .before .before .before .next-value .ensures) (c .before .before .before .before .before .before .before .before .before .before .before .before .before .before .before .before .before .before .before .before .before .before .next .given .1) .1) }
 
 walk-values-loop-less : (t : ℕ) → walk-values-lts.Need-loop-less (walk-values-env t) (walk-values-at t) walk-values.Post walk-values-Inv-loop walk-values-μ-loop
 walk-values-loop-less t c =
-    let s = c .before .before .before .before .before .before .before .before .before .before .before .before .before .before .before .before .before .before .before .before .before .before .before .before .before .before .before .before .before .before .before .before .before .before .before .before .before .before .before .before .before .before .before .before .before .before .before in
+    let s = c .before .before .before .before .before .before .before .before .before .before .before .before .before .before .before .before .before .before .before .before .before .before .before .before .before .before .before .before .before .before .before .before .before .before .before .before .before .before .before .before .before .before .before .before .before in
     let m = s .pre .1 .0 in
-    let unset = c .before .before .before .before .before .before .before .before .before .before .before .before .before .before .before .before .before .before .before .before .before .before .before .before .before .before .before .before .before .before .before .before .before .next-unset .ensures in
-    let more = c .before .before .before .before .before .before .before .before .before .before .before .before .before .before .before .before .before .before .before .before .before .before .before .before .before .before .before .before .before .before .before .if1 .left in
-    let low = of-values.value-within unset (s .args .reach) m more (c .before .before .before .before .before .before .before .before .before .before .before .before .before .before .before .before .before .before .before .before .before .before .before .before .before .before .before .next-value .ensures) (c .before .before .before .before .before .before .before .before .before .before .before .before .before .before .before .before .before .before .before .before .before .before .before .before .before .next .given .1) in
-    value-falls (s .args .plan .rows) _ _ _ _ (of-values.value-later unset (s .args .reach) m more (c .before .before .before .before .before .before .before .before .before .before .before .before .before .before .before .before .before .before .before .before .before .before .before .before .before .before .before .next-value .ensures) (c .before .before .before .before .before .before .before .before .before .before .before .before .before .before .before .before .before .before .before .before .before .before .before .before .before .next .given .1)) (low .0) (low .1)
+    let unset = c .before .before .before .before .before .before .before .before .before .before .before .before .before .before .before .before .before .before .before .before .before .before .before .before .before .before .before .before .before .before .before .next-unset .ensures in
+    let more = c .before .before .before .before .before .before .before .before .before .before .before .before .before .before .before .before .before .before .before .before .before .before .before .before .before .before .before .before .before .if1 .left in
+    let low = of-values.value-within unset (s .args .reach) m more (c .before .before .before .before .before .before .before .before .before .before .before .before .before .before .before .before .before .before .before .before .before .before .before .before .next-value .ensures) (c .before .before .before .before .before .before .before .before .before .before .before .before .before .before .before .before .before .before .before .before .before .before .next .given .1) in
+    value-falls (s .args .plan .rows) _ _ _ _ (of-values.value-later unset (s .args .reach) m more (c .before .before .before .before .before .before .before .before .before .before .before .before .before .before .before .before .before .before .before .before .before .before .before .before .next-value .ensures) (c .before .before .before .before .before .before .before .before .before .before .before .before .before .before .before .before .before .before .before .before .before .before .next .given .1)) (low .0) (low .1)
 
 walk-values-loop-again : (t : ℕ) → walk-values-lts.Need-loop-again (walk-values-env t) (walk-values-at t) walk-values.Post walk-values-Inv-loop walk-values-μ-loop
 walk-values-loop-again t c =
-    let s = c .before .before .before .before .before .before .before .before .before .before .before .before .before .before .before .before .before .before .before .before .before .before .before .before .before .before .before .before .before .before .before .before .before .before .before .before .before .before .before .before .before .before .before .before .before .before .before in
-    let l = c .before .before .before .before .before .before .before .before .before .before .before .before .before .before .before .before .before .before .before .before .before .before .before .before .before .before .before .before .loop in
+    let s = c .before .before .before .before .before .before .before .before .before .before .before .before .before .before .before .before .before .before .before .before .before .before .before .before .before .before .before .before .before .before .before .before .before .before .before .before .before .before .before .before .before .before .before .before .before in
+    let l = c .before .before .before .before .before .before .before .before .before .before .before .before .before .before .before .before .before .before .before .before .before .before .before .before .before .loop in
     let m = s .pre .1 .0 in
-    let unset = c .before .before .before .before .before .before .before .before .before .before .before .before .before .before .before .before .before .before .before .before .before .before .before .before .before .before .before .before .before .before .before .before .before .next-unset .ensures in
-    let more = c .before .before .before .before .before .before .before .before .before .before .before .before .before .before .before .before .before .before .before .before .before .before .before .before .before .before .before .before .before .before .before .if1 .left in
-    let value = c .before .before .before .before .before .before .before .before .before .before .before .before .before .before .before .before .before .before .before .before .before .before .before .before .before .before .before .next-value .ensures in
-    let put = rw (c .before .before .before .before .before .before .before .before .before .before .before .before .before .before .before .before .before .before .before .before .before .before .before .copied .ensures) at (c .before .before .before .before .before .before .before .before .before .before .before .before .before .before .before .before .before .before .before .before .before .put .ensures) in
-    let refilled = rw (c .before .before .before .before .before .before .before .before .before .before .before .before .before .before .before .before .before .before .before .before .copied2 .ensures) at (c .before .before .before .before .before .before .before .before .before .before .before .before .before .before .before .before .with-names .ensures .0) in
-    let settled = c .before .before .before .before .before .before .before .before .before .before .before .before .before .before .before .before .with-names .ensures .1 in
+    let unset = c .before .before .before .before .before .before .before .before .before .before .before .before .before .before .before .before .before .before .before .before .before .before .before .before .before .before .before .before .before .before .before .next-unset .ensures in
+    let more = c .before .before .before .before .before .before .before .before .before .before .before .before .before .before .before .before .before .before .before .before .before .before .before .before .before .before .before .before .before .if1 .left in
+    let value = c .before .before .before .before .before .before .before .before .before .before .before .before .before .before .before .before .before .before .before .before .before .before .before .before .next-value .ensures in
+    let put = c .before .before .before .before .before .before .before .before .before .before .before .before .before .before .before .before .before .tried .ensures .0 in
+    let refilled = c .before .before .before .before .before .before .before .before .before .before .before .before .before .before .before .before .before .tried .ensures .1 .0 in
+    let settled = c .before .before .before .before .before .before .before .before .before .before .before .before .before .before .before .before .before .tried .ensures .1 .1 in
     let told = c .before .before .before .before .before .before .before .before .walk-values .ensures .0 in
     let clean = sym (c .before .before .is-clean .ensures) ∙ not-false _ (c .before .if3 .left) in
-    let first = of-values.tried-on unset (s .args .reach) m more value (c .before .before .before .before .before .before .before .before .before .before .before .before .before .before .before .before .before .before .before .before .before .before .before .before .before .next .given .1) (l .inv .3 m unset more) (c .before .before .before .before .before .before .before .before .before .before .before .before .before .before .before .before .with-names .result) put refilled settled (c .before .before .before .before .before .before .before .before .before .with-value .ensures) told (c .before .before .before .behind .ensures) clean in (
+    let first = of-values.tried-on unset (s .args .reach) m more value (c .before .before .before .before .before .before .before .before .before .before .before .before .before .before .before .before .before .before .before .before .before .before .next .given .1) (l .inv .3 m unset more) (c .before .before .before .before .before .before .before .before .before .before .before .before .before .before .before .before .before .tried .result) put refilled settled (c .before .before .before .before .before .before .before .before .before .with-value .ensures) told (c .before .before .before .behind .ensures) clean in (
       first .1 ∙ l .inv .0,
       omega (arith, first .2, c .count-of .ensures),
-      omega (arith, of-values.value-within unset (s .args .reach) m more value (c .before .before .before .before .before .before .before .before .before .before .before .before .before .before .before .before .before .before .before .before .before .before .before .before .before .next .given .1) .0),
-      (λ m unset more. rw (c .count-of .ensures) (of-values.tried-on unset (s .args .reach) m more value (c .before .before .before .before .before .before .before .before .before .before .before .before .before .before .before .before .before .before .before .before .before .before .before .before .before .next .given .1) (l .inv .3 m unset more) (c .before .before .before .before .before .before .before .before .before .before .before .before .before .before .before .before .with-names .result) put refilled settled (c .before .before .before .before .before .before .before .before .before .with-value .ensures) told (c .before .before .before .behind .ensures) clean .0)),
+      omega (arith, of-values.value-within unset (s .args .reach) m more value (c .before .before .before .before .before .before .before .before .before .before .before .before .before .before .before .before .before .before .before .before .before .before .next .given .1) .0),
+      (λ m unset more. rw (c .count-of .ensures) (of-values.tried-on unset (s .args .reach) m more value (c .before .before .before .before .before .before .before .before .before .before .before .before .before .before .before .before .before .before .before .before .before .before .next .given .1) (l .inv .3 m unset more) (c .before .before .before .before .before .before .before .before .before .before .before .before .before .before .before .before .before .tried .result) put refilled settled (c .before .before .before .before .before .before .before .before .before .with-value .ensures) told (c .before .before .before .behind .ensures) clean .0)),
       c .before .before .before .before .before .before .before .before .walk-values .ensures .1,
     )
 
@@ -548,4 +534,4 @@ pub +walk+walk-after+walk-move+walk-run+walk-values-spec : {M : Type 1} → stat
     (λ t. walk-after-lts.spec (walk-after-env t) (walk-after-at t) walk-after.Post (walk-after-advance-requires t) (walk-after-key-of-requires t) (walk-after-look-up-requires t) (λ c κs. search needs) (λ c. search needs) (walk-after-returns t) (walk-after-perform-requires t) (walk-after-mul-bytes t) (walk-after-add-bytes t) (walk-after-add-keep t) (walk-after-walk-requires t) (λ c κs. search needs) (walk-after-keep-requires t) (walk-after-write-before-requires t) (walk-after-after-step-requires t) (λ c. search needs) (λ c. search needs) (walk-after-returns-2 t))
     (λ t. walk-move-lts.spec (walk-move-env t) (walk-move-at t) walk-move.Post (walk-move-is-allowed-requires t) (walk-move-returns t) (walk-move-walk-after-requires t) (λ c. search needs) (λ c. search needs) (walk-move-returns-2 t))
     (λ t. walk-run-lts.spec (walk-run-env t) (walk-run-at t) walk-run.Post (λ c. search needs) (λ c. search needs) (λ c. search needs) (λ c. search needs) (walk-run-returns t) (walk-run-event-of-requires t) (λ c κs. search needs) (walk-run-beneath-requires t) (walk-run-walk-values-requires t) (λ c. search needs) (λ c. search needs) (walk-run-returns-2 t) (walk-run-walk-move-requires t) (λ c. search needs) (λ c. search needs) (walk-run-returns-3 t))
-    λ t. walk-values-lts.spec (walk-values-env t) (walk-values-at t) walk-values.Post walk-values-Inv-loop walk-values-μ-loop (λ c. search needs) (walk-values-add-next-unset t) (walk-values-next-unset-requires t) (walk-values-walk-move-requires t) (λ c. search needs) (λ c. search needs) (walk-values-returns t) (walk-values-may-be-read-requires t) (walk-values-returns-2 t) (walk-values-loop-holds t) (walk-values-next-value-requires t) (λ c. search needs) (walk-values-same-length-3 t) (walk-values-same-length-4 t) (walk-values-returns-3 t) (λ c. search needs) (walk-values-copied-requires t) (walk-values-add-put t) (walk-values-put-requires t) (walk-values-copied-requires-2 t) (λ c. search needs) (λ c. search needs) (walk-values-add-with-names t) (walk-values-with-names-requires t) (λ c. search needs) (λ c. search needs) (walk-values-sub-t40 t) (walk-values-with-value-requires t) (walk-values-add-t57 t) (walk-values-walk-values-requires t) (walk-values-behind-requires t) (λ c κs. search needs) (walk-values-same-length-5 t) (walk-values-same-length-6 t) (walk-values-returns-4 t) (λ c κs. search needs) (walk-values-add-run t) (walk-values-loop-less t) (walk-values-loop-again t)
+    λ t. walk-values-lts.spec (walk-values-env t) (walk-values-at t) walk-values.Post walk-values-Inv-loop walk-values-μ-loop (λ c. search needs) (walk-values-add-next-unset t) (walk-values-next-unset-requires t) (walk-values-walk-move-requires t) (λ c. search needs) (λ c. search needs) (walk-values-returns t) (walk-values-slice-aggregate-may-be-read t) (walk-values-may-be-read-requires t) (walk-values-returns-2 t) (walk-values-loop-holds t) (walk-values-next-value-requires t) (λ c. search needs) (walk-values-same-length-3 t) (walk-values-same-length-4 t) (walk-values-returns-3 t) (λ c. search needs) (λ c. search needs) (λ c. search needs) (walk-values-add-t47 t) (walk-values-tried-requires t) (λ c. search needs) (λ c. search needs) (walk-values-sub-t47 t) (walk-values-with-value-requires t) (walk-values-add-t61 t) (walk-values-walk-values-requires t) (walk-values-behind-requires t) (λ c κs. search needs) (walk-values-same-length-5 t) (walk-values-same-length-6 t) (walk-values-returns-4 t) (λ c κs. search needs) (walk-values-add-run t) (walk-values-loop-less t) (walk-values-loop-again t)

@@ -9,4 +9,4 @@ returns : tie.Need-returns
 returns c = rw (c .before .cell .ensures .0, c .cell2 .ensures .0) refl
 
 pub put-spec : {M : Type 1} → statement M
-put-spec = tie.close (tie.spec (λ c κs. search needs) (λ c. search needs) (λ c κs. search needs) (λ c. search needs) (λ c. search needs) returns)
+put-spec = tie.close (tie.spec (λ c κs. search needs) (λ c. search needs) (λ c κs. search needs) (λ c. search needs) (λ c. search needs) (λ c. search needs) returns)
