@@ -81,25 +81,31 @@ module _ (table list : List ℕ) (target : ℕ) where
   unfolding derived
   derived-bound = refl
 
-  derived-asks : (b : Bool) → derived table list target ≡ accepted b → DeriveAsks table list target (λ known t. derivable known t ≡ b)
+  -- the answer is the decision of the target's term
+  answer-is : (rows : List Row) (t : Term) (b : Bool) → valueOf asAtoms rows target ≡ some t → derivableRow rows list (valueOf asAtoms rows target) ≡ b → derivable (listedTerms rows list) t ≡ b
   unfolding derivableRow
-  derived-asks b e =
-      let w = bound-accepted (rowsFrom 0 [] table) afterTable .0 (sym derived-bound ∙ e) in
-      let c = checked-passed 11 (absentFrom (w .0) 0 list target) (accepted (derivableRow (w .0) list (valueOf asAtoms (w .0) target))) (w .2) in
-      let there = all-there (w .0) 0 list target (c .0) in
-      let g = table-exactly 0 table (w .0) .0 (w .1) in
+  answer-is rows t b is e = ap (derivableRow rows list) (sym is) ∙ e
+
+  asks-of : (b : Bool) (rows : List Row) → rowsFrom 0 [] table ≡ accepted rows → afterTable rows ≡ accepted b → DeriveAsks table list target (λ known t. derivable known t ≡ b)
+  asks-of b rows of e =
+      let c = checked-passed 11 (absentFrom rows 0 list target) (accepted (derivableRow rows list (valueOf asAtoms rows target))) e in
+      let there = all-there rows 0 list target (c .0) in
+      let g = table-exactly 0 table rows .0 of in
       let v = asAtoms-value (g .1) target (there .1) in
       record {
-        rows = w .0;
-        known = listedTerms (w .0) list;
+        rows = rows;
+        known = listedTerms rows list;
         term = v .0;
         ofTable = g .0;
         good = g .1;
         listedThere = there .0;
         targetIs = value-exactly (g .1) asAtoms target (v .0) .0 (v .1);
         knownAre = listed-terms (g .1) list;
-        answer = ap (derivableRow (w .0) list) (sym (v .1)) ∙ accepted-same (c .1);
+        answer = answer-is rows (v .0) b (v .1) (accepted-same (c .1));
       }
+
+  derived-asks : (b : Bool) → derived table list target ≡ accepted b → DeriveAsks table list target (λ known t. derivable known t ≡ b)
+  derived-asks b e = let w = bound-accepted (rowsFrom 0 [] table) afterTable .0 (sym derived-bound ∙ e) in asks-of b (w .0) (w .1) (w .2)
 
   asks-derived : (b : Bool) → DeriveAsks table list target (λ known t. (T b → Derives known t) × (Derives known t → T b)) → derived table list target ≡ accepted b
   unfolding derivableRow
