@@ -18,7 +18,8 @@ pub fn put(names: &mut [u16], x: usize, u: usize, r: usize, w: usize)
     names[cell(x, u)] = cell(r, w) as u16;
 }
 
-// Tries a value, of row r with run w, for the variable of row x: the names and classes before it, with the value, go into arrays that are lent; the answer is the marks with it.
+// Tries the value of row r with run w for the variable of row x. `before` and `filled` are the names and classes without it; those with it go into the two
+// arrays that are lent first, and the answer is the marks with it.
 pub fn tried(
     names: &mut [u16],
     classes: &mut [u16],
