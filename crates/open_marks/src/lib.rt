@@ -116,12 +116,10 @@ pub fn added(marks: [bool; Cells::COUNT], x: usize, found: bool) -> [bool; Cells
 fn meets(one: &[bool], other: &[bool], n: usize) -> bool
     requires { ⌜ (n ≤ 96) × ((length (now one) ≡ cellCount) × (length (now other) ≡ cellCount)) ⌝ }
 {
-    let mut x = 0;
-    while x < n {
+    for x in 0..n {
         if in_both(one, other, x) {
             return true;
         }
-        x += 1;
     }
     false
 }

@@ -12,67 +12,52 @@ use answers::Refusal;
 use answers::Replayed;
 use answers::Verdict;
 
-// The words, one for each kind of answer; a refusal's is 0.
-pub struct Word {}
+// The words, one for each kind of answer; a refusal's is 0. Search's:
+const HELD: u64 = 1;
 
-impl Word {
-    pub const HELD: u64 = 1;
+const STOPPED: u64 = 2;
 
-    pub const STOPPED: u64 = 2;
+const BROKEN: u64 = 3;
 
-    pub const BROKEN: u64 = 3;
+// Open's:
+const ACCEPTED: u64 = 4;
 
-    pub const ACCEPTED: u64 = 4;
+// Derive's:
+const DERIVABLE: u64 = 5;
 
-    pub const DERIVABLE: u64 = 5;
+const NOT_DERIVABLE: u64 = 6;
 
-    pub const NOT_DERIVABLE: u64 = 6;
+// Replay's:
+const CLAIM: u64 = 7;
 
-    pub const CLAIM: u64 = 7;
-
-    pub const NO_CLAIM: u64 = 8;
-}
+const NO_CLAIM: u64 = 8;
 
 // Where each part of the number begins, as what a 1 there is worth: bits 60, 52, 44, 40, 36 and 32. Places and counts begin at bit 0.
-pub struct Bit {}
+const WORD_BIT: u64 = 1152921504606846976;
 
-impl Bit {
-    pub const WORD: u64 = 1152921504606846976;
+const NUMBER_BIT: u64 = 4503599627370496;
 
-    pub const NUMBER: u64 = 4503599627370496;
+const LENGTH_BIT: u64 = 17592186044416;
 
-    pub const LENGTH: u64 = 17592186044416;
+const KIND_BIT: u64 = 1099511627776;
 
-    pub const KIND: u64 = 1099511627776;
+const EVENT_BIT: u64 = 68719476736;
 
-    pub const EVENT: u64 = 68719476736;
+const RUN_BIT: u64 = 4294967296;
 
-    pub const RUN: u64 = 4294967296;
-}
+// The largest value of each part; of run and event alike.
+const MOST_NUMBER: u64 = 255;
 
-// The largest value of each part.
-pub struct Most {}
+const MOST_PLACE: u64 = 4503599627370495;
 
-impl Most {
-    pub const NUMBER: u64 = 255;
+const MOST_LENGTH: u64 = 511;
 
-    pub const PLACE: u64 = 4503599627370495;
+const MOST_INDEX: u64 = 15;
 
-    pub const LENGTH: u64 = 511;
+const MOST_COUNT: u64 = 4294967295;
 
-    pub const EVENT: u64 = 15;
-
-    pub const RUN: u64 = 15;
-
-    pub const COUNT: u64 = 4294967295;
-}
-
-// The kinds of claims: each has the number of its event.
-pub struct Kind {}
-
-impl Kind {
-    pub const SECRECY: u64 = 2;
-}
+// The number of a secrecy claim's event, which its kind has too.
+const SECRECY: u64 = 2;
 
 // The smaller of two numbers.
 fn least(a: u64, b: u64) -> u64
@@ -86,7 +71,7 @@ fn word_alone(word: u64) -> u64
     requires { ⌜ word ≤ 15 ⌝ }
     ensures { λ r. ⌜ r ≡ wordAlone word ⌝ }
 {
-    word * Bit::WORD
+    word * WORD_BIT
 }
 
 // A word with a number.
@@ -94,14 +79,14 @@ fn with_count(word: u64, n: usize) -> u64
     requires { ⌜ word ≤ 15 ⌝ }
     ensures { λ r. ⌜ r ≡ packedNumber word n ⌝ }
 {
-    word * Bit::WORD + least(n as u64, Most::COUNT)
+    word * WORD_BIT + least(n as u64, MOST_COUNT)
 }
 
 // A refusal: number and place.
 fn refusal(r: Refusal) -> u64
     ensures { λ n. ⌜ n ≡ packedRefused r ⌝ }
 {
-    least(r.number as u64, Most::NUMBER) * Bit::NUMBER + least(r.place as u64, Most::PLACE)
+    least(r.number as u64, MOST_NUMBER) * NUMBER_BIT + least(r.place as u64, MOST_PLACE)
 }
 
 // The number of a claim's kind.
@@ -109,7 +94,7 @@ fn kind_number(kind: ClaimKind) -> u64
     ensures { λ r. ⌜ r ≡ packedCodeKind kind ⌝ }
 {
     match kind {
-        ClaimKind::Secrecy => Kind::SECRECY,
+        ClaimKind::Secrecy => SECRECY,
     }
 }
 
@@ -117,9 +102,9 @@ fn kind_number(kind: ClaimKind) -> u64
 fn claim_bits(run: usize, event: usize, kind: ClaimKind) -> u64
     ensures { λ r. ⌜ (r ≡ claimBits run event (packedCodeKind kind)) × (r < 17592186044416) ⌝ }
 {
-    kind_number(kind) * Bit::KIND
-        + least(event as u64, Most::EVENT) * Bit::EVENT
-        + least(run as u64, Most::RUN) * Bit::RUN
+    kind_number(kind) * KIND_BIT
+        + least(event as u64, MOST_INDEX) * EVENT_BIT
+        + least(run as u64, MOST_INDEX) * RUN_BIT
 }
 
 // A claim: run, event and kind.
@@ -127,7 +112,7 @@ fn claim(c: Claim) -> u64
     ensures { λ r. ⌜ r ≡ packedCodeClaim c ⌝ }
 {
     let kind = c.kind;
-    Word::CLAIM * Bit::WORD + claim_bits(c.run, c.event, kind)
+    CLAIM * WORD_BIT + claim_bits(c.run, c.event, kind)
 }
 
 // A break: list place, trace length, and its claim.
@@ -135,8 +120,8 @@ fn broken(b: Break) -> u64
     ensures { λ r. ⌜ r ≡ packedCodeBreak b ⌝ }
 {
     let kind = b.kind;
-    with_count(Word::BROKEN, b.place)
-        + least(b.length as u64, Most::LENGTH) * Bit::LENGTH
+    with_count(BROKEN, b.place)
+        + least(b.length as u64, MOST_LENGTH) * LENGTH_BIT
         + claim_bits(b.run, b.event, kind)
 }
 
@@ -146,8 +131,8 @@ pub fn derived(answer: Derived) -> u64
 {
     match answer {
         Derived::Refused(r) => refusal(r),
-        Derived::Derivable => word_alone(Word::DERIVABLE),
-        Derived::NotDerivable => word_alone(Word::NOT_DERIVABLE),
+        Derived::Derivable => word_alone(DERIVABLE),
+        Derived::NotDerivable => word_alone(NOT_DERIVABLE),
     }
 }
 
@@ -157,7 +142,7 @@ pub fn opened(answer: Opened) -> u64
 {
     match answer {
         Opened::Refused(r) => refusal(r),
-        Opened::Accepted(_) => word_alone(Word::ACCEPTED),
+        Opened::Accepted(_) => word_alone(ACCEPTED),
     }
 }
 
@@ -168,7 +153,7 @@ pub fn replayed(answer: Replayed) -> u64
     match answer {
         Replayed::Refused(r) => refusal(r),
         Replayed::Broken(c) => claim(c),
-        Replayed::NoClaim => word_alone(Word::NO_CLAIM),
+        Replayed::NoClaim => word_alone(NO_CLAIM),
     }
 }
 
@@ -179,7 +164,7 @@ pub fn verdict(answer: Verdict) -> u64
     match answer {
         Verdict::Refused(r) => refusal(r),
         Verdict::Broken(b) => broken(b),
-        Verdict::Held(n) => with_count(Word::HELD, n),
-        Verdict::Stopped(n) => with_count(Word::STOPPED, n),
+        Verdict::Held(n) => with_count(HELD, n),
+        Verdict::Stopped(n) => with_count(STOPPED, n),
     }
 }

@@ -15,28 +15,34 @@ pub enum Place {
 pub struct Kind {}
 
 impl Kind {
+    // agents
     pub const TRUSTED: usize = 1;
 
     pub const UNTRUSTED: usize = 2;
 
+    // constants, which stand for themselves
     pub const GLOBAL: usize = 3;
 
     pub const INTRUDER: usize = 4;
 
+    // what a run gives a value
     pub const ROLE: usize = 5;
 
     pub const VARIABLE: usize = 6;
 
     pub const LOCAL: usize = 7;
+
     // from this kind on a row refers to other rows
     pub const FIRST_MADE: usize = 8;
 
+    // keys
     pub const PUBLIC_KEY: usize = 8;
 
     pub const SECRET_KEY: usize = 9;
 
     pub const SHARED_KEY: usize = 10;
 
+    // compound terms
     pub const PAIR: usize = 11;
 
     pub const ENCRYPTED: usize = 12;

@@ -69,9 +69,9 @@ pub fn write_before(trace: &mut [u8], at: usize, turn: Turn, found: Walked)
     requires { ⌜ StepFits (length (now trace)) at turn found ⌝ }
     ensures { λ _. ⌜ now (trace .exit) ≡ stepBefore (now (trace .entry)) at turn found ⌝ }
 {
-    if !search_findings::is_broken(found) {
+    let Walked::Broken(_) = found else {
         return;
-    }
+    };
     write_step(trace, at, turn.run + 1, turn.values);
 }
 

@@ -120,17 +120,6 @@ pub fn is_clean(found: Walked) -> bool
     }
 }
 
-// Whether a break was found.
-pub fn is_broken(found: Walked) -> bool
-    ensures { λ b. ⌜ b ≡ isBroken found ⌝ }
-{
-    match found {
-        Walked::Broken(_) => true,
-        Walked::Clean(_) => false,
-        Walked::Cut => false,
-    }
-}
-
 // How many traces without a break are counted, and remembered: none where the walk did not come to the end.
 pub fn count_of(found: Walked) -> usize
     ensures { λ n. ⌜ n ≡ countOf found ⌝ }
