@@ -14,7 +14,7 @@ use Rattle.semantics.specs.Roles.{ClaimKind, secrecy, EventKind, send, r
 use Rattle.semantics.specs.Runs.{Run, atomAt, isAgent, allTrusted}
 use Rattle.semantics.specs.Scenario.{Scenario}
 use Rattle.semantics.specs.State.{Value, Progress, State, initial, Active, active, eventsOf, readingIn, Message, Claim}
-use Rattle.semantics.specs.Moves.{Move, toSet, messageAfter, advanced, Listing, full}
+use Rattle.semantics.specs.Moves.{Move, toSet, messageAfter, advanced, Listing, full, short}
 use Rattle.semantics.specs.Tree.{Follows, Earlier}
 
 -- 000's Readable, with the inference relation: which patterns a role can read
@@ -74,9 +74,23 @@ pub data Step (sc : Scenario) (s : State) (m : Move) (s′ : State) : Type 0 whe
 abbrev pub AllowedTrace : Scenario → List Move → State → Type 0
 AllowedTrace sc ms s = Follows (Step sc) (initial sc) ms s
 
+-- a run whose "next event is a send or claim"
+abbrev pub Ready : Scenario → State → ℕ → Type 0
+Ready sc s u = (a : Active) × (active sc s u ≡ some a) × ¬ (a .event .kind ≡ read)
+
+-- a run whose moves the short list goes on with: "wherever some run's next event is a send or claim, the only move listed is that of the lowest such run"
+pub data InShort (sc : Scenario) (s : State) (u : ℕ) : Type 0 where
+  lowestReady : Ready sc s u → ((v : ℕ) → v < u → ¬ Ready sc s v) → InShort sc s u
+  noneReady : ((v : ℕ) → ¬ Ready sc s v) → InShort sc s u
+
+-- an allowed move of such a run
+abbrev pub ShortStep : Scenario → State → Move → State → Type 0
+ShortStep sc s m s′ = InShort sc s (m .run) × Step sc s m s′
+
 -- the moves that a list goes on with: the full list has every allowed move
 abbrev pub StepIn : Listing → Scenario → State → Move → State → Type 0
 StepIn full sc = Step sc
+StepIn short sc = ShortStep sc
 
 -- a trace of a list, with the state at its end; of the full list it is any allowed trace
 abbrev pub TraceIn : Listing → Scenario → List Move → State → Type 0

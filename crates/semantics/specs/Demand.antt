@@ -7,6 +7,7 @@ use lib.ListN.{length, getElem?}
 use Rattle.semantics.specs.Term.{Term}
 use Rattle.semantics.specs.Table.{Row}
 use Rattle.semantics.specs.Value.{asAtoms}
+use Rattle.semantics.specs.Roles.{read, Event, Role}
 use Rattle.semantics.specs.Scenario.{Scenario}
 use Rattle.semantics.specs.State.{State, Claim}
 use Rattle.semantics.specs.Moves.{Move, Listing}
@@ -55,3 +56,7 @@ pub record DeriveAsks (table list : List ℕ) (target : ℕ) (Says : List Term �
   pub targetIs : ValueIs asAtoms rows target term
   pub knownAre : TermsOf rows list known
   pub answer : Says known term
+
+-- "a scenario of reads only"
+abbrev pub ReadsOnly : Scenario → Type 0
+ReadsOnly sc = (r : Role) → List·Memᴰ r (sc .roles) → (e : Event) → List·Memᴰ e (r .events) → e .kind ≡ read

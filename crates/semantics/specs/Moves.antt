@@ -5,7 +5,7 @@ use mathlib.Core.List.{List, [], _∷_, _++_, map}
 use mathlib.Core.Option.{Option, none, some}
 use lib.Dec.{leb, ltb, eqb}
 use lib.ListN.{length, getElem?, set}
-use Rattle.semantics.specs.Basic.{present, andThen, mapped, provided, presentOnes, joined, numbersFrom}
+use Rattle.semantics.specs.Basic.{present, andThen, mapped, provided, firstOf, presentOnes, joined, numbersFrom}
 use Rattle.semantics.specs.Term.{VariableType, agentType, freshType, Atom, trusted, untrusted, global, intruder, role, variable, local, Term}
 use Rattle.semantics.specs.Inference.{derivable}
 use Rattle.semantics.specs.Table.{Row}
@@ -115,10 +115,32 @@ movesOfRun sc s u (some a) =
 pub data Listing : Type 0 where
   -- every allowed move
   full : Listing
+  -- the short list of document 02: where some run sends or claims next, only the move of the lowest such run
+  short : Listing
 
--- the runs whose moves a list goes on with
+-- "a send or claim"
+abbrev pub sendOrClaim : EventKind → Bool
+sendOrClaim send = true
+sendOrClaim read = false
+sendOrClaim (claim kind) = true
+
+-- the number of a run, if its "next event is a send or claim"
+unfoldable pub readyAt : Scenario → State → ℕ → Option ℕ
+readyAt sc s u = andThen (active sc s u) λ a. provided (sendOrClaim (a .event .kind)) u
+
+-- the numbers of all runs
+abbrev pub runNumbers : Scenario → List ℕ
+runNumbers sc = numbersFrom 1 (length (sc .runs))
+
+-- one number alone, if there is one
+abbrev pub aloneOr : Option ℕ → List ℕ → List ℕ
+aloneOr (some u) us = u ∷ []
+aloneOr none us = us
+
+-- The runs whose moves a list goes on with: all; or, "wherever some run's next event is a send or claim", "the lowest such run".
 unfoldable pub runsIn : Listing → Scenario → State → List ℕ
-runsIn full sc s = numbersFrom 1 (length (sc .runs))
+runsIn full sc s = runNumbers sc
+runsIn short sc s = aloneOr (firstOf (map (readyAt sc s) (runNumbers sc))) (runNumbers sc)
 
 -- the moves of a state, "ordered by run, then by the new values"
 unfoldable pub movesIn : Listing → Scenario → State → List (Move × State)

@@ -20,19 +20,19 @@ use Rattle.semantics.specs.WellFormed.{readable, wellFormed, learned, ro
 use Rattle.semantics.specs.Runs.{Run, badRun, badKnowledgeFrom, allTrusted}
 use Rattle.semantics.specs.Scenario.{Scenario, opened}
 use Rattle.semantics.specs.State.{Value, Progress, State, Active, active, assigned, readingIn, initial, eventsOf, unsetBeneath, newVariables, Message, Claim}
-use Rattle.semantics.specs.Moves.{Move, message, toSet, setAfter, messageAfter, advanced, Listing, full, movesIn}
+use Rattle.semantics.specs.Moves.{Move, message, toSet, setAfter, messageAfter, advanced, Listing, full, short, movesIn}
 use Rattle.semantics.specs.Tree.{Earlier}
 use Rattle.semantics.specs.Verdict.{Entry, traceList, broken, Verdict, brokenAt, held, stopped, traceBytes, searchedIn, searched, bufferIn, bufferAfter}
 use Rattle.semantics.specs.Replay.{after, replayed}
 use Rattle.semantics.specs.Derive.{absentFrom, derived}
 use Rattle.semantics.specs.Packing.{packedDerived, packedOpened, packedReplayed, packedSearched, readWord, DeriveRead, OpenRead, ReplayRead, SearchRead}
-use Rattle.semantics.specs.Allowed.{Readable, WellFormed, Takes, Step, AllowedTrace, StepIn, TraceIn, MoveBefore, Breaks, Names}
-use Rattle.semantics.specs.Demand.{DeriveAsks, SomeBreak, FirstBreak, NoBreak}
+use Rattle.semantics.specs.Allowed.{Readable, WellFormed, Takes, Step, AllowedTrace, InShort, StepIn, TraceIn, MoveBefore, Breaks, Names}
+use Rattle.semantics.specs.Demand.{DeriveAsks, SomeBreak, FirstBreak, NoBreak, ReadsOnly}
 use Rattle.semantics.specs.Guarantee.{GoodTable, Guarantee}
 use Rattle.semantics.specs.Meaning.{InverseIs, ValueIs, LiesBeneath, StandsFor, NoVariable, Constant, Passes, ActiveIn, TermsOf, KnownAtStart, UnsetAt}
 use Rattle.semantics.specs.Encoding.{Framed, Parts, TermBytes, Encodes}
 use Rattle.semantics.specs.Refusals.{RowRefused, FirstBad, GoodRoleRecord, FirstAbsentRole, FirstIllFormedRole, GoodRunRecord, FirstBadKnowledge, FirstAbsent, OpenRefuses, SearchRefuses, DeriveRefuses, ReplayRefuses}
-use Rattle.semantics.specs.Worked.{AllHold, cases, edges, p1File, p1Bytes, a, c, d}
+use Rattle.semantics.specs.Worked.{AllHold, cases, edges, shortCases, p1File, p1Bytes, a, c, d}
 use Rattle.semantics.specs.laws.Inference
 use Rattle.semantics.specs.laws.WellFormed as well
 use Rattle.semantics.specs.laws.Open as accept
@@ -50,6 +50,7 @@ use Rattle.semantics.specs.laws.Derive as derive
 use Rattle.semantics.specs.laws.Places as place
 use Rattle.semantics.specs.laws.Packing as packing
 use Rattle.semantics.specs.laws.Caller as caller
+use Rattle.semantics.specs.laws.Short as shorter
 use Rattle.semantics.specs.laws.Worked as work
 
 -- DEMAND 1. "Every byte string gives a verdict or a listed refusal with its place: a refusal exactly if its stated condition is the first to hold in the stated order. A refused call changes no byte of a lent buffer."
@@ -286,6 +287,35 @@ pub search-replays :
     (l : Listing) (file buffer : List ℕ) (p : ℕ) (ms : List Move) (x : Claim) → searchedIn l file buffer ≡ accepted (brokenAt p ms x) → replayed file (traceBytes ms) ≡ accepted (some x)
 search-replays = operation.search-replays
 
+-- THE SHORT LIST of document 02: "wherever some run's next event is a send or claim, the only move listed is that of the lowest such run." Refusals, buffer, order of the list, demand 3 and replaying are said above for every list, and so for this one.
+pub short-list : (sc : Scenario) (s : State) (m : Move) (s′ : State) → List·Memᴰ (m, s′) (movesIn short sc s) ↔ (InShort sc s (m .run) × Step sc s m s′)
+short-list sc s = move.moves-exact sc s short
+
+-- No trace of the short list breaks a claim exactly if no allowed trace at all does,
+pub short-breaks : (sc : Scenario) → Guarantee sc → NoBreak short sc ↔ NoBreak full sc
+short-breaks = shorter.no-break-same
+
+-- so HELD's word says as much as Search's, with another list to go through.
+pub short-held-read :
+    (file buffer : List ℕ)
+    → (readWord (packedSearched (searchedIn short file buffer)) ≡ 1)
+    ↔ ((sc : Scenario) × (opened file ≡ accepted sc) × (128 ≤ length buffer) × NoBreak full sc × (length (traceList short sc) ≤ budgetOf file))
+short-held-read = shorter.short-held-read
+
+-- "With a budget reaching the end of both lists, the two searches give the same word, BROKEN or HELD"
+pub same-word :
+    (file buffer : List ℕ) (sc : Scenario) → opened file ≡ accepted sc → 128 ≤ length buffer → length (traceList full sc) ≤ budgetOf file → length (traceList short sc) ≤ budgetOf file
+    → ((readWord (packedSearched (searched file buffer)) ≡ 3) × (readWord (packedSearched (searchedIn short file buffer)) ≡ 3))
+    ⊎ ((readWord (packedSearched (searched file buffer)) ≡ 1) × (readWord (packedSearched (searchedIn short file buffer)) ≡ 1))
+same-word = shorter.same-word
+
+-- The short list is never longer. "For a scenario of reads only, both lists are equal."
+pub short-shorter : (sc : Scenario) → length (traceList short sc) ≤ length (traceList full sc)
+short-shorter = shorter.short-shorter
+
+pub reads-equal : (sc : Scenario) → ReadsOnly sc → traceList short sc ≡ traceList full sc
+reads-equal = shorter.reads-equal
+
 -- IN PLAIN WORDS. What stands on both sides of the statements above. Known at the start are the file's list and the intruder constants of the table; no run has moved.
 pub start-exactly : (sc : Scenario) → GoodTable (sc .rows) → (t : Term) → List·Memᴰ t (initial sc .known) ↔ KnownAtStart sc t
 start-exactly = meaning.start-exactly
@@ -434,6 +464,10 @@ p1-shown = work.p1-bytes
 -- cases on each side of limits and rules
 pub edges-hold : AllHold edges
 edges-hold = work.edges-worked
+
+-- cases of the short list
+pub short-cases-hold : AllHold shortCases
+short-cases-hold = work.short-worked
 
 -- P7 to P11 of the inference relation itself, with a an agent, c and d constants
 pub p7 : Derives (encrypted c (pk a) ∷ sk a ∷ []) c

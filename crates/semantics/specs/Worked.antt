@@ -1,4 +1,4 @@
--- Worked cases, each with its answer: P1 to P12 of document 01 in one table, and cases on each side of limits and rules in another. Assumes nothing.
+-- Worked cases, each with its answer: P1 to P12 of document 01 in one table, cases on each side of limits and rules in another, and cases of the short list in a third. Assumes nothing.
 use Prim.Native.Nat.{ℕ}
 use mathlib.Core.Path.{_≡_}
 use mathlib.Core.Bool.{Bool, true, false}
@@ -12,8 +12,8 @@ use Rattle.semantics.specs.Answer.{Answer, accepted, refuse}
 use Rattle.semantics.specs.Term.{trusted, global, Term, atom}
 use Rattle.semantics.specs.Scenario.{opened}
 use Rattle.semantics.specs.State.{Value, Claim}
-use Rattle.semantics.specs.Moves.{Move}
-use Rattle.semantics.specs.Verdict.{Verdict, brokenAt, held, stopped, searched, bufferAfter}
+use Rattle.semantics.specs.Moves.{Move, short}
+use Rattle.semantics.specs.Verdict.{Verdict, brokenAt, held, stopped, searchedIn, searched, bufferIn, bufferAfter}
 use Rattle.semantics.specs.Replay.{replayed}
 use Rattle.semantics.specs.Derive.{derived}
 
@@ -94,11 +94,13 @@ inferenceTable =
     ∷ 12 ∷ 2 ∷ 2
     ∷ 12 ∷ 1 ∷ 7 ∷ []
 
--- A case: a file with the answer of Search or with the refusal of Open, a file and a buffer with the buffer's bytes afterwards, a file and a trace with the answer of Replay, or a table, a list and a target with the answer of Derive.
+-- A case: a file with the answer of Search, by the full list or the short one, or with the refusal of Open, a file and a buffer with the buffer's bytes afterwards, a file and a trace with the answer of Replay, or a table, a list and a target with the answer of Derive.
 pub data Case : Type 0 where
   judges : List ℕ → Answer Verdict → Case
+  judgesShort : List ℕ → Answer Verdict → Case
   refuses : List ℕ → ℕ → ℕ → Case
   leaves : List ℕ → List ℕ → List ℕ → Case
+  leavesShort : List ℕ → List ℕ → List ℕ → Case
   replays : List ℕ → List ℕ → Answer (Option Claim) → Case
   infers : List ℕ → List ℕ → ℕ → Answer Bool → Case
 
@@ -107,8 +109,10 @@ buffer = replicate mostTraceBytes 0
 
 abbrev pub Holds : Case → Type 0
 Holds (judges file answer) = searched file buffer ≡ answer
+Holds (judgesShort file answer) = searchedIn short file buffer ≡ answer
 Holds (refuses file number place) = opened file ≡ refuse number place
 Holds (leaves file lent left) = bufferAfter file lent ≡ left
+Holds (leavesShort file lent left) = bufferIn short file lent ≡ left
 Holds (replays file trace answer) = replayed file trace ≡ answer
 Holds (infers table list target answer) = derived table list target ≡ answer
 
@@ -309,6 +313,28 @@ edges =
     ∷ judges (1 ∷ 0 ∷ 0 ∷ 0 ∷ 100 ∷ 0 ∷ 15 ∷ 1 ∷ 0 ∷ 0 ∷ 2 ∷ 0 ∷ 0 ∷ 5 ∷ 0 ∷ 0 ∷ 5 ∷ 1 ∷ 0 ∷ 7 ∷ 0 ∷ 0 ∷ 0 ∷ 14 ∷ 2 ∷ 2 ∷ 4 ∷ 2 ∷ 0 ∷ 0 ∷ 0 ∷ 4 ∷ 2 ∷ 0 ∷ 0 ∷ 4 ∷ 0 ∷ 0 ∷ 0 ∷ 3 ∷ 0 ∷ 0 ∷ 1 ∷ 0 ∷ 0 ∷ []) (accepted (held 3))
     -- 19, a listed row is judged before the target
     ∷ infers (3 ∷ 0 ∷ 0 ∷ []) (5 ∷ []) 5 (refuse 11 0)
+    ∷ []
+
+-- By the short list.
+abbrev pub shortCases : List Case
+shortCases =
+    -- P1, P4 and P12
+    judgesShort p1File (accepted (brokenAt 3 (firstMove ∷ firstMove ∷ []) p1Claim))
+    ∷ judgesShort (file 100 sealedTerms sealedRoles (oneRun ++ oneRun) []) (accepted (held 5))
+    ∷ judgesShort (file 100 readTerms readRoles oneRun (0 ∷ 1 ∷ [])) (accepted (held 2))
+    -- P4 with a budget of the list's length and one below it
+    ∷ judgesShort (file 5 sealedTerms sealedRoles (oneRun ++ oneRun) []) (accepted (held 5))
+    ∷ judgesShort (file 4 sealedTerms sealedRoles (oneRun ++ oneRun) []) (accepted (stopped 4))
+    -- the lowest run: two runs of P1
+    ∷ judgesShort (file 100 (names 1) plainRoles (oneRun ++ oneRun) []) (accepted (brokenAt 3 (firstMove ∷ firstMove ∷ []) p1Claim))
+    -- a run that is not the first: run 2 sends before run 1 reads
+    ∷ judgesShort exchange (accepted (brokenAt 4 (
+    record { run = 2; values = [] } ∷ record { run = 1; values = record { row = 2; run = 0 } ∷ [] } ∷ record { run = 1; values = [] } ∷ []
+    ) p1Claim))
+    -- refusals are Search's: of a file, and of a buffer of 127 bytes, which keeps them
+    ∷ judgesShort [] (refuse 1 0)
+    ∷ leavesShort p1File (replicate 127 9) (replicate 127 9)
+    ∷ leavesShort p1File (replicate 130 9) ((1 ∷ 0 ∷ 1 ∷ 0 ∷ []) ++ replicate 126 9)
     ∷ []
 
 -- an agent and two constants

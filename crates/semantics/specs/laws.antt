@@ -12,11 +12,12 @@ pub mod Encoding
 pub mod Conditions
 pub mod Refusals
 pub mod Tree
+pub mod Broken
+pub mod Active
 pub mod Moves
 pub mod Traces
 pub mod Reached
 pub mod Bytes
-pub mod Broken
 pub mod Verdict
 pub mod Meaning
 pub mod Demand
@@ -29,5 +30,7 @@ pub mod Each
 pub mod SameValues
 pub mod Same
 pub mod SameKnown
+pub mod Ahead
+pub mod Short
 pub mod Derive
 pub mod Worked

@@ -2,7 +2,7 @@
 use Prim.Native.Nat.{ℕ, zero, suc, _≤_, _<_}
 use native.Mathlib.Omega.{arith}
 use mathlib.Core.Path.{_≡_, refl, sym, _∙_, ap}
-use mathlib.Core.Logic.{_↔_}
+use mathlib.Core.Logic.{_↔_, _⊎_, inl, inr}
 use mathlib.Core.List.{List, [], _∷_, List·Memᴰ}
 use mathlib.Core.Option.{Option, none, some, Option·some-injective, Option·none-ne-some}
 use lib.ListN.{length, getElem?}
@@ -77,7 +77,7 @@ module _ (which : Listing) (sc : Scenario) where
       let w = mem-getElem (traceList which sc) .0 (traces-exact which sc ms s .1 a) in
       all (w .0) (ms, s) (getElem-below (traceList which sc) (w .0) (w .1)) (w .1) c b
 
-  no-break-none : NoBreak which sc → SomeBreak which sc → ⊥
+  pub no-break-none : NoBreak which sc → SomeBreak which sc → ⊥
   no-break-none all b = all (b .trace) (b .end) (b .allowed) (b .claim) (b .broken)
 
   some-not-unbroken : SomeBreak which sc → Unbroken (sc .budget) → ⊥
@@ -86,6 +86,15 @@ module _ (which : Listing) (sc : Scenario) where
       go : (place : ℕ) → entryAt which sc place ≡ some (b .trace, b .end) → place ≤ sc .budget → ⊥
       go zero e l = Option·none-ne-some (b .trace, b .end) e
       go (suc i) e l = all i (b .trace, b .end) l e (b .claim) (b .broken)
+
+  -- where the budget reaches the list's end there is a break or none
+  pub ends : length (traceList which sc) ≤ sc .budget → SomeBreak which sc ⊎ NoBreak which sc
+  ends enough = go (verdict which sc) verdict-view
+    where
+      go : (v : Verdict) → Judged v → SomeBreak which sc ⊎ NoBreak which sc
+      go v (judgedBroken {place = place} {trace = ms} {claim = c} f) = inl (some-break place ms c f)
+      go v (judgedHeld l all q) = inr (unbroken-no-break all)
+      go v (judgedStopped l all q) = absurd (omega arith)
 
   -- two first breaks are at one place, with one trace and one claim
   first-one : {place place′ : ℕ} {ms ms′ : List Move} {c c′ : Claim} → FirstBreak which sc place ms c → FirstBreak which sc place′ ms′ c′ → brokenAt place ms c ≡ brokenAt place′ ms′ c′

@@ -9,7 +9,7 @@ use mathlib.Core.Option.{Option, none, some, Option·some-injective, Option·non
 use mathlib.Core.List.{List, [], _∷_, _++_, map, List·Memᴰ, List·Memᴰ·head, List·Memᴰ·tail, List·Memᴰ·not-nil}
 use mathlib.Core.List.{List·Memᴰ·append-cases, Memᴰ·append-left, Memᴰ·append-right}
 use lib.Dec.{T}
-use lib.ListN.{length, getElem?, getD, set}
+use lib.ListN.{length, getElem?, getD, set, length-append}
 use Rattle.semantics.specs.Basic.{joined, keep, presentOnes, numbersFrom, every, Ordered, ordered-none, ordered-more}
 use Rattle.semantics.specs.laws.Test.{both-left, both-right, both}
 
@@ -295,3 +295,41 @@ module _ {A : Type 0} where
   pub present-all : (xs : List A) → presentOnes (map some xs) ≡ xs
   present-all [] = refl
   present-all (x ∷ xs) = ap (λ r. x ∷ r) (present-all xs)
+
+-- A list that has elements of another, in their order.
+pub data Within {A : Type 0} : List A → List A → Type 0 where
+  withinNone : {ys : List A} → Within [] ys
+  withinBoth : {x : A} {xs ys : List A} → Within xs ys → Within (x ∷ xs) (x ∷ ys)
+  withinRest : {y : A} {xs ys : List A} → Within xs ys → Within xs (y ∷ ys)
+
+pub within-itself : {A : Type 0} (xs : List A) → Within xs xs
+within-itself [] = withinNone
+within-itself (x ∷ xs) = withinBoth (within-itself xs)
+
+-- one element of a list alone
+pub within-one : {A : Type 0} {x : A} {ys : List A} → List·Memᴰ x ys → Within (x ∷ []) ys
+within-one {x = x} (List·Memᴰ·head e) = rw e (withinBoth withinNone)
+within-one (List·Memᴰ·tail m) = withinRest (within-one m)
+
+-- lists one after the other
+within-behind : {A : Type 0} {xs ys : List A} (zs : List A) → Within xs ys → Within xs (zs ++ ys)
+within-behind [] w = w
+within-behind (z ∷ zs) w = withinRest (within-behind zs w)
+
+within-append : {A : Type 0} {xs ys : List A} (zs : List A) → Within xs ys → Within (zs ++ xs) (zs ++ ys)
+within-append [] w = w
+within-append (z ∷ zs) w = withinBoth (within-append zs w)
+
+module _ {A B : Type 0} (f : A → List B) where
+  -- what fewer elements give
+  pub within-joined : {xs ys : List A} → Within xs ys → Within (joined f xs) (joined f ys)
+  within-joined withinNone = withinNone
+  within-joined (withinBoth {x = x} w) = within-append (f x) (within-joined w)
+  within-joined (withinRest {y = y} w) = within-behind (f y) (within-joined w)
+
+  -- is no longer, where none of them gives more
+  pub joined-fewer : (g : A → List B) → ((x : A) → length (f x) ≤ length (g x)) → {xs ys : List A} → Within xs ys → length (joined f xs) ≤ length (joined g ys)
+  joined-fewer g fewer withinNone = omega arith
+  joined-fewer g fewer (withinBoth {x = x} {xs = xs} {ys = ys} w) =
+      omega (arith, fewer x, joined-fewer g fewer w, length-append (f x) (joined f xs), length-append (g x) (joined g ys))
+  joined-fewer g fewer (withinRest {y = y} {ys = ys} w) = omega (arith, joined-fewer g fewer w, length-append (g y) (joined g ys))

@@ -28,7 +28,7 @@ use Rattle.semantics.specs.Meaning.{InverseIs, ofPublic, ofSecret, ofIts
 use Rattle.semantics.specs.laws.Test.{same-test, andThen-some, mapped-some, mapped₂-some, eqb-iff}
 use Rattle.semantics.specs.laws.List.{mem-cases, mem-map, mem-present, mem-keep, mem-numbersFrom, every-iff, getElem-below, getElem-there, set-same, set-other, keep-cons, ordered-keep, ordered-present, ordered-numbersFrom}
 use Rattle.semantics.specs.laws.Value.{rowValue, value-unfolds, beneath-iff, row-induction, value-within}
-use Rattle.semantics.specs.laws.Moves.{active-in}
+use Rattle.semantics.specs.laws.Active.{active-in, active-at}
 use Rattle.semantics.specs.laws.Reached.{assigned-new, assigned-stays, unmoved, isUnset, unset-iff, unset-mem}
 
 -- a public key, a secret key, or another term
@@ -322,8 +322,7 @@ trusted-exactly rows run = (
 
 -- A run is active with its next event, and in no other way.
 pub active-exactly : (sc : Scenario) (s : State) (u : ℕ) (a : Active) → (active sc s u ≡ some a) ↔ ActiveIn sc s u a
-unfolding active
-active-exactly sc s u a = (active-in sc s u, λ h. rw (h .numbered) (rw (h .ofRun) (rw (h .ofProgress) (rw (h .ofEvent)))))
+active-exactly sc s u a = (active-in sc s u, active-at sc s u)
 
 -- how many moves of a run a trace has
 abbrev count : ℕ → List Move → ℕ

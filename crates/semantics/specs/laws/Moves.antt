@@ -16,11 +16,13 @@ use Rattle.semantics.specs.Roles.{EventKind, send, read, claim}
 use Rattle.semantics.specs.Runs.{atomAt, isAgent}
 use Rattle.semantics.specs.Scenario.{Scenario}
 use Rattle.semantics.specs.State.{Value, State, Active, active, eventsOf, Message}
-use Rattle.semantics.specs.Moves.{Move, runsFor, valuesAt, valuesOfType, candidates, choices, knownAfter, toSet, messageAfter, advanced, performed, branch, movesOfRun, Listing, full, runsIn, movesIn}
+use Rattle.semantics.specs.Moves.{Move, runsFor, valuesAt, valuesOfType, candidates, choices, knownAfter, toSet, messageAfter, advanced, performed, branch, movesOfRun, Listing, full, short, runNumbers, runsIn, movesIn}
 use Rattle.semantics.specs.Tree.{Earlier, differs, agrees}
 use Rattle.semantics.specs.Replay.{sameValue, isValueOf, suits, after}
 use Rattle.semantics.specs.Allowed.{StepIn, MayTake, anAgent, anIntruder, aLocal, Takes, takesNone, takesMore, Performs, sends, reads, claims, Step, step, ValueBefore, byRow, byRun, MoveBefore, earlierRun, earlierValues}
 pub use Rattle.semantics.specs.Meaning.{ActiveIn}
+pub use Rattle.semantics.specs.laws.Active.{active-in}
+use Rattle.semantics.specs.laws.Active.{active-mem, runs-short, runs-ordered}
 use Rattle.semantics.specs.laws.Test.{both-left, both-right, both, all-three, guarded-some, either-left, either-right, either-cases, provided-some, andThen-some, mapped-some}
 use Rattle.semantics.specs.laws.List.{mem-cases, mem-joined, mem-map, mem-present, mem-numbersFrom, getElem-below, ordered-one, ordered-imply, ordered-map, ordered-joined, ordered-present, ordered-numbersFrom}
 use Rattle.semantics.specs.laws.Inference.{derivable-exact}
@@ -248,20 +250,6 @@ module _ (sc : Scenario) (s : State) where
         λ w. there .1 (all .1 (w .0, w .1, sym (mapped-branch u (w .0) (performed sc s a (w .0)) .1 (w .2, w .3)))),
       )
 
-  -- an active run is so
-  pub active-in : (u : ℕ) {a : Active} → active sc s u ≡ some a → ActiveIn sc s u a
-  unfolding active
-  active-in zero {a} e = absurd (Option·none-ne-some a e)
-  active-in (suc k) e =
-      let r = andThen-some (getElem? (sc .runs) k) _ .0 e in
-      let p = andThen-some (getElem? (s .progress) k) _ .0 (r .2) in
-      let v = mapped-some _ (getElem? (eventsOf sc (r .0)) (p .0 .done)) .0 (p .2) in
-      rw (v .2) (record { numbered = refl; ofRun = r .1; ofProgress = p .1; ofEvent = v .1 })
-
-  -- it is a run of the scenario
-  active-mem : (u : ℕ) {a : Active} → active sc s u ≡ some a → List·Memᴰ u (numbersFrom 1 (length (sc .runs)))
-  active-mem u {a} e = let w = active-in u e in mem-numbersFrom 1 (length (sc .runs)) .1 (omega (arith, getElem-below (sc .runs) (a .index) (w .ofRun), w .numbered))
-
   -- the moves of some runs are the allowed moves of these runs
   moves-of-runs : (us : List ℕ) (m : Move) (s′ : State) → List·Memᴰ (m, s′) (joined (λ u. movesOfRun sc s u (active sc s u)) us) ↔ (List·Memᴰ (m .run) us × Step sc s m s′)
   unfolding movesOfRun
@@ -279,8 +267,14 @@ module _ (sc : Scenario) (s : State) where
   pub moves-exact : (which : Listing) (m : Move) (s′ : State) → List·Memᴰ (m, s′) (movesIn which sc s) ↔ StepIn which sc s m s′
   unfolding movesIn runsIn
   moves-exact full m s′ =
-      let all = moves-of-runs (numbersFrom 1 (length (sc .runs))) m s′ in
-      (λ h. all .0 h .1, λ p. all .1 (active-mem (m .run) (step-made p .1), p))
+      let all = moves-of-runs (runNumbers sc) m s′ in
+      (λ h. all .0 h .1, λ p. all .1 (active-mem sc s (m .run) (step-made p .1), p))
+  moves-exact short m s′ =
+      let all = moves-of-runs (runsIn short sc s) m s′ in
+      let some-runs = runs-short sc s (m .run) in (
+        λ h. let w = all .0 h in (some-runs .0 (w .0) .1, w .1),
+        λ p. all .1 (some-runs .1 (active-mem sc s (m .run) (step-made (p .1) .1), p .0), p .1),
+      )
 
   -- whether the values of a move suit the next event of a run
   abbrev fits : Move → Active → Bool
@@ -375,15 +369,10 @@ module _ (sc : Scenario) (s : State) where
       across : (vs ws : List Value) (b c : Move × State) → Earlier ValueBefore vs ws → branchBy sc s u a vs ≡ some b → branchBy sc s u a ws ≡ some c → MoveBefore (b .0) (c .0)
       across vs ws b c h e f = rw (mapped-branch u vs (performed sc s a vs) .0 e .1, mapped-branch u ws (performed sc s a ws) .0 f .1) (earlierValues refl h)
 
-  -- so are the runs of a list
-  runs-ordered : (which : Listing) → Ordered _<_ (runsIn which sc s)
-  unfolding runsIn
-  runs-ordered full = ordered-numbersFrom 1 (length (sc .runs))
-
   -- the moves are in order
   pub moves-ordered : (which : Listing) → Ordered (λ b c. MoveBefore (b .0) (c .0)) (movesIn which sc s)
   unfolding movesIn
-  moves-ordered which = ordered-joined (λ u. movesOfRun sc s u (active sc s u)) (runs-ordered which) (λ u h. movesOfRun-ordered u (active sc s u)) across
+  moves-ordered which = ordered-joined (λ u. movesOfRun sc s u (active sc s u)) (runs-ordered sc s which) (λ u h. movesOfRun-ordered u (active sc s u)) across
     where
       across : (u u′ : ℕ) (b c : Move × State) → u < u′ → List·Memᴰ b (movesOfRun sc s u (active sc s u)) → List·Memᴰ c (movesOfRun sc s u′ (active sc s u′)) → MoveBefore (b .0) (c .0)
       across u u′ b c l h k = earlierRun (omega (arith, movesOfRun-run u (active sc s u) h, movesOfRun-run u′ (active sc s u′) k))

@@ -5,6 +5,7 @@ use native.Mathlib.Nat.{min-eq-left, le-pred-of-lt}
 use mathlib.Core.Path.{_≡_, refl}
 use mathlib.Core.Logic.{_↔_}
 use mathlib.Core.Bool.{Bool, true, false}
+use mathlib.Core.List.{List}
 use mathlib.Core.Option.{Option, none, some}
 use lib.Dec.{eqb·suc-zero}
 use lib.ListN.{length}
@@ -12,6 +13,7 @@ use Rattle.semantics.specs.Roles.{ClaimKind, secrecy}
 use Rattle.semantics.specs.State.{Claim}
 use Rattle.semantics.specs.Answer.{Refusal, Answer, refused, accepted}
 use Rattle.semantics.specs.Scenario.{Scenario}
+use Rattle.semantics.specs.Moves.{Move}
 use Rattle.semantics.specs.Verdict.{Verdict, brokenAt, held, stopped, traceBytes}
 use Rattle.semantics.specs.Packing.{packedRefusal, packedNumber, packedBreak, packedKind, packedDerived, packedOpened, packedReplayed, packedSearched, readWord, readNumber, RefusalRead, DeriveRead, OpenRead, ReplayRead, SearchRead, FitsRefusal, FitsDerive, FitsOpen, FitsReplay, FitsSearch}
 use Rattle.semantics.specs.laws.Answer.{refused-not-accepted}
@@ -29,6 +31,10 @@ held-word a = (holds a, λ w. rw (w .1) (omega arith))
     holds (accepted (brokenAt p ms c)) e = absurd (omega (arith, kind-two (c .kind)))
     holds (accepted (held n)) e = (n, refl)
     holds (accepted (stopped n)) e = absurd (omega arith)
+
+-- BROKEN's word is that of a break
+pub broken-word : {a : Answer Verdict} {p : ℕ} {ms : List Move} {c : Claim} → a ≡ accepted (brokenAt p ms c) → readWord (packedSearched a) ≡ 3
+broken-word {c = c} e = rw e (omega (arith, kind-two (c .kind)))
 
 -- ACCEPTED's word is that of an accepted file alone
 pub accepted-word : (a : Answer Scenario) → (readWord (packedOpened a) ≡ 4) ↔ ((sc : Scenario) × (a ≡ accepted sc))

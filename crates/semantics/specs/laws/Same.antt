@@ -14,7 +14,7 @@ use Rattle.semantics.specs.Roles.{ClaimKind, secrecy, EventKind, send, r
 use Rattle.semantics.specs.Runs.{Run, allTrusted}
 use Rattle.semantics.specs.Scenario.{Scenario}
 use Rattle.semantics.specs.State.{Value, Progress, State, Active, readingIn, newVariables, paired, active, eventsOf, Message, Claim}
-use Rattle.semantics.specs.Moves.{messageAfter, toSet, setAfter, knownAfter, advanced, performed, branch, choices, movesOfRun, Listing, full, runsIn, movesIn}
+use Rattle.semantics.specs.Moves.{messageAfter, toSet, setAfter, knownAfter, advanced, performed, branch, choices, movesOfRun, Listing, full, short, sendOrClaim, readyAt, runNumbers, aloneOr, runsIn, movesIn}
 use Rattle.semantics.specs.Tree.{listed}
 use Rattle.semantics.specs.Verdict.{claimedValue, isKnown, isAgainst, brokenEvent, brokenInRun, broken}
 use Rattle.semantics.specs.Guarantee.{GoodTable}
@@ -133,10 +133,23 @@ module _ (sc : Scenario) where
         to-set : {a b : Active} → SameActive a b → toSet sc a ≡ toSet sc b
         to-set (sameActive {k} {run} {ev} {p} {q} runs) = new-same (sc .rows) (p .values) (q .values) (runs .sets) (ev .kind) (ev .row)
 
+    -- a run sends or claims next in both or in neither
+    ready-same : {d e : State} → Same (sc .rows) d e → (u : ℕ) → readyAt sc d u ≡ readyAt sc e u
+    unfolding readyAt
+    ready-same {d} {e} same u = go (active-same d e (same .progress) u)
+      where
+        at-next : Option Active → Option ℕ
+        at-next o = andThen o (λ a. provided (sendOrClaim (a .event .kind)) u)
+
+        go : {o o′ : Option Active} → Both SameActive o o′ → at-next o ≡ at-next o′
+        go noneOf = refl
+        go (someOf (sameActive runs)) = refl
+
     -- a list goes on with the same runs
     runs-same : (which : Listing) {d e : State} → Same (sc .rows) d e → runsIn which sc d ≡ runsIn which sc e
     unfolding runsIn
     runs-same full same = refl
+    runs-same short same = ap (λ (at : ℕ → Option ℕ). aloneOr (firstOf (map at (runNumbers sc))) (runNumbers sc)) (fun-ext (ready-same same))
 
     -- The moves of both are the same, in each place.
     pub moves-same : (which : Listing) {d e : State} → Same (sc .rows) d e → Each (SameMove (sc .rows)) (movesIn which sc d) (movesIn which sc e)

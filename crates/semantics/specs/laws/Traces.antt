@@ -12,7 +12,7 @@ use Rattle.semantics.specs.Roles.{Event}
 use Rattle.semantics.specs.Runs.{Run}
 use Rattle.semantics.specs.Scenario.{Scenario}
 use Rattle.semantics.specs.State.{Progress, State, initial, eventsOf, eventsLeftFrom, eventsLeft}
-use Rattle.semantics.specs.Moves.{Move, advanced, Listing, full, movesIn}
+use Rattle.semantics.specs.Moves.{Move, advanced, Listing, full, short, movesIn}
 use Rattle.semantics.specs.Tree.{Earlier}
 use Rattle.semantics.specs.Verdict.{Entry, traceList}
 use Rattle.semantics.specs.Allowed.{Step, step, AllowedTrace, StepIn, TraceIn, MoveBefore}
@@ -52,6 +52,7 @@ Any s = Unit
 -- a move of a list is allowed
 pub step-in : (which : Listing) (sc : Scenario) (s : State) (m : Move) (s′ : State) → StepIn which sc s m s′ → Step sc s m s′
 step-in full sc s m s′ p = p
+step-in short sc s m s′ p = p .1
 
 -- so is a trace of a list
 pub trace-in : (which : Listing) (sc : Scenario) {ms : List Move} {s : State} → TraceIn which sc ms s → AllowedTrace sc ms s

@@ -1,15 +1,16 @@
 -- The laws of the list of all sequences of moves, for any moves. Assumes nothing.
 use Prim.Native.Nat.{ℕ, zero, suc, _≤_, _<_}
+use native.Mathlib.Nat.{le-refl}
 use native.Mathlib.Omega.{arith}
 use native.Mathlib.Decide.{decLt}
 use mathlib.Core.Path.{_≡_, refl}
 use mathlib.Core.Logic.{_↔_, _⊎_, inl, inr, ⊎-elim}
 use mathlib.Core.Option.{some}
 use mathlib.Core.List.{List, [], _∷_, _++_, map, List·Memᴰ, List·Memᴰ·head, List·Memᴰ·tail, List·Memᴰ·not-nil}
-use lib.ListN.{getElem?}
+use lib.ListN.{length, getElem?, length-map}
 use Rattle.semantics.specs.Basic.{joined, Ordered, ordered-none, ordered-more}
 use Rattle.semantics.specs.Tree.{Follows, stays, moves, Earlier, shorter, differs, agrees, listed}
-use Rattle.semantics.specs.laws.List.{mem-cases, mem-joined, mem-map, ordered-imply, ordered-map, ordered-joined, ordered-at}
+use Rattle.semantics.specs.laws.List.{mem-cases, mem-joined, mem-map, ordered-imply, ordered-map, ordered-joined, ordered-at, Within, joined-fewer}
 
 module _ {State Move : Type 0} {Step : State → Move → State → Type 0} where
   -- a sequence in two parts passes through a state between them
@@ -152,3 +153,16 @@ module _ {State Move : Type 0} (next : State → List (Move × State)) where
 
         across : (b c : Move × State) (e f : List Move × State) → Before (b .0) (c .0) → List·Memᴰ e (after n b) → List·Memᴰ f (after n c) → Earlier Before (e .0) (f .0)
         across b c e f k h h′ = rw (mem-after n b .0 h .2, mem-after n c .0 h′ .2) (differs k)
+
+module _ {State Move : Type 0} (few next : State → List (Move × State)) where
+  -- lists after a move, one no longer than the other
+  after-fewer : (n : ℕ) → ((s : State) → length (listed few n s) ≤ length (listed next n s)) → (b : Move × State) → length (after few n b) ≤ length (after next n b)
+  after-fewer n fewer b =
+      let before : List Move × State → List Move × State = λ e. (b .0 ∷ e .0, e .1) in
+      omega (arith, fewer (b .1), length-map (listed few n (b .1)) before, length-map (listed next n (b .1)) before)
+
+  -- fewer moves make no longer list
+  pub listed-fewer : ((s : State) → Within (few s) (next s)) → (n : ℕ) (s : State) → length (listed few n s) ≤ length (listed next n s)
+  unfolding listed
+  listed-fewer within zero s = le-refl _
+  listed-fewer within (suc n) s = omega (arith, joined-fewer (after few n) (after next n) (after-fewer n (listed-fewer within n)) (within s))

@@ -1,4 +1,4 @@
--- The worked cases computed: every case of both tables holds, and P7 to P11 hold of the inference relation itself. Assumes nothing.
+-- The worked cases computed: every case of the tables holds, and P7 to P11 hold of the inference relation itself. Assumes nothing.
 use mathlib.Core.Path.{_≡_, refl}
 use mathlib.Core.Bool.{true, false}
 use mathlib.Core.List.{List, [], _∷_}
@@ -7,7 +7,7 @@ use lib.Dec.{T}
 use Rattle.semantics.specs.Derive.{absentFrom, derivableRow, derived}
 use Rattle.semantics.specs.Frame.{unversioned, tooLong, budgetOf, framed, misframed, blockFrom, block, recordsFrom, records, firstBad}
 use Rattle.semantics.specs.Inference.{isMember, builds, partsOf, takesApart, apart, weight, analysed, derivable, Derives}
-use Rattle.semantics.specs.Moves.{valuesOfType, candidates, choices, message, knownAfter, setAfter, messageAfter, advanced, performed, movesOfRun, runsIn, movesIn}
+use Rattle.semantics.specs.Moves.{valuesOfType, candidates, choices, message, knownAfter, setAfter, messageAfter, advanced, performed, movesOfRun, readyAt, runsIn, movesIn}
 use Rattle.semantics.specs.Roles.{eventsFrom, knowledgeIn, eventsIn, roleIn, roleRecords, rolesPresent, knowledgeFits, goodRole, badRole, absentRoleFrom, rolesFrom}
 use Rattle.semantics.specs.Basic.{unfitFrom}
 use Rattle.semantics.specs.Runs.{runIn, runRecords, goodRun, badRun, runsFrom, allTrusted}
@@ -20,7 +20,7 @@ use Rattle.semantics.specs.Value.{folded, valueFrom, values, valueOf, be
 use Rattle.semantics.specs.Verdict.{traceList, brokenEvent, brokenInRun, broken, walked, verdict, traceBytes, shortBuffer, searchedIn, bufferIn}
 use Rattle.semantics.specs.WellFormed.{readableAtom, readable, wellFormed, eventTerm, roleKnowledge, illFormedFrom, illFormed}
 use Rattle.semantics.specs.Replay.{isValueOf, suits, after, firstStep, replayedFrom, replayed}
-use Rattle.semantics.specs.Worked.{AllHold, cases, edges, p1File, p1Bytes, a, c, d}
+use Rattle.semantics.specs.Worked.{AllHold, cases, edges, shortCases, p1File, p1Bytes, a, c, d}
 use Rattle.semantics.specs.laws.Inference.{derivable-exact}
 
 -- the file above is P1's
@@ -36,6 +36,11 @@ worked = (refl, (refl, (refl, (refl, (refl, (refl, (refl, (refl, (refl, (refl, (
 pub edges-worked : AllHold edges
 unfolding absentFrom derivableRow derived unversioned tooLong budgetOf framed misframed blockFrom block recordsFrom records firstBad isMember builds partsOf takesApart apart weight analysed derivable valuesOfType candidates choices message knownAfter setAfter messageAfter advanced performed movesOfRun runsIn movesIn eventsFrom knowledgeIn eventsIn roleIn roleRecords rolesPresent knowledgeFits goodRole badRole absentRoleFrom rolesFrom runIn runRecords goodRun badRun runsFrom unfitFrom scenarioOf opened termOf assigned readingIn atomsOf initialKnowledge initial eventsOf active unsetBeneath newVariables eventsLeftFrom eventsLeft decode fits admissible repeated rowRefusal rowsFrom size listed folded valueFrom values valueOf beneathFrom beneath traceList allTrusted brokenEvent brokenInRun broken walked verdict traceBytes shortBuffer searchedIn bufferIn readableAtom readable wellFormed eventTerm roleKnowledge illFormedFrom illFormed ℕ-discrete isValueOf suits after firstStep replayedFrom replayed
 edges-worked = (refl, (refl, (refl, (refl, (refl, (refl, (refl, (refl, (refl, (refl, (refl, (refl, (refl, (refl, (refl, (refl, (refl, (refl, (refl, (refl, (refl, (refl, (refl, (refl, (refl, (refl, (refl, (refl, (refl, (refl, (refl, (refl, (refl, (refl, (refl, (refl, (refl, (refl, (refl, (refl, (refl, (refl, (refl, (refl, (refl, (refl, (refl, (refl, (refl, (refl, (refl, (refl, (refl, (refl, (refl, (refl, (refl, (refl, (refl, (refl, (refl, (refl, (refl, (refl, (refl, (refl, (refl, (refl, (refl, (refl, (refl, (refl, tt))))))))))))))))))))))))))))))))))))))))))))))))))))))))))))))))))))))))
+
+-- the cases of the short list, by computation
+pub short-worked : AllHold shortCases
+unfolding absentFrom derivableRow derived unversioned tooLong budgetOf framed misframed blockFrom block recordsFrom records firstBad isMember builds partsOf takesApart apart weight analysed derivable valuesOfType candidates choices message knownAfter setAfter messageAfter advanced performed movesOfRun readyAt runsIn movesIn eventsFrom knowledgeIn eventsIn roleIn roleRecords rolesPresent knowledgeFits goodRole badRole absentRoleFrom rolesFrom runIn runRecords goodRun badRun runsFrom unfitFrom scenarioOf opened termOf assigned readingIn atomsOf initialKnowledge initial eventsOf active unsetBeneath newVariables eventsLeftFrom eventsLeft decode fits admissible repeated rowRefusal rowsFrom size listed folded valueFrom values valueOf beneathFrom beneath traceList allTrusted brokenEvent brokenInRun broken walked verdict traceBytes shortBuffer searchedIn bufferIn readableAtom readable wellFormed eventTerm roleKnowledge illFormedFrom illFormed ℕ-discrete
+short-worked = (refl, (refl, (refl, (refl, (refl, (refl, (refl, (refl, (refl, (refl, tt))))))))))
 
 -- P7 from {c}pk(a) and sk(a): c
 pub p7 : Derives (encrypted c (pk a) ∷ sk a ∷ []) c
