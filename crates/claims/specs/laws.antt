@@ -1,5 +1,4 @@
 -- The laws of broken claims, with their proofs.
-pub mod First
 pub mod Event
 pub mod Run
 pub mod State

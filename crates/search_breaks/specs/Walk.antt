@@ -11,7 +11,7 @@ use Rattle.semantics.specs.Answer.{accepted}
 use Rattle.semantics.specs.Scenario.{Scenario, opened}
 use Rattle.semantics.specs.State as definitions
 use Rattle.semantics.specs.State.{Value, Active, active}
-use Rattle.semantics.specs.Moves.{Move, choices, performed, toSet, branch, movesOfRun, full, movesIn}
+use Rattle.semantics.specs.Moves.{Move, choices, performed, toSet, branch, movesOfRun, Listing, movesIn}
 use Rattle.semantics.specs.Tree.{listed}
 use Rattle.semantics.specs.Verdict.{Entry, Finding, found, nothing, cut, walked, broken, valueBytes, traceBytes, traceList}
 use Rattle.semantics.specs.Allowed.{Takes, AllowedTrace}
@@ -26,6 +26,7 @@ use Rattle.answers.specs.declared.Break.{Break}
 use Rattle.answers.specs.declared.Walked.{Walked}
 use Rattle.answers.specs.declared.Walked.the-variants.{Broken, Clean, Cut}
 use Rattle.search_findings.specs.Findings.{isBroken}
+use Rattle.search_runs.specs.Runs.{listAs}
 use Rattle.search_breaks.specs.declared.Choice.{Choice}
 use Rattle.search_breaks.specs.declared.Course.{Course}
 use Rattle.search_breaks.specs.declared.Plan.{Plan}
@@ -52,9 +53,9 @@ pub record Finds (sc : Scenario) (left : ℕ) (es : List Entry) (before : List �
   pub answer : w ≡ walkedAs es (walked (judged sc) left es)
   pub buffer : after ≡ bufferAs before at (walked (judged sc) left es)
 
--- what a walk through the whole list promises
-abbrev pub FindsAll : Scenario → ℕ → List ℕ → List ℕ → Walked → Type 0
-FindsAll sc left before after w = Finds sc left (traceList full sc) before 0 after w
+-- what a walk through a whole list promises
+abbrev pub FindsAll : Listing → Scenario → ℕ → List ℕ → List ℕ → Walked → Type 0
+FindsAll list sc left before after w = Finds sc left (traceList list sc) before 0 after w
 
 -- an entry after one more move
 abbrev pub afterMove : Move → Entry → Entry
@@ -62,7 +63,7 @@ afterMove m e = (m ∷ e .0, e .1)
 
 -- the moves that a walk goes through from a state, in order, with the states after them
 unfoldable pub nextIn : Plan → Scenario → definitions.State → List (Move × definitions.State)
-nextIn plan sc = movesIn full sc
+nextIn plan sc = movesIn (listAs (plan .list)) sc
 
 -- the entries from a state on, so many moves deep
 abbrev pub entriesFrom : Plan → ℕ → Scenario → definitions.State → List Entry

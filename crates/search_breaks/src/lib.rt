@@ -8,9 +8,11 @@ ghost use Rattle.search_breaks.specs.Walk.{over, ValuesAre, StepFits, st
 use answers::Walked;
 use runs::RunEvent;
 use runs::Runs;
+use search_runs::Listing;
 
-// What a walk goes by: how many rows the table has, the runs, and the rows of the table's variables.
+// What a walk goes by: which list it goes through, how many rows the table has, the runs, and the rows of the table's variables.
 pub struct Plan {
+    pub list: Listing,
     pub rows: usize,
     pub runs: Runs,
     pub variables: [usize; 8],

@@ -1,4 +1,4 @@
-// Search: the walk through the list of allowed traces in its order. States that were walked whole are remembered, and not walked again.
+// Search: the walk through a list of allowed traces in its order. States that were walked whole are remembered, and not walked again.
 ghost use Prim.Native.Nat.{_<_};
 ghost use Rattle.search_breaks.specs.Walk.{stateOf, SomeState, SomeClear, SomeChoice, SomeMove, SomeStep, FindsFrom, FindsRun, FindsChoice, FindsMove, FindsStep};
 ghost use Rattle.search_same.specs.Memory.{Remembers, Room};
@@ -39,8 +39,11 @@ pub fn walk(
         return own;
     }
     let mut count = search_findings::count_of(own);
-    let mut k = 0;
-    while k < plan.runs.count {
+    let list = plan.list;
+    let span = search_runs::runs_in(list, file, plan.runs, done);
+    let end = span.end;
+    let mut k = span.from;
+    while k < end {
         let found = walk_run(
             trace,
             memory,

@@ -17,12 +17,12 @@ use Rattle.semantics.specs.Runs.{Run, allTrusted}
 use Rattle.semantics.specs.Scenario.{Scenario}
 use Rattle.semantics.specs.State.{Progress, State, eventsOf, readingIn}
 use Rattle.semantics.specs.Verdict.{isAgainst, brokenEvent, brokenInRun}
+use Rattle.semantics.specs.laws.Broken.{first-found, first-none}
 use Rattle.runs.specs.declared.Runs.{Runs}
 use Rattle.claims.specs.AtRun.{AtRun, eventBreaks, AnswersEvent}
 use Rattle.answers.specs.Answers.{claimedAs}
 use Rattle.answers.specs.declared.ClaimKind.the-variants.{Secrecy}
 use Rattle.answers.specs.declared.Claimed.the-variants.{Broken, Nothing}
-use Rattle.claims.specs.laws.First.{first-found, first-none}
 use Rattle.claims.specs.laws.Event.{andThen-none}
 
 -- none of the first j events of a run is a broken claim
@@ -50,14 +50,14 @@ module _ {file : List ℕ} {r : Runs} {sc : Scenario} {d : State} {marks : List 
 
   -- a run with an untrusted agent breaks none
   pub run-untrusted : false ≡ allTrusted (sc .rows) run → Nothing ≡ claimedAs (brokenInRun sc d k)
-  run-untrusted e = rw (in-run, first-none (eventBreaks sc d k run p) (p .done) (λ i l. andThen-none (getElem? (eventsOf sc run) i) (brokenEvent sc d (suc k) run p i) (untrusted-event e i))) refl
+  run-untrusted e = rw (in-run, first-none (eventBreaks sc d k run p) 0 (p .done) (λ i f l. andThen-none (getElem? (eventsOf sc run) i) (brokenEvent sc d (suc k) run p i) (untrusted-event e i))) refl
 
   module _ (trusts : true ≡ allTrusted (sc .rows) run) (j : ℕ) (before : NoneTo file r marks k j) {done : ℕ} (made : done ≡ p .done) where
     -- an event that is one, after none, is the first
     pub run-broken : j < done → AnswersEvent file r marks k j true → Broken (record { run = k + 1; event = j; kind = Secrecy }) ≡ claimedAs (brokenInRun sc d k)
     run-broken l here =
-        rw (in-run, first-found (eventBreaks sc d k run p) (p .done) j (omega arith) (before sc d run p at trusts) (here sc d run p at trusts), add-one k) refl
+        rw (in-run, first-found (eventBreaks sc d k run p) 0 (p .done) j (omega arith) (omega arith) (λ i f. before sc d run p at trusts i) (here sc d run p at trusts), add-one k) refl
 
     -- with all events passed there is none
     pub run-none : done ≤ j → Nothing ≡ claimedAs (brokenInRun sc d k)
-    run-none l = rw (in-run, first-none (eventBreaks sc d k run p) (p .done) (λ i m. before sc d run p at trusts i (omega arith))) refl
+    run-none l = rw (in-run, first-none (eventBreaks sc d k run p) 0 (p .done) (λ i f m. before sc d run p at trusts i (omega arith))) refl

@@ -14,6 +14,7 @@ use Rattle.semantics.specs.State.{Progress, State}
 use Rattle.semantics.specs.State as definitions
 use Rattle.semantics.specs.Verdict.{brokenInRun, broken}
 use Rattle.semantics.specs.laws.List.{getElem-there}
+use Rattle.semantics.specs.laws.Broken.{first-found, first-none}
 use Rattle.rows.specs.Rows.{rowsOf}
 use Rattle.knowledge.specs.Marks.{Exact}
 use Rattle.runs.specs.declared.Runs.{Runs}
@@ -25,7 +26,6 @@ use Rattle.answers.specs.Answers.{claimedAs}
 use Rattle.answers.specs.declared.Claim.{Claim}
 use Rattle.answers.specs.declared.Claimed.{Claimed}
 use Rattle.answers.specs.declared.Claimed.the-variants.{Broken, Nothing}
-use Rattle.claims.specs.laws.First.{first-found, first-none}
 
 -- what a state's marks and positions say
 pub record StandsIn (file t : List ℕ) (n : ℕ) (r : Runs) (marks : List Bool) (done : List ℕ) (sc : Scenario) (d : State) : Type 0 where
@@ -59,7 +59,7 @@ module _ (file t : List ℕ) (n : ℕ) (r : Runs) (marks : List Bool) (done : Li
   -- with all runs passed there is none
   pub state-none : r .count ≤ k → (sc : Scenario) (d : State) → StandsIn file t n r marks done sc d → Nothing ≡ claimedAs (broken sc d)
   unfolding broken
-  state-none l sc d is = rw (first-none (brokenInRun sc d) (length (sc .runs)) (λ i m. before sc d is i (omega (arith, is .given .runs .count)))) refl
+  state-none l sc d is = rw (first-none (brokenInRun sc d) 0 (length (sc .runs)) (λ i f m. before sc d is i (omega (arith, is .given .runs .count)))) refl
 
   module _ (below : k < r .count) (found : Claimed) (here : FoundIn file t n r marks done k found) where
     -- what is found is so for the state
@@ -76,7 +76,7 @@ module _ (file t : List ℕ) (n : ℕ) (r : Runs) (marks : List Bool) (done : Li
     state-broken c e sc d is =
         let h = found-here sc d is in
         let x = is-broken (brokenInRun sc d k) c (sym h ∙ e) in
-        h ∙ ap claimedAs (x .1 ∙ sym (first-found (brokenInRun sc d) (length (sc .runs)) k (omega (arith, is .given .runs .count)) (before sc d is) (x .1)))
+        h ∙ ap claimedAs (x .1 ∙ sym (first-found (brokenInRun sc d) 0 (length (sc .runs)) k (omega arith) (omega (arith, is .given .runs .count)) (λ i f. before sc d is i) (x .1)))
 
     -- a run that breaks none is passed
     pub none-next : found ≡ Nothing → NoneBelow file t n r marks done (k + 1)

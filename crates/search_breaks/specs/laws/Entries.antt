@@ -9,11 +9,13 @@ use Rattle.semantics.specs.Basic.{joined, presentOnes, mapped, numbersFrom}
 use Rattle.semantics.specs.Term.{Atom}
 use Rattle.semantics.specs.Scenario.{Scenario}
 use Rattle.semantics.specs.State.{Value, State, Active, active}
-use Rattle.semantics.specs.Moves.{Move, candidates, choices, performed, toSet, branch, movesOfRun, full, runsIn, movesIn}
+use Rattle.semantics.specs.Moves.{Move, candidates, choices, performed, toSet, branch, movesOfRun, runsIn, movesIn}
 use Rattle.semantics.specs.Verdict.{Entry}
 use Rattle.semantics.specs.Allowed.{Takes, Step}
 use Rattle.semantics.specs.laws.Moves.{mem-choices, moves-exact}
+use Rattle.semantics.specs.laws.Traces.{step-in}
 use Rattle.semantics.specs.laws.Tree.{listed-suc}
+use Rattle.search_runs.specs.Runs.{listAs}
 use Rattle.search_breaks.specs.declared.Plan.{Plan}
 use Rattle.search_breaks.specs.Walk.{nextIn, entriesFrom, afterMove, below, ofRun, branches}
 
@@ -48,32 +50,31 @@ present-joined {C = C} f g (x ∷ xs) =
 -- the moves that are walked through are allowed
 pub next-step : (plan : Plan) (sc : Scenario) (s : State) (m : Move) (s′ : State) → List·Memᴰ (m, s′) (nextIn plan sc s) → Step sc s m s′
 unfolding nextIn
-next-step plan sc s m s′ q = moves-exact sc s full m s′ .0 q
+next-step plan sc s m s′ q = step-in (listAs (plan .list)) sc s m s′ (moves-exact sc s (listAs (plan .list)) m s′ .0 q)
 
 module _ (plan : Plan) (sc : Scenario) (n : ℕ) where
   -- the entries of a state: its own, then those below it
   pub entries-of : (d : State) → entriesFrom plan (suc n) sc d ≡ ([], d) ∷ below plan sc n (nextIn plan sc d)
   entries-of d = listed-suc (nextIn plan sc) n d
 
-  -- those of the runs from one on
-  abbrev pub runsFrom : State → ℕ → List Entry
-  runsFrom d k = joined (λ u. below plan sc n (movesOfRun sc d u (active sc d u))) (numbersFrom (suc k) (length (sc .runs) - k))
+  -- those of the runs from one on, from 0, up to another
+  abbrev pub runsFrom : State → ℕ → ℕ → List Entry
+  runsFrom d end k = joined (λ u. below plan sc n (movesOfRun sc d u (active sc d u))) (numbersFrom (suc k) (end - k))
 
-  pub runs-all : (d : State) → below plan sc n (nextIn plan sc d) ≡ runsFrom d 0
-  unfolding nextIn movesIn runsIn
-  runs-all d =
-      let z : length (sc .runs) ≡ length (sc .runs) - 0 = omega arith in
-      joined-joined (λ b. map (afterMove (b .0)) (entriesFrom plan n sc (b .1))) (λ u. movesOfRun sc d u (active sc d u)) (numbersFrom 1 (length (sc .runs)))
-      ∙ ap (λ (m : ℕ). joined (λ u. below plan sc n (movesOfRun sc d u (active sc d u))) (numbersFrom 1 m)) z
+  pub runs-all : (d : State) (end k : ℕ) → runsIn (listAs (plan .list)) sc d ≡ numbersFrom (suc k) (end - k) → below plan sc n (nextIn plan sc d) ≡ runsFrom d end k
+  unfolding nextIn movesIn
+  runs-all d end k e =
+      joined-joined (λ b. map (afterMove (b .0)) (entriesFrom plan n sc (b .1))) (λ u. movesOfRun sc d u (active sc d u)) (runsIn (listAs (plan .list)) sc d)
+      ∙ ap (λ (us : List ℕ). joined (λ u. below plan sc n (movesOfRun sc d u (active sc d u))) us) e
 
-  pub runs-next : (d : State) (k : ℕ) → k < length (sc .runs) → runsFrom d k ≡ below plan sc n (movesOfRun sc d (suc k) (active sc d (suc k))) ++ runsFrom d (suc k)
-  runs-next d k l =
-      let z : length (sc .runs) - k ≡ suc (length (sc .runs) - suc k) = omega arith in
+  pub runs-next : (d : State) (end k : ℕ) → k < end → runsFrom d end k ≡ below plan sc n (movesOfRun sc d (suc k) (active sc d (suc k))) ++ runsFrom d end (suc k)
+  runs-next d end k l =
+      let z : end - k ≡ suc (end - suc k) = omega arith in
       ap (λ (m : ℕ). joined (λ u. below plan sc n (movesOfRun sc d u (active sc d u))) (numbersFrom (suc k) m)) z
 
-  pub runs-end : (d : State) (k : ℕ) → length (sc .runs) ≤ k → runsFrom d k ≡ []
-  runs-end d k l =
-      let z : length (sc .runs) - k ≡ 0 = omega arith in
+  pub runs-end : (d : State) (end k : ℕ) → end ≤ k → runsFrom d end k ≡ []
+  runs-end d end k l =
+      let z : end - k ≡ 0 = omega arith in
       ap (λ (m : ℕ). joined (λ u. below plan sc n (movesOfRun sc d u (active sc d u))) (numbersFrom (suc k) m)) z
 
   -- a run without an event to come

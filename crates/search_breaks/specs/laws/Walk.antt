@@ -11,7 +11,8 @@ use lib.ListN.{length}
 use borrow.Author.Tests.{not-false, eqb-true}
 use Rattle.semantics.specs.Scenario.{Scenario}
 use Rattle.semantics.specs.State.{State}
-use Rattle.semantics.specs.Moves.{Move}
+use Rattle.semantics.specs.Basic.{numbersFrom}
+use Rattle.semantics.specs.Moves.{Move, runsIn}
 use Rattle.semantics.specs.Tree.{listed}
 use Rattle.semantics.specs.Verdict.{Entry, Finding, found, nothing, cut, later, walked, broken, traceBytes}
 use Rattle.semantics.specs.State as states
@@ -21,8 +22,10 @@ use Rattle.answers.specs.declared.Claimed.{Claimed}
 use Rattle.answers.specs.declared.Walked.{Walked}
 use Rattle.answers.specs.declared.Walked.the-variants.{Broken, Clean, Cut}
 use Rattle.search_findings.specs.Findings.{ownBreak, ownAs, goesOn, countOf}
+use Rattle.search_runs.specs.Runs.{listAs, Standing}
+use Rattle.state.specs.declared.State.{State as CodeState}
 use Rattle.search_breaks.specs.declared.Plan.{Plan}
-use Rattle.search_breaks.specs.Walk.{judged, bufferAs, Finds, nextIn, entriesFrom, below, ofRun}
+use Rattle.search_breaks.specs.Walk.{judged, bufferAs, Finds, nextIn, entriesFrom, below, ofRun, SomeState}
 use Rattle.search_breaks.specs.laws.Entries.{entries-of, runsFrom, runs-all, runs-next, runs-end}
 use Rattle.search_breaks.specs.laws.Finds.{Passed, passed-one, passed-all}
 use Rattle.search_breaks.specs.laws.Bytes.{over-none}
@@ -73,7 +76,7 @@ pub record Starts (plan : Plan) (sc : Scenario) (left depth : ℕ) (d : State) (
   pub unbroken : broken sc d ≡ none
   pub within : countOf own ≤ left
   pub deep : 0 < depth
-  pub passed : Passed sc left (entriesFrom plan depth sc d) (runsFrom plan sc (depth - 1) d 0) (countOf own)
+  pub passed : (end k : ℕ) → runsIn (listAs (plan .list)) sc d ≡ numbersFrom (suc k) (end - k) → Passed sc left (entriesFrom plan depth sc d) (runsFrom plan sc (depth - 1) d end k) (countOf own)
 
 own-starts : (plan : Plan) (sc : Scenario) (left depth : ℕ) (d : State) (o : Option states.Claim) → broken sc d ≡ o → goesOn (ownAs left (claimedAs o)) depth ≡ true → Starts plan sc left depth d (ownAs left (claimedAs o))
 own-starts plan sc zero depth d o e goes = absurd (true≢false (sym goes))
@@ -83,8 +86,8 @@ own-starts plan sc (suc left) (suc n) d none e goes = record {
   unbroken = e;
   within = omega arith;
   deep = omega arith;
-  passed = let same : suc n - 1 ≡ n = omega arith in
-      rw (same, entries-of plan sc n d, runs-all plan sc n d) (passed-one sc (suc left) ([], d) (runsFrom plan sc n d 0) (omega arith) e);
+  passed = λ end k goes. let same : suc n - 1 ≡ n = omega arith in
+      rw (same, entries-of plan sc n d, runs-all plan sc n d end k goes) (passed-one sc (suc left) ([], d) (runsFrom plan sc n d end k) (omega arith) e);
 }
 
 module _ (plan : Plan) (sc : Scenario) (left depth : ℕ) (d : State) {claimed : Claimed} {own : Walked} (judged : claimed ≡ claimedAs (broken sc d)) (is : own ≡ ownAs left claimed) where
@@ -97,11 +100,15 @@ module _ (plan : Plan) (sc : Scenario) (left depth : ℕ) (d : State) {claimed :
   pub walk-starts : goesOn own depth ≡ true → Starts plan sc left depth d own
   walk-starts goes = rw by-claim (own-starts plan sc left depth d (broken sc d) refl (sym (ap (λ (w : Walked). goesOn w depth) by-claim) ∙ goes))
 
--- one run after the other
-module _ (plan : Plan) (sc : Scenario) (left n : ℕ) (d : State) {all : List Entry} {k count : ℕ} (passed : Passed sc left all (runsFrom plan sc n d k) count) where
-  pub walk-next : k < length (sc .runs) → Passed sc left all (below plan sc n (ofRun sc d k) ++ runsFrom plan sc n d (k + 1)) count
-  walk-next l =
-      subst (λ (m : ℕ). Passed sc left all (below plan sc n (ofRun sc d k) ++ runsFrom plan sc n d m) count) (sym (add-one k)) (subst (λ (es : List Entry). Passed sc left all es count) (runs-next plan sc n d k l) passed)
+-- a state that the walk is at, by its positions
+pub standing : {file t : List ℕ} {plan : Plan} {s : CodeState} {at : ℕ} (m : SomeState file t plan s at) → Standing file (plan .runs) (s .done) (m .sc) (m .d)
+standing m = record { t = _; n = _; s = _; given = m .here .reached .given; state = m .here .state; isDone = refl }
 
-  pub walk-end : length (sc .runs) ≤ k → (b : List ℕ) (at : ℕ) → Finds sc left all b at b (Clean count)
-  walk-end l b at = passed-all sc left (subst (λ (es : List Entry). Passed sc left all es count) (runs-end plan sc n d k l) passed) b at
+-- one run after the other
+module _ (plan : Plan) (sc : Scenario) (left n : ℕ) (d : State) {all : List Entry} {end k count : ℕ} (passed : Passed sc left all (runsFrom plan sc n d end k) count) where
+  pub walk-next : k < end → Passed sc left all (below plan sc n (ofRun sc d k) ++ runsFrom plan sc n d end (k + 1)) count
+  walk-next l =
+      subst (λ (m : ℕ). Passed sc left all (below plan sc n (ofRun sc d k) ++ runsFrom plan sc n d end m) count) (sym (add-one k)) (subst (λ (es : List Entry). Passed sc left all es count) (runs-next plan sc n d end k l) passed)
+
+  pub walk-end : end ≤ k → (b : List ℕ) (at : ℕ) → Finds sc left all b at b (Clean count)
+  walk-end l b at = passed-all sc left (subst (λ (es : List Entry). Passed sc left all es count) (runs-end plan sc n d end k l) passed) b at

@@ -7,7 +7,7 @@ use mathlib.Core.Option.{none, Option·none-ne-some}
 use lib.ListN.{length}
 use Rattle.semantics.specs.Scenario.{Scenario}
 use Rattle.semantics.specs.State.{State}
-use Rattle.semantics.specs.Moves.{full, Move}
+use Rattle.semantics.specs.Moves.{Move}
 use Rattle.semantics.specs.Verdict as verdicts
 use Rattle.semantics.specs.Verdict.{Entry, Finding, nothing, cut, walked}
 use Rattle.semantics.specs.Allowed.{AllowedTrace}
@@ -17,6 +17,7 @@ use Rattle.semantics.specs.laws.Tree.{listed-first}
 use Rattle.semantics.specs.laws.Verdict as walks
 use Rattle.semantics.specs.laws.Verdict.{walkedFound, walkedAll, walkedCut, walked-view}
 use Rattle.answers.specs.declared.Walked.the-variants as answers
+use Rattle.search_runs.specs.Runs.{listAs}
 use Rattle.search_breaks.specs.declared.Plan.{Plan}
 use Rattle.answers.specs.Answers.{walkedAs}
 use Rattle.search_breaks.specs.Walk.{judged, bufferAs, Finds, nextIn, entriesFrom}
@@ -75,7 +76,7 @@ module _ {sc : Scenario} (g : Guarantee sc) where
   -- the entries below equal states are the same in each place
   entries-same : (plan : Plan) (depth : ℕ) (d d′ : State) → Same (sc .rows) d d′ → Each (SameEntry (sc .rows)) (entriesFrom plan depth sc d) (entriesFrom plan depth sc d′)
   unfolding nextIn
-  entries-same plan depth d d′ same = listed-same sc (g .table) full depth d d′ same
+  entries-same plan depth d d′ same = listed-same sc (g .table) (listAs (plan .list)) depth d d′ same
 
   -- entries that are the same in each place break claims alike
   unbroken-same : {es es′ : List Entry} → Each (SameEntry (sc .rows)) es es′ → ((e : Entry) → List·Memᴰ e es → judged sc e ≡ none) → (e : Entry) → List·Memᴰ e es′ → judged sc e ≡ none

@@ -15,6 +15,7 @@ use Rattle.state.specs.State.{Given, IsState}
 use Rattle.state.specs.declared.State.{State}
 use Rattle.search_memory.specs.laws.Words.{zeros-read}
 use Rattle.answers.specs.declared.Walked.{Walked}
+use Rattle.search_runs.specs.Runs.{listAs}
 use Rattle.search_breaks.specs.declared.Plan.{Plan}
 use Rattle.search_breaks.specs.declared.Reach.{Reach}
 use Rattle.search_breaks.specs.Walk.{stateOf, nextIn, FindsAll, SomeState, FindsFrom}
@@ -40,8 +41,8 @@ module _ {file t : List ℕ} (plan : Plan) {sc : Scenario} {s : State} (isOpened
     });
   }
 
-  -- what is found from it on is what is found in the list of all traces
+  -- what is found from it on is what is found in the whole list
   pub first-finds : {left depth : ℕ} → depth ≡ eventsLeft sc (initial sc) → {b b′ : List ℕ} {w : Walked} → FindsFrom file t plan (stateOf (record { done = done }) (s .names) (s .classes) (s .marks)) (record { left = left; at = 0; depth = depth }) b b′ w
-      → FindsAll sc left b b′ w
+      → FindsAll (listAs (plan .list)) sc left b b′ w
   unfolding nextIn traceList state-first
   first-finds e told = rw (← e) (told state-first)

@@ -49,6 +49,7 @@ use Rattle.search_findings.proofs.goes_on.Reads as goes-on-reads
 use Rattle.search_findings.proofs.is_clean.Reads as is-clean-reads
 use Rattle.search_findings.proofs.known.Reads as known-reads
 use Rattle.search_findings.proofs.own.Reads as own-reads
+use Rattle.search_runs.proofs.runs_in.Reads as runs-in-reads
 use Rattle.search_memory.proofs.keep.Reads as keep-reads
 use Rattle.search_memory.proofs.key_of.Reads as key-of-reads
 use Rattle.search_memory.proofs.look_up.Reads as look-up-reads
@@ -110,7 +111,7 @@ abbrev walk-values-below : ℕ → In 7 walk-values-kinds.ps
 walk-values-below t = and 7 walk-values-kinds.ps (falls 7 walk-values-kinds.ps _<_ μ-walk-values t) walk-values.Pre
 
 abbrev walk-env : ℕ → walk-lts.Claims
-walk-env t = (broken-reads.Asked, broken-reads.Learnt, own-reads.Asked, own-reads.Learnt, goes-on-reads.Asked, goes-on-reads.Learnt, count-of-reads.Asked, count-of-reads.Learnt, walk-run-below t, walk-run.Post, behind-reads.Asked, behind-reads.Learnt, is-clean-reads.Asked, is-clean-reads.Learnt)
+walk-env t = (broken-reads.Asked, broken-reads.Learnt, own-reads.Asked, own-reads.Learnt, goes-on-reads.Asked, goes-on-reads.Learnt, count-of-reads.Asked, count-of-reads.Learnt, runs-in-reads.Asked, runs-in-reads.Learnt, walk-run-below t, walk-run.Post, behind-reads.Asked, behind-reads.Learnt, is-clean-reads.Asked, is-clean-reads.Learnt)
 
 abbrev walk-after-env : ℕ → walk-after-lts.Claims
 walk-after-env t = (advance-reads.Asked, advance-reads.Learnt, key-of-reads.Asked, key-of-reads.Learnt, look-up-reads.Asked, look-up-reads.Learnt, known-reads.Asked, known-reads.Learnt, perform-reads.Asked, perform-reads.Learnt, walk-below t, walk.Post, count-of-reads.Asked, count-of-reads.Learnt, keep-reads.Asked, keep-reads.Learnt, write-before-reads.Asked, write-before-reads.Learnt, after-step-reads.Asked, after-step-reads.Learnt)
@@ -125,13 +126,13 @@ abbrev walk-values-env : ℕ → walk-values-lts.Claims
 walk-values-env t = (next-unset-reads.Asked, next-unset-reads.Learnt, walk-move-below t, walk-move.Post, may-be-read-reads.Asked, may-be-read-reads.Learnt, next-value-reads.Asked, next-value-reads.Learnt, tried-reads.Asked, tried-reads.Learnt, with-value-reads.Asked, with-value-reads.Learnt, walk-values-below t, walk-values.Post, behind-reads.Asked, behind-reads.Learnt, is-clean-reads.Asked, is-clean-reads.Learnt, count-of-reads.Asked, count-of-reads.Learnt)
 
 abbrev walk-Inv-loop : walk-lts.InvT-loop
-walk-Inv-loop trace₀ memory₀ file t plan course names classes marks reach count₀ k₀ trace memory count k =
-    (trace ≡ trace₀) × (count ≤ reach .left) × (k ≤ plan .runs .count) × (0 < reach .depth)
-    × ((m : SomeState file t plan (stateOf course names classes marks) (reach .at)) → (broken (m .sc) (m .d) ≡ none) × Passed (m .sc) (reach .left) (entriesFrom plan (reach .depth) (m .sc) (m .d)) (runsFrom plan (m .sc) (reach .depth - 1) (m .d) k) count)
+walk-Inv-loop trace₀ memory₀ file t plan course names classes marks reach count₀ end k₀ trace memory count k =
+    (trace ≡ trace₀) × (count ≤ reach .left) × (end ≤ plan .runs .count) × (0 < reach .depth)
+    × ((m : SomeState file t plan (stateOf course names classes marks) (reach .at)) → (broken (m .sc) (m .d) ≡ none) × Passed (m .sc) (reach .left) (entriesFrom plan (reach .depth) (m .sc) (m .d)) (runsFrom plan (m .sc) (reach .depth - 1) (m .d) end k) count)
     × Remembers file t plan memory
 
 abbrev walk-μ-loop : walk-lts.MeasureT-loop
-walk-μ-loop trace₀ memory₀ file t plan course names classes marks reach count₀ k₀ trace memory count k = plan .runs .count - k
+walk-μ-loop trace₀ memory₀ file t plan course names classes marks reach count₀ end k₀ trace memory count k = end - k
 
 abbrev walk-values-Inv-loop : walk-values-lts.InvT-loop
 walk-values-Inv-loop trace₀ memory₀ file t plan course own names classes reach choice marks event values under x count₀ row₀ run₀ trace memory count row run =
@@ -159,40 +160,44 @@ walk-returns t c = (
   c .before .before .before .before .before .before .before .before .before .before .before .pre .1 .1 .remembers,
 )
 
+walk-runs-in-requires : (t : ℕ) → walk-lts.Need-runs-in-requires (walk-env t) (walk-at t) walk.Post walk-Inv-loop walk-μ-loop
+walk-runs-in-requires t c κs = let m = c .before .before .before .before .before .before .before .before .before .before .before .before .pre .1 .0 in (m .sc, m .d, from-state.standing m)
+
 walk-loop-holds : (t : ℕ) → walk-lts.Need-loop-holds (walk-env t) (walk-at t) walk.Post walk-Inv-loop walk-μ-loop
 walk-loop-holds t c =
-    let s = c .before .before .before .before .before .before .before .before .before .before .before .before in
+    let s = c .before .before .before .before .before .before .before .before .before .before .before .before .before in
     let m = s .pre .1 .0 in
-    let goes = sym (c .before .before .goes-on .ensures) ∙ not-false _ (c .before .if1 .left) in
-    let first = from-state.walk-starts (s .args .plan) (m .sc) (s .args .reach .left) (s .args .reach .depth) (m .d) (c .before .before .before .before .broken .ensures (m .sc) (m .d) _ (m .here .reached .given) (m .here .state) refl refl) (c .before .before .before .own .ensures) goes in (
+    let goes = sym (c .before .before .before .goes-on .ensures) ∙ not-false _ (c .before .before .if1 .left) in
+    let span = c .runs-in in
+    let first = from-state.walk-starts (s .args .plan) (m .sc) (s .args .reach .left) (s .args .reach .depth) (m .d) (c .before .before .before .before .before .broken .ensures (m .sc) (m .d) _ (m .here .reached .given) (m .here .state) refl refl) (c .before .before .before .before .own .ensures) goes in (
       refl,
-      omega (arith, first .within, c .count-of .ensures),
-      omega arith,
+      omega (arith, first .within, c .before .count-of .ensures),
+      span .ensures .within,
       first .deep,
-      λ m. let starts = from-state.walk-starts (s .args .plan) (m .sc) (s .args .reach .left) (s .args .reach .depth) (m .d) (c .before .before .before .before .broken .ensures (m .sc) (m .d) _ (m .here .reached .given) (m .here .state) refl refl) (c .before .before .before .own .ensures) goes in
-          (starts .unbroken, rw (c .count-of .ensures) (starts .passed)),
+      λ m. let starts = from-state.walk-starts (s .args .plan) (m .sc) (s .args .reach .left) (s .args .reach .depth) (m .d) (c .before .before .before .before .before .broken .ensures (m .sc) (m .d) _ (m .here .reached .given) (m .here .state) refl refl) (c .before .before .before .before .own .ensures) goes in
+          (starts .unbroken, rw (c .before .count-of .ensures) (starts .passed (span .result .end) (span .result .from) (span .ensures .runs (m .sc) (m .d) (from-state.standing m)))),
       s .pre .1 .1 .remembers,
     )
 
-walk-sub-t26 : (t : ℕ) → walk-lts.Need-sub-t26 (walk-env t) (walk-at t) walk.Post walk-Inv-loop walk-μ-loop
-walk-sub-t26 t c = omega (arith, c .before .before .before .before .before .before .loop .inv .3)
+walk-sub-t29 : (t : ℕ) → walk-lts.Need-sub-t29 (walk-env t) (walk-at t) walk.Post walk-Inv-loop walk-μ-loop
+walk-sub-t29 t c = omega (arith, c .before .before .before .before .before .loop .inv .3)
 
 walk-walk-run-requires : (t : ℕ) → walk-lts.Need-walk-run-requires (walk-env t) (walk-at t) walk.Post walk-Inv-loop walk-μ-loop
 walk-walk-run-requires t c κs =
     let s = c .before .before .before .before .before .before .before .before .before .before .before .before .before .before .before .before .before .before .before in
-    let l = c .before .before .before .before .before .before .loop in
+    let l = c .before .before .before .before .before .loop in
     let m = s .pre .1 .0 in
-    (omega (arith, s .pre .0, l .inv .3), (stateClear m (l .inv .4 m .0), (room-on (s .pre .1 .1) (l .inv .0) (l .inv .5) _ (omega arith) (omega arith), c .before .before .before .before .if2 .taken)))
+    (omega (arith, s .pre .0, l .inv .3), (stateClear m (l .inv .4 m .0), (room-on (s .pre .1 .1) (l .inv .0) (l .inv .5) _ (omega arith) (omega arith), omega (arith, l .inv .2, c .before .before .before .before .loop-test .taken))))
 
 walk-behind-requires : (t : ℕ) → walk-lts.Need-behind-requires (walk-env t) (walk-at t) walk.Post walk-Inv-loop walk-μ-loop
 walk-behind-requires t c κs =
     let s = c .before .before .before .before .before .before .before .before .before .before .before .before .before .before .before .before .before .before .before .before .before .before .before .before in
-    let l = c .before .before .before .before .before .before .before .before .before .before .before .loop in
+    let l = c .before .before .before .before .before .before .before .before .before .before .loop in
     let m = s .pre .1 .0 in
     (omega (arith, l .inv .1, s .pre .1 .1 .budget), omega (arith, finds-size (m .sc) _ _ _ (c .before .before .before .before .walk-run .ensures .0 (stateClear m (l .inv .4 m .0))), s .pre .1 .1 .budget))
 
 walk-same-length : (t : ℕ) → walk-lts.Need-same-length (walk-env t) (walk-at t) walk.Post walk-Inv-loop walk-μ-loop
-walk-same-length t c = omega (arith, c .before .before .before .before .before .before .trace .given, ap length (c .before .before .before .before .before .before .before .before .before .before .before .before .before .before .loop .inv .0))
+walk-same-length t c = omega (arith, c .before .before .before .before .before .before .trace .given, ap length (c .before .before .before .before .before .before .before .before .before .before .before .before .before .loop .inv .0))
 
 walk-same-length-2 : (t : ℕ) → walk-lts.Need-same-length-2 (walk-env t) (walk-at t) walk.Post walk-Inv-loop walk-μ-loop
 walk-same-length-2 t c = omega (arith, c .before .before .before .before .before .before .before .walk-run .ensures .1 .size, c .before .before .before .before .before .before .before .before .before .before .before .before .before .before .before .before .before .before .before .before .before .before .before .before .before .before .before .pre .1 .1 .remembers .size)
@@ -200,42 +205,49 @@ walk-same-length-2 t c = omega (arith, c .before .before .before .before .before
 walk-returns-2 : (t : ℕ) → walk-lts.Need-returns-2 (walk-env t) (walk-at t) walk.Post walk-Inv-loop walk-μ-loop
 walk-returns-2 t c = (
   λ m. let s = c .before .before .before .before .before .before .before .before .before .before .before .before .before .before .before .before .before .before .before .before .before .before .before .before .before .before .before in
-      let l = c .before .before .before .before .before .before .before .before .before .before .before .before .before .before .loop in
-      let passed = from-state.walk-next (s .args .plan) (m .sc) (s .args .reach .left) (s .args .reach .depth - 1) (m .d) (l .inv .4 m .1) (omega (arith, m .here .reached .given .runs .count, c .before .before .before .before .before .before .before .before .before .before .before .before .if2 .taken)) in
-      rw (← l .inv .0) (passed-stops (m .sc) (s .args .reach .left) _ _ _ _ passed (c .before .before .before .before .before .before .before .walk-run .ensures .0 (stateClear m (l .inv .4 m .0))) (c .before .before .behind .ensures) (sym (c .before .is-clean .ensures) ∙ not-true _ (c .if3 .taken))),
+      let l = c .before .before .before .before .before .before .before .before .before .before .before .before .before .loop in
+      let passed = from-state.walk-next (s .args .plan) (m .sc) (s .args .reach .left) (s .args .reach .depth - 1) (m .d) (l .inv .4 m .1) (c .before .before .before .before .before .before .before .before .before .before .before .before .loop-test .taken) in
+      rw (← l .inv .0) (passed-stops (m .sc) (s .args .reach .left) _ _ _ _ passed (c .before .before .before .before .before .before .before .walk-run .ensures .0 (stateClear m (l .inv .4 m .0))) (c .before .before .behind .ensures) (sym (c .before .is-clean .ensures) ∙ not-true _ (c .if2 .taken))),
   c .before .before .before .before .before .before .before .walk-run .ensures .1,
 )
+
+walk-add-k : (t : ℕ) → walk-lts.Need-add-k (walk-env t) (walk-at t) walk.Post walk-Inv-loop walk-μ-loop
+walk-add-k t c = omega (arith, c .before .before .before .before .before .before .before .before .before .before .before .before .before .loop-test .taken, c .before .before .before .before .before .before .before .before .before .before .before .before .before .before .loop .inv .2, c .before .before .before .before .before .before .before .before .before .before .before .before .before .before .before .before .before .before .before .before .before .before .before .before .before .before .before .before .pre .1 .0 .here .reached .given .runs .few)
+
+walk-loop-less : (t : ℕ) → walk-lts.Need-loop-less (walk-env t) (walk-at t) walk.Post walk-Inv-loop walk-μ-loop
+walk-loop-less t c = omega (arith, c .before .before .before .before .before .before .before .before .before .before .before .before .before .loop-test .taken)
 
 walk-loop-again : (t : ℕ) → walk-lts.Need-loop-again (walk-env t) (walk-at t) walk.Post walk-Inv-loop walk-μ-loop
 walk-loop-again t c =
     let s = c .before .before .before .before .before .before .before .before .before .before .before .before .before .before .before .before .before .before .before .before .before .before .before .before .before .before .before .before in
-    let l = c .before .before .before .before .before .before .before .before .before .before .before .before .before .before .before .loop in
+    let l = c .before .before .before .before .before .before .before .before .before .before .before .before .before .before .loop in
     let m = s .pre .1 .0 in
+    let below = c .before .before .before .before .before .before .before .before .before .before .before .before .before .loop-test .taken in
     let told = c .before .before .before .before .before .before .before .before .walk-run .ensures .0 in
-    let clean = sym (c .before .before .is-clean .ensures) ∙ not-false _ (c .before .if3 .left) in
-    let next = from-state.walk-next (s .args .plan) (m .sc) (s .args .reach .left) (s .args .reach .depth - 1) (m .d) (l .inv .4 m .1) (omega (arith, m .here .reached .given .runs .count, c .before .before .before .before .before .before .before .before .before .before .before .before .before .if2 .taken)) in
+    let clean = sym (c .before .before .is-clean .ensures) ∙ not-false _ (c .before .if2 .left) in
+    let next = from-state.walk-next (s .args .plan) (m .sc) (s .args .reach .left) (s .args .reach .depth - 1) (m .d) (l .inv .4 m .1) below in
     let first = passed-on (m .sc) (s .args .reach .left) _ _ _ _ next (told (stateClear m (l .inv .4 m .0))) (c .before .before .before .behind .ensures) clean in (
       first .1 ∙ l .inv .0,
       omega (arith, first .2, c .count-of2 .ensures),
-      omega (arith, c .before .before .before .before .before .before .before .before .before .before .before .before .before .if2 .taken),
+      l .inv .2,
       l .inv .3,
-      λ m. let next = from-state.walk-next (s .args .plan) (m .sc) (s .args .reach .left) (s .args .reach .depth - 1) (m .d) (l .inv .4 m .1) (omega (arith, m .here .reached .given .runs .count, c .before .before .before .before .before .before .before .before .before .before .before .before .before .if2 .taken)) in
+      λ m. let next = from-state.walk-next (s .args .plan) (m .sc) (s .args .reach .left) (s .args .reach .depth - 1) (m .d) (l .inv .4 m .1) below in
           (l .inv .4 m .0, rw (c .count-of2 .ensures) (passed-on (m .sc) (s .args .reach .left) _ _ _ _ next (told (stateClear m (l .inv .4 m .0))) (c .before .before .before .behind .ensures) clean .0)),
       c .before .before .before .before .before .before .before .before .walk-run .ensures .1,
     )
 
 walk-same-length-3 : (t : ℕ) → walk-lts.Need-same-length-3 (walk-env t) (walk-at t) walk.Post walk-Inv-loop walk-μ-loop
-walk-same-length-3 t c = omega (arith, ap length (c .before .before .loop .inv .0))
+walk-same-length-3 t c = omega (arith, ap length (c .before .loop .inv .0))
 
 walk-same-length-4 : (t : ℕ) → walk-lts.Need-same-length-4 (walk-env t) (walk-at t) walk.Post walk-Inv-loop walk-μ-loop
-walk-same-length-4 t c = omega (arith, c .before .before .loop .inv .5 .size, c .before .before .before .before .before .before .before .before .before .before .before .before .before .before .before .pre .1 .1 .remembers .size)
+walk-same-length-4 t c = omega (arith, c .before .loop .inv .5 .size, c .before .before .before .before .before .before .before .before .before .before .before .before .before .before .before .pre .1 .1 .remembers .size)
 
 walk-returns-3 : (t : ℕ) → walk-lts.Need-returns-3 (walk-env t) (walk-at t) walk.Post walk-Inv-loop walk-μ-loop
 walk-returns-3 t c = (
   λ m. let s = c .before .before .before .before .before .before .before .before .before .before .before .before .before .before .before in
-      let l = c .before .before .loop in
-      rw (← l .inv .0) (from-state.walk-end (s .args .plan) (m .sc) (s .args .reach .left) (s .args .reach .depth - 1) (m .d) (l .inv .4 m .1) (omega (arith, m .here .reached .given .runs .count, c .if2 .left)) (l .trace) (s .args .reach .at)),
-  c .before .before .loop .inv .5,
+      let l = c .before .loop in
+      rw (← l .inv .0) (from-state.walk-end (s .args .plan) (m .sc) (s .args .reach .left) (s .args .reach .depth - 1) (m .d) (l .inv .4 m .1) (c .loop-test .left) (l .trace) (s .args .reach .at)),
+  c .before .loop .inv .5,
 )
 
 walk-after-advance-requires : (t : ℕ) → walk-after-lts.Need-advance-requires (walk-after-env t) (walk-after-at t) walk-after.Post
@@ -530,7 +542,7 @@ walk-values-loop-again t c =
 pub +walk+walk-after+walk-move+walk-run+walk-values-spec : {M : Type 1} → statement M
 +walk+walk-after+walk-move+walk-run+walk-values-spec =
     close μ-walk μ-walk-after μ-walk-move μ-walk-run μ-walk-values
-    (λ t. walk-lts.spec (walk-env t) (walk-at t) walk.Post walk-Inv-loop walk-μ-loop (walk-broken-requires t) (λ c κs. search needs) (λ c κs. search needs) (walk-returns t) (λ c κs. search needs) (walk-loop-holds t) (λ c. search needs) (walk-sub-t26 t) (walk-walk-run-requires t) (walk-behind-requires t) (λ c κs. search needs) (walk-same-length t) (walk-same-length-2 t) (walk-returns-2 t) (λ c κs. search needs) (λ c. search needs) (λ c. search needs) (walk-loop-again t) (walk-same-length-3 t) (walk-same-length-4 t) (walk-returns-3 t))
+    (λ t. walk-lts.spec (walk-env t) (walk-at t) walk.Post walk-Inv-loop walk-μ-loop (walk-broken-requires t) (λ c κs. search needs) (λ c κs. search needs) (walk-returns t) (λ c κs. search needs) (walk-runs-in-requires t) (walk-loop-holds t) (λ c. search needs) (walk-sub-t29 t) (walk-walk-run-requires t) (walk-behind-requires t) (λ c κs. search needs) (walk-same-length t) (walk-same-length-2 t) (walk-returns-2 t) (λ c κs. search needs) (walk-add-k t) (walk-loop-less t) (walk-loop-again t) (walk-same-length-3 t) (walk-same-length-4 t) (walk-returns-3 t))
     (λ t. walk-after-lts.spec (walk-after-env t) (walk-after-at t) walk-after.Post (walk-after-advance-requires t) (walk-after-key-of-requires t) (walk-after-look-up-requires t) (λ c κs. search needs) (λ c. search needs) (walk-after-returns t) (walk-after-perform-requires t) (walk-after-mul-bytes t) (walk-after-add-bytes t) (walk-after-add-keep t) (walk-after-walk-requires t) (λ c κs. search needs) (walk-after-keep-requires t) (walk-after-write-before-requires t) (walk-after-after-step-requires t) (λ c. search needs) (λ c. search needs) (walk-after-returns-2 t))
     (λ t. walk-move-lts.spec (walk-move-env t) (walk-move-at t) walk-move.Post (walk-move-is-allowed-requires t) (walk-move-returns t) (walk-move-walk-after-requires t) (λ c. search needs) (λ c. search needs) (walk-move-returns-2 t))
     (λ t. walk-run-lts.spec (walk-run-env t) (walk-run-at t) walk-run.Post (λ c. search needs) (λ c. search needs) (λ c. search needs) (λ c. search needs) (walk-run-returns t) (walk-run-event-of-requires t) (λ c κs. search needs) (walk-run-beneath-requires t) (walk-run-walk-values-requires t) (λ c. search needs) (λ c. search needs) (walk-run-returns-2 t) (walk-run-walk-move-requires t) (λ c. search needs) (λ c. search needs) (walk-run-returns-3 t))

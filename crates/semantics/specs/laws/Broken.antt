@@ -42,6 +42,27 @@ firstIn {A} g a (suc n) = go (g a) refl (firstIn g (suc a) n)
     go (some y) e rest = foundAt a (omega arith) (omega arith) e (λ j l q. absurd (omega arith))
     go none e rest = skip (firstOf (map g (numbersFrom (suc a) n))) e rest
 
+module _ {A : Type 0} (g : ℕ → Option A) (a n : ℕ) where
+  -- it is the one before which none has
+  pub first-found : (k : ℕ) {y : A} → a ≤ k → k < a + n → ((i : ℕ) → a ≤ i → i < k → g i ≡ none) → g k ≡ some y → firstOf (map g (numbersFrom a n)) ≡ some y
+  first-found k {y} from l before e = go (firstOf (map g (numbersFrom a n))) (firstIn g a n)
+    where
+      go : (o : Option A) → FirstIn g a n o → o ≡ some y
+      go o (foundAt {y = z} j m h f lower) =
+          let p : j < k → ⊥ = λ q. Option·none-ne-some z (sym (before j m q) ∙ f) in
+          let q : k < j → ⊥ = λ q. Option·none-ne-some y (sym (lower k from q) ∙ e) in
+          let same : k ≡ j = omega arith in
+          sym f ∙ rw (← same) e
+      go o (notFound all) = absurd (Option·none-ne-some y (sym (all k from l) ∙ e))
+
+  -- there is none if none has
+  pub first-none : ((i : ℕ) → a ≤ i → i < a + n → g i ≡ none) → firstOf (map g (numbersFrom a n)) ≡ none
+  first-none none-has = go (firstOf (map g (numbersFrom a n))) (firstIn g a n)
+    where
+      go : (o : Option A) → FirstIn g a n o → o ≡ none
+      go o (foundAt {y = z} j m h f lower) = absurd (Option·none-ne-some z (sym (none-has j m h) ∙ f))
+      go o (notFound all) = refl
+
 -- two numbers neither of which is lower are one
 same-number : (a b : ℕ) → (a < b → ⊥) → (b < a → ⊥) → a ≡ b
 same-number a b f g = omega arith
