@@ -1,12 +1,13 @@
-// Search: the verdict on a scenario file, with the trace of a broken claim in the lent buffer; refused as Open, or with 10.
+// Search, by the full list or the short one: the verdict on a scenario file, with the trace of a broken claim in the lent buffer; refused as Open, or with 10.
 ghost use mathlib.Core.Path.{_≡_};
 ghost use Prim.Native.Nat.{ℕ, _<_, _≤_};
 ghost use lib.ListN.{length, getD, take};
 ghost use Rattle.semantics.specs.Basic.{total};
 ghost use Rattle.semantics.specs.Answer.{accepted};
-ghost use Rattle.semantics.specs.Moves.{full};
-ghost use Rattle.semantics.specs.Verdict.{verdict, searched, written, bufferAfter};
+ghost use Rattle.semantics.specs.Moves.{short};
+ghost use Rattle.semantics.specs.Verdict.{verdict, searchedIn, searched, written, bufferIn, bufferAfter};
 ghost use Rattle.answers.specs.Answers.{scenarioIn, Accepts, verdictAs, searchedAs};
+ghost use Rattle.search_runs.specs.Runs.{listAs};
 ghost use Rattle.search_breaks.specs.Walk.{FindsAll};
 use answers::Checked;
 use answers::Layout;
@@ -18,6 +19,7 @@ use search_breaks::Course;
 use search_breaks::Plan;
 use search_breaks::Reach;
 use search_memory::Memory;
+use search_runs::Listing;
 use state::State;
 
 // How many events the runs have together.
@@ -34,10 +36,10 @@ fn event_count(r: Runs) -> usize
     sum
 }
 
-// Walks through the whole list of an accepted file, with a memory that is empty at first.
-fn walk_all(trace: &mut [u8], file: &[u8], l: Layout, left: usize) -> Walked
+// Walks through a whole list of an accepted file, with a memory that is empty at first.
+fn walk_all(trace: &mut [u8], file: &[u8], l: Layout, left: usize, list: Listing) -> Walked
     requires { ⌜ Accepts (now file) l × ((128 ≤ length (now trace)) × (left < 4294967296)) ⌝ }
-    ensures { λ w. ⌜ FindsAll (scenarioIn (now (file .entry))) left (now (trace .entry)) (now (trace .exit)) w ⌝ }
+    ensures { λ w. ⌜ FindsAll (listAs list) (scenarioIn (now (file .entry))) left (now (trace .entry)) (now (trace .exit)) w ⌝ }
 {
     let runs = runs::runs_of(file, l);
     let rows = l.terms.count;
@@ -55,6 +57,7 @@ fn walk_all(trace: &mut [u8], file: &[u8], l: Layout, left: usize) -> Walked
         file,
         t,
         Plan {
+            list,
             rows,
             runs,
             variables,
@@ -71,24 +74,24 @@ fn walk_all(trace: &mut [u8], file: &[u8], l: Layout, left: usize) -> Walked
     )
 }
 
-// The verdict on an accepted file. Without a budget no memory is cleared.
-fn judged(file: &[u8], l: Layout, trace: &mut [u8]) -> Verdict
+// The verdict on an accepted file by a list. Without a budget no memory is cleared.
+fn judged(file: &[u8], l: Layout, trace: &mut [u8], list: Listing) -> Verdict
     requires { ⌜ Accepts (now file) l × (128 ≤ length (now trace)) ⌝ }
-    ensures { λ r. ⌜ r ≡ verdictAs (verdict full (scenarioIn (now (file .entry)))) ⌝ }
-    ensures { λ r. ⌜ now (trace .exit) ≡ written (now (trace .entry)) (accepted (verdict full (scenarioIn (now (file .entry))))) ⌝ }
+    ensures { λ r. ⌜ r ≡ verdictAs (verdict (listAs list) (scenarioIn (now (file .entry)))) ⌝ }
+    ensures { λ r. ⌜ now (trace .exit) ≡ written (now (trace .entry)) (accepted (verdict (listAs list) (scenarioIn (now (file .entry))))) ⌝ }
 {
     let budget = frame::budget(file);
     if budget == 0 {
         return answers::verdict_of(Walked::Cut, budget);
     }
-    let walked = walk_all(trace, file, l, budget);
+    let walked = walk_all(trace, file, l, budget, list);
     answers::verdict_of(walked, budget)
 }
 
-// "Search refuses as Open, then 10 if the trace buffer is shorter than 128 bytes, place its length."
-pub fn search(file: &[u8], trace: &mut [u8]) -> Verdict
-    ensures { λ r. ⌜ r ≡ searchedAs (searched (now (file .entry)) (now (trace .entry))) ⌝ }
-    ensures { λ r. ⌜ now (trace .exit) ≡ bufferAfter (now (file .entry)) (now (trace .entry)) ⌝ }
+// "Search refuses as Open, then 10 if the trace buffer is shorter than 128 bytes, place its length.", by a list.
+pub fn search_in(file: &[u8], trace: &mut [u8], list: Listing) -> Verdict
+    ensures { λ r. ⌜ r ≡ searchedAs (searchedIn (listAs list) (now (file .entry)) (now (trace .entry))) ⌝ }
+    ensures { λ r. ⌜ now (trace .exit) ≡ bufferIn (listAs list) (now (file .entry)) (now (trace .entry)) ⌝ }
 {
     let opened = scenario::open(file);
     match opened {
@@ -97,8 +100,24 @@ pub fn search(file: &[u8], trace: &mut [u8]) -> Verdict
             let checked = answers::check_buffer(&trace[..]);
             match checked {
                 Checked::Refused(r) => Verdict::Refused(r),
-                Checked::Passed => judged(file, layout, trace),
+                Checked::Passed => judged(file, layout, trace, list),
             }
         }
     }
+}
+
+// Search, through the list of all allowed traces.
+pub fn search(file: &[u8], trace: &mut [u8]) -> Verdict
+    ensures { λ r. ⌜ r ≡ searchedAs (searched (now (file .entry)) (now (trace .entry))) ⌝ }
+    ensures { λ r. ⌜ now (trace .exit) ≡ bufferAfter (now (file .entry)) (now (trace .entry)) ⌝ }
+{
+    search_in(file, trace, Listing::Full)
+}
+
+// The second search, through the short list.
+pub fn search_short(file: &[u8], trace: &mut [u8]) -> Verdict
+    ensures { λ r. ⌜ r ≡ searchedAs (searchedIn short (now (file .entry)) (now (trace .entry))) ⌝ }
+    ensures { λ r. ⌜ now (trace .exit) ≡ bufferIn short (now (file .entry)) (now (trace .entry)) ⌝ }
+{
+    search_in(file, trace, Listing::Short)
 }

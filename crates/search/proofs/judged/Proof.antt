@@ -12,7 +12,7 @@ budget-requires c κs = opened-framed _ _ (c .before .before .pre .0 .isOpened) 
 returns : tie.Need-returns
 returns c =
     let s = c .before .before .before .before .before in
-    verdict-walked _ _ (opened-budget _ _ (s .pre .0 .isOpened) (c .before .before .budget .ensures .0)) (first-cut _ (c .before .if1 .taken) (s .args .trace .now)) (c .verdict-of .ensures)
+    verdict-walked _ _ _ (opened-budget _ _ (s .pre .0 .isOpened) (c .before .before .budget .ensures .0)) (first-cut _ _ (c .before .if1 .taken) (s .args .trace .now)) (c .verdict-of .ensures)
 
 walk-all-requires : tie.Need-walk-all-requires
 walk-all-requires c κs =
@@ -22,7 +22,7 @@ walk-all-requires c κs =
 returns-2 : tie.Need-returns-2
 returns-2 c =
     let p = c .before .before .before .before .before .before .before .before .before .pre .0 in
-    verdict-walked _ _ (opened-budget _ _ (p .isOpened) (c .before .before .before .before .before .before .budget .ensures .0)) (c .before .before .before .walk-all .ensures) (c .verdict-of2 .ensures)
+    verdict-walked _ _ _ (opened-budget _ _ (p .isOpened) (c .before .before .before .before .before .before .budget .ensures .0)) (c .before .before .before .walk-all .ensures) (c .verdict-of2 .ensures)
 
 pub judged-spec : {M : Type 1} → statement M
 judged-spec = tie.close (tie.spec budget-requires (λ c κs. search needs) returns walk-all-requires (λ c κs. search needs) (λ c. search needs) returns-2)

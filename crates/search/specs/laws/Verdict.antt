@@ -1,4 +1,4 @@
--- The verdict by what the walk through the whole list finds, and Search by the verdict. Assumes nothing.
+-- The verdict by what the walk through a whole list finds, and Search by the verdict. Assumes nothing.
 use Prim.Native.Nat.{ℕ, zero, suc, _+_, _<_, _≤_}
 use native.Mathlib.Omega.{arith}
 use mathlib.Core.Path.{_≡_, refl, sym, ap, _∙_}
@@ -14,9 +14,9 @@ use Rattle.semantics.specs.Frame.{budgetOf}
 use Rattle.semantics.specs.Scenario.{Scenario, scenarioOf, opened}
 use Rattle.semantics.specs.Runs.{Run}
 use Rattle.semantics.specs.State.{Progress, initial, eventsLeft}
-use Rattle.semantics.specs.Moves.{full, movesIn}
+use Rattle.semantics.specs.Moves.{Listing, movesIn}
 use Rattle.semantics.specs.Tree.{listed, stays}
-use Rattle.semantics.specs.Verdict.{Entry, Finding, found, nothing, cut, walked, Verdict, verdictFrom, verdict, traceList, traceBytes, shortBuffer, searched, written, bufferAfter, searchedIn, bufferIn}
+use Rattle.semantics.specs.Verdict.{Entry, Finding, found, nothing, cut, walked, Verdict, verdictFrom, verdict, traceList, traceBytes, shortBuffer, written, searchedIn, bufferIn}
 use Rattle.semantics.specs.laws.Open.{opened-inverts}
 use Rattle.answers.specs.Answers.{scenarioIn, checkedAs, openedAs, verdictAs, searchedAs, answered}
 use Rattle.answers.specs.laws.Answers.{opened-refused, answer-found}
@@ -34,19 +34,19 @@ use Rattle.answers.specs.declared.Verdict.the-variants.{Refused}
 over-front : (before bytes : List ℕ) → over before 0 bytes ≡ bytes ++ drop (length bytes) before
 over-front before bytes = let z : 0 + length bytes ≡ length bytes = omega arith in ap (λ (m : ℕ). bytes ++ drop m before) z
 
-module _ (sc : Scenario) (before : List ℕ) where
+module _ (which : Listing) (sc : Scenario) (before : List ℕ) where
   buffer-found : (size budget : ℕ) (f : Finding) → bufferAs before 0 f ≡ written before (accepted (verdictFrom size budget f))
   buffer-found size budget (found p e c) = over-front before (traceBytes (e .0))
   buffer-found size budget nothing = refl
   buffer-found size budget cut = refl
 
   -- the verdict, by a walk through the whole list with the file's budget and what is answered to it
-  pub verdict-walked : {after : List ℕ} {w : Walked} {left : ℕ} → left ≡ sc .budget → Finds sc left (traceList full sc) before 0 after w → {r : CodeVerdict} → r ≡ answered left w
-      → (r ≡ verdictAs (verdict full sc)) × (after ≡ written before (accepted (verdict full sc)))
+  pub verdict-walked : {after : List ℕ} {w : Walked} {left : ℕ} → left ≡ sc .budget → Finds sc left (traceList which sc) before 0 after w → {r : CodeVerdict} → r ≡ answered left w
+      → (r ≡ verdictAs (verdict which sc)) × (after ≡ written before (accepted (verdict which sc)))
   unfolding verdict
   verdict-walked {left = left} e finds answer =
-      let es = traceList full sc in
-      let whole : verdictFrom (length es) left (walked (judged sc) left es) ≡ verdict full sc = (λ i. verdictFrom (length es) (e i) (walked (judged sc) (e i) es)) in (
+      let es = traceList which sc in
+      let whole : verdictFrom (length es) left (walked (judged sc) left es) ≡ verdict which sc = (λ i. verdictFrom (length es) (e i) (walked (judged sc) (e i) es)) in (
         answer ∙ answer-found es left (walked (judged sc) left es) (finds .answer) ∙ ap verdictAs whole,
         finds .buffer ∙ buffer-found (length es) left (walked (judged sc) left es) ∙ ap (λ (v : Verdict). written before (accepted v)) whole,
       )
@@ -58,28 +58,28 @@ module _ (file : List ℕ) (sc : Scenario) (isOpened : opened file ≡ accepted 
   opened-budget e = e ∙ sym (ap (λ (x : Scenario). x .budget) (opened-inverts file sc isOpened .scenario))
 
 -- the walk with no budget
-pub first-cut : (sc : Scenario) {left : ℕ} → left ≡ 0 → (before : List ℕ) → Finds sc left (traceList full sc) before 0 before walking.Cut
+pub first-cut : (which : Listing) (sc : Scenario) {left : ℕ} → left ≡ 0 → (before : List ℕ) → Finds sc left (traceList which sc) before 0 before walking.Cut
 unfolding traceList
-first-cut sc {left} z before = walk-cut (movesIn full sc) sc left (initial sc) before 0 (eventsLeft sc (initial sc)) z
+first-cut which sc {left} z before = walk-cut (movesIn which sc) sc left (initial sc) before 0 (eventsLeft sc (initial sc)) z
 
-module _ (file buffer : List ℕ) where
+module _ (which : Listing) (file buffer : List ℕ) where
   -- a refused file
-  pub searched-refused : {x : Refusal} → opening.Refused x ≡ openedAs file (opened file) → (Refused x ≡ searchedAs (searched file buffer)) × (buffer ≡ bufferAfter file buffer)
+  pub searched-refused : {x : Refusal} → opening.Refused x ≡ openedAs file (opened file) → (Refused x ≡ searchedAs (searchedIn which file buffer)) × (buffer ≡ bufferIn which file buffer)
   unfolding searchedIn bufferIn
   searched-refused e = rw (opened-refused file (opened file) e) (refl, refl)
 
   module _ (isOpened : opened file ≡ accepted (scenarioIn file)) where
-    by-buffer : searched file buffer ≡ _>>_ (checked 10 (shortBuffer buffer)) (accepted (verdict full (scenarioIn file)))
+    by-buffer : searchedIn which file buffer ≡ _>>_ (checked 10 (shortBuffer buffer)) (accepted (verdict which (scenarioIn file)))
     unfolding searchedIn
     by-buffer = rw isOpened refl
 
     -- a buffer that is too short
-    pub searched-short : {x : Refusal} → checking.Refused x ≡ checkedAs (checked 10 (shortBuffer buffer)) → (Refused x ≡ searchedAs (searched file buffer)) × (buffer ≡ bufferAfter file buffer)
+    pub searched-short : {x : Refusal} → checking.Refused x ≡ checkedAs (checked 10 (shortBuffer buffer)) → (Refused x ≡ searchedAs (searchedIn which file buffer)) × (buffer ≡ bufferIn which file buffer)
     unfolding bufferIn
     searched-short {x} e = let w = go (checked 10 (shortBuffer buffer)) e in (w .0 ∙ ap searchedAs (sym by-buffer), w .1 ∙ ap (written buffer) (sym by-buffer))
       where
         rest : Answer Verdict
-        rest = accepted (verdict full (scenarioIn file))
+        rest = accepted (verdict which (scenarioIn file))
 
         go : (a : Answer (Unit {0})) → checking.Refused x ≡ checkedAs a → (Refused x ≡ searchedAs (_>>_ a rest)) × (buffer ≡ written buffer (_>>_ a rest))
         go (refused r) q = (cc, refl)
@@ -87,14 +87,14 @@ module _ (file buffer : List ℕ) where
 
     -- one that is not
     module _ (passed : checking.Passed ≡ checkedAs (checked 10 (shortBuffer buffer))) where
-      pub searched-judged : searched file buffer ≡ accepted (verdict full (scenarioIn file))
+      pub searched-judged : searchedIn which file buffer ≡ accepted (verdict which (scenarioIn file))
       searched-judged = by-buffer ∙ go (checked 10 (shortBuffer buffer)) passed
         where
-          go : (a : Answer (Unit {0})) → checking.Passed ≡ checkedAs a → _≡_ {A = Answer Verdict} (_>>_ a (accepted (verdict full (scenarioIn file)))) (accepted (verdict full (scenarioIn file)))
+          go : (a : Answer (Unit {0})) → checking.Passed ≡ checkedAs a → _≡_ {A = Answer Verdict} (_>>_ a (accepted (verdict which (scenarioIn file)))) (accepted (verdict which (scenarioIn file)))
           go (refused r) q = let z : _≡_ {A = ℕ} 0 1 = cc in absurd (omega arith)
           go (accepted u) q = refl
 
-      pub buffer-judged : bufferAfter file buffer ≡ written buffer (accepted (verdict full (scenarioIn file)))
+      pub buffer-judged : bufferIn which file buffer ≡ written buffer (accepted (verdict which (scenarioIn file)))
       unfolding bufferIn
       buffer-judged = ap (written buffer) searched-judged
 
