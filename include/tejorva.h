@@ -42,6 +42,12 @@ uint64_t tejorva_open(const uint8_t *file, size_t file_len);
 #define TEJORVA_SEARCH_STACK 1048576
 uint64_t tejorva_search(const uint8_t *file, size_t file_len, uint8_t *trace, size_t trace_len);
 
+/* The verdict by the short list, for scenarios whose full list is longer than the budget: wherever some run's next event is
+ * a send or claim, the only move listed is that of the lowest such run. Refusals, buffer, packing and stack are those of
+ * tejorva_search; the list's length and the list place count the short list, which is never longer. With a budget that
+ * reaches the end of both lists the two give the same word. A trace breaks its claim by tejorva_replay too. */
+uint64_t tejorva_search_short(const uint8_t *file, size_t file_len, uint8_t *trace, size_t trace_len);
+
 /* Which claim a trace breaks, step by step from the start of a scenario file: TEJORVA_CLAIM, TEJORVA_NO_CLAIM, or
  * TEJORVA_REFUSED with 1 to 9 and a place in the file, or 12 and the place in the trace of the first step that is cut
  * short or not allowed. */

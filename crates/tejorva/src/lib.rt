@@ -3,7 +3,8 @@ ghost use mathlib.Core.Path.{_≡_};
 ghost use Rattle.semantics.specs.Derive.{derived};
 ghost use Rattle.semantics.specs.Scenario.{opened};
 ghost use Rattle.semantics.specs.Replay.{replayed};
-ghost use Rattle.semantics.specs.Verdict.{searched, bufferAfter};
+ghost use Rattle.semantics.specs.Moves.{short};
+ghost use Rattle.semantics.specs.Verdict.{searchedIn, searched, bufferIn, bufferAfter};
 ghost use Rattle.semantics.specs.Packing.{packedDerived, packedOpened, packedReplayed, packedSearched};
 
 // Whether row `target` of a table is derivable from the listed rows.
@@ -29,6 +30,15 @@ pub extern "C" fn tejorva_search(file: &[u8], trace: &mut [u8]) -> u64
     ensures { λ r. ⌜ now (trace .exit) ≡ bufferAfter (now (file .entry)) (now (trace .entry)) ⌝ }
 {
     packing::verdict(search::search(file, trace))
+}
+
+// The verdict on a scenario file by the short list, with the trace of a broken claim at the buffer's front.
+#[no_mangle]
+pub extern "C" fn tejorva_search_short(file: &[u8], trace: &mut [u8]) -> u64
+    ensures { λ r. ⌜ r ≡ packedSearched (searchedIn short (now (file .entry)) (now (trace .entry))) ⌝ }
+    ensures { λ r. ⌜ now (trace .exit) ≡ bufferIn short (now (file .entry)) (now (trace .entry)) ⌝ }
+{
+    packing::verdict(search::search_short(file, trace))
 }
 
 // Which claim a trace breaks, step by step through a scenario file.

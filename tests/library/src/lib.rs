@@ -3,6 +3,7 @@ pub mod answer;
 pub mod random;
 pub mod reads;
 pub mod scenarios;
+pub mod searches;
 pub mod slow;
 
 mod ffi {
@@ -16,6 +17,12 @@ mod ffi {
         ) -> u64;
         pub fn tejorva_open(file: *const u8, file_len: usize) -> u64;
         pub fn tejorva_search(
+            file: *const u8,
+            file_len: usize,
+            trace: *mut u8,
+            trace_len: usize,
+        ) -> u64;
+        pub fn tejorva_search_short(
             file: *const u8,
             file_len: usize,
             trace: *mut u8,
@@ -52,6 +59,18 @@ pub fn open(file: &[u8]) -> u64 {
 pub fn search(file: &[u8], buffer: &mut [u8]) -> u64 {
     unsafe {
         ffi::tejorva_search(
+            file.as_ptr(),
+            file.len(),
+            buffer.as_mut_ptr(),
+            buffer.len(),
+        )
+    }
+}
+
+/// The verdict on a scenario file by the short list, in the same form.
+pub fn search_short(file: &[u8], buffer: &mut [u8]) -> u64 {
+    unsafe {
+        ffi::tejorva_search_short(
             file.as_ptr(),
             file.len(),
             buffer.as_mut_ptr(),

@@ -3,6 +3,19 @@ use crate::random::Random;
 
 /// An accepted scenario file with budget 0. Some of its roles' messages meet: what one sends, another reads with variables in place of constants.
 pub fn scenario(random: &mut Random) -> Vec<u8> {
+    made(random).file()
+}
+
+/// An accepted scenario file of reads only, with budget 0: no read needs that its role has sent or claimed anything.
+pub fn reads_only(random: &mut Random) -> Vec<u8> {
+    let mut making = made(random);
+    for role in &mut making.roles {
+        role.events.retain(|event| event[0] == 1);
+    }
+    making.file()
+}
+
+fn made(random: &mut Random) -> Making {
     let mut making = Making::new(random);
     for _ in 0..random.pick(&[0, 1, 2, 3, 3, 4]) {
         making.exchange(random);
@@ -13,7 +26,7 @@ pub fn scenario(random: &mut Random) -> Vec<u8> {
     making.claims(random);
     making.runs(random);
     making.known(random);
-    making.file()
+    making
 }
 
 /// An accepted file near another one: some bytes past its budget are changed, if that can be done.

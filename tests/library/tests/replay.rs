@@ -1,6 +1,7 @@
 //! Replay of the proved library against the cases and against the reference program.
 use library::answer::replayed;
 use library::random::{damage, Random};
+use reference::Listing;
 
 const CASES: &str = include_str!("../../cases/base.txt");
 
@@ -61,7 +62,7 @@ fn listed(bound: usize) -> Vec<(Vec<u8>, Vec<Vec<u8>>)> {
     files()
         .into_iter()
         .map(|file| {
-            let traces = reference::traces(&file, bound).unwrap();
+            let traces = reference::traces(Listing::Full, &file, bound).unwrap();
             (file, traces)
         })
         .filter(|(_, traces)| traces.len() > 1)

@@ -1,12 +1,10 @@
-//! Search of the proved library against the cases, the examples and the reference program.
-use library::answer::{replayed, searched, trace_length, word, BROKEN};
-use library::random::{damage, Random};
+//! Search of the proved library, by the full list and by the short one, against the cases, the examples and the reference program.
+use library::random::Random;
 use library::reads;
 use library::scenarios::{framed, near, scenario, with_budget};
+use library::searches::{agrees, agrees_around, agrees_damaged, answered, assert_many, cases, examples, number, replays};
+use reference::Listing::{self, Full, Short};
 use std::collections::BTreeMap;
-use std::path::Path;
-
-const CASES: &str = include_str!("../../cases/base.txt");
 
 /// P1: one role that sends its local constant in the clear and claims it secret.
 const P1: &str = "0100000064000f010000010100050000050100070000000f03020304020001010402020004000000030000010000";
@@ -15,76 +13,16 @@ const P1: &str = "0100000064000f010000010100050000050100070000000f03020304020001
 const P2: &str = "01000000640015010000010100050000050100070000080300\
     0c040500100402030405020001010602020004000000030000010000";
 
-/// Bytes behind the buffer, which no call may touch.
-const BEHIND: usize = 64;
-
-/// Search's answer with a buffer of that length, in the words of the cases. A broken claim's trace is all that was written, and no byte of the file.
-fn answered(file: &[u8], length: usize) -> String {
-    let lent = file.to_vec();
-    let before: Vec<u8> = (0..length + BEHIND).map(|i| (i * 89 + 170) as u8).collect();
-    let mut after = before.clone();
-    let answer = library::search(&lent, &mut after[..length]);
-    let written = if word(answer) == BROKEN { trace_length(answer) } else { 0 };
-    assert!(written <= length, "{written} of {length} bytes");
-    assert_eq!(after[written..], before[written..], "bytes that were to be kept: {}", reference::hexadecimal(file));
-    assert_eq!(lent, file);
-    searched(answer, &after[..length])
-}
-
-fn agrees(file: &[u8], length: usize) -> String {
-    let given = answered(file, length);
-    let request = format!("0 search {} {length}", reference::hexadecimal(file));
-    assert_eq!(given, reference::answer(&request), "{request}");
-    given
-}
-
-/// The number of a verdict: list place, list length or budget.
-fn number(verdict: &str) -> u32 {
-    verdict.split(' ').nth(1).unwrap().parse().unwrap()
-}
-
-/// A broken claim's trace replays to that claim, and all of it is needed: without its last steps it breaks none.
-fn replays(file: &[u8], verdict: &str) {
-    if let ["BROKEN", _, "RUN", run, "EVENT", event, "TRACE", trace] = verdict.split(' ').collect::<Vec<_>>()[..] {
-        let trace = reference::bytes(trace).unwrap();
-        let claim = format!("CLAIM RUN {run} EVENT {event}");
-        assert_eq!(replayed(library::replay(file, &trace)), claim, "{}: {verdict}", reference::hexadecimal(file));
-        let mut end = 0;
-        while end < trace.len() {
-            assert_eq!(replayed(library::replay(file, &trace[..end])), "NONE", "{}: {verdict}", reference::hexadecimal(file));
-            end += 2 + 2 * usize::from(trace[end + 1]);
-        }
-        assert_eq!(end, trace.len());
-    }
-}
-
-/// The examples: name, file and stated verdict.
-fn examples() -> Vec<(String, Vec<u8>, String)> {
-    let folder = Path::new(env!("CARGO_MANIFEST_DIR")).join("../../examples");
-    let mut paths: Vec<_> = std::fs::read_dir(folder).unwrap().map(|entry| entry.unwrap().path()).collect();
-    paths.retain(|path| path.extension().is_some_and(|end| end == "hex"));
-    paths.sort();
-    assert!(paths.len() >= 16);
-    let example = |path: std::path::PathBuf| {
-        let text = std::fs::read_to_string(&path).unwrap();
-        let verdict = reference::stated_verdict(&text).unwrap().to_string();
-        (path.file_name().unwrap().to_str().unwrap().to_string(), reference::uncommented(&text).unwrap(), verdict)
-    };
-    paths.into_iter().map(example).collect()
-}
-
 #[test]
 fn every_case_has_its_answer() {
-    let mut count = 0;
-    for line in CASES.lines().filter(|l| l.starts_with("0 search ")) {
-        let (request, answer) = line.split_once(" -> ").unwrap();
-        let fields: Vec<&str> = request.split(' ').collect();
-        let file = reference::bytes(fields[2]).unwrap();
-        assert_eq!(answered(&file, fields[3].parse().unwrap()), answer, "{request}");
-        replays(&file, answer);
-        count += 1;
+    for (listing, least) in [(Full, 400), (Short, 500)] {
+        let cases = cases(listing);
+        assert!(cases.len() >= least, "only {} cases", cases.len());
+        for (file, length, answer) in cases {
+            assert_eq!(answered(listing, &file, length), answer, "{listing:?} {}", reference::hexadecimal(&file));
+            replays(&file, answer);
+        }
     }
-    assert!(count >= 400, "only {count} cases");
 }
 
 // Above this number of traces an example is searched once only.
@@ -93,110 +31,88 @@ const LONG: u32 = 1_000_000;
 #[test]
 fn every_example_has_its_verdict() {
     for (name, file, verdict) in examples() {
-        assert_eq!(answered(&file, 128), verdict, "{name}");
+        assert_eq!(answered(Full, &file, 128), verdict, "{name}");
         replays(&file, &verdict);
         let number = number(&verdict);
         if number <= LONG {
-            assert_eq!(answered(&with_budget(&file, number), 128), verdict, "{name}");
-            assert_eq!(answered(&with_budget(&file, number - 1), 128), format!("STOPPED {}", number - 1), "{name}");
+            assert_eq!(answered(Full, &with_budget(&file, number), 128), verdict, "{name}");
+            assert_eq!(answered(Full, &with_budget(&file, number - 1), 128), format!("STOPPED {}", number - 1), "{name}");
         }
     }
 }
 
-/// Compares the answers of a file with a budget, with budgets at and around the number of the verdict, and with a buffer that is too short.
-fn agrees_around(random: &mut Random, file: &[u8], budget: u32) -> String {
-    let verdict = agrees(&with_budget(file, budget), 128);
-    replays(file, &verdict);
-    let number = number(&verdict);
-    for budget in [number.saturating_sub(1), number, number + 1] {
-        agrees(&with_budget(file, budget), random.pick(&[128, 129, 200, 1000]));
-    }
-    assert_eq!(agrees(file, 127), "REFUSED 10 127");
-    kind(&verdict)
-}
-
-/// The answer of a file damaged behind its budget, mostly in one byte that stays in its place.
-fn agrees_damaged(random: &mut Random, file: &[u8], budget: u32) -> String {
-    let mut rest = file[5..].to_vec();
-    if random.chance(4) {
-        damage(random, &mut rest);
-    } else {
-        let at = random.below(rest.len());
-        rest[at] = random.below(20) as u8;
-    }
-    let damaged = with_budget(&[&file[..5], &rest].concat(), budget);
-    kind(&agrees(&damaged, random.pick(&[0, 127, 128, 300])))
-}
-
-/// An answer's word, with the number if it is a refusal.
-fn kind(answer: &str) -> String {
-    let words = if answer.starts_with("REFUSED") { 2 } else { 1 };
-    answer.split(' ').take(words).collect::<Vec<_>>().join(" ")
-}
-
-fn assert_many(words: &BTreeMap<String, usize>, expected: &[&str]) {
-    println!("{words:?}");
-    for &word in expected {
-        assert!(words.get(word).is_some_and(|&n| n >= 50), "too few {word}: {words:?}");
-    }
-}
-
-#[test]
-fn random_scenarios_answer_as_the_reference() {
-    let mut random = Random::new(9);
+/// So many random scenarios and their damaged files answer as by the reference.
+fn random_scenarios(listing: Listing, seed: u64, rounds: usize) {
+    let mut random = Random::new(seed);
     let (mut words, mut damaged) = (BTreeMap::new(), BTreeMap::new());
-    for _ in 0..6_000 {
+    for _ in 0..rounds {
         let file = scenario(&mut random);
         let budget = random.pick(&[50, 300, 300, 3000]);
-        *words.entry(agrees_around(&mut random, &file, budget)).or_insert(0) += 1;
-        *damaged.entry(agrees_damaged(&mut random, &file, 300)).or_insert(0) += 1;
+        *words.entry(agrees_around(listing, &mut random, &file, budget)).or_insert(0) += 1;
+        *damaged.entry(agrees_damaged(listing, &mut random, &file, 300)).or_insert(0) += 1;
     }
     assert_many(&words, &["BROKEN", "HELD", "STOPPED"]);
     assert_many(&damaged, &["REFUSED 3", "REFUSED 4", "REFUSED 5", "REFUSED 6", "REFUSED 7", "REFUSED 8", "REFUSED 9", "REFUSED 10"]);
 }
 
+#[test]
+fn random_scenarios_answer_as_the_reference() {
+    random_scenarios(Full, 9, 6_000);
+}
+
+#[test]
+fn random_scenarios_answer_as_the_reference_by_the_short_list() {
+    random_scenarios(Short, 13, 10_000);
+}
+
 /// Changed examples and cases, in which claims are broken late.
 #[test]
 fn files_near_examples_and_cases_answer_as_the_reference() {
-    let cases = CASES.lines().filter(|l| l.starts_with("0 search "));
-    let mut files: Vec<Vec<u8>> = cases.filter_map(|l| reference::bytes(l.split(' ').nth(2)?)).collect();
-    files.retain(|file| reference::open(file).is_ok());
-    let examples: Vec<Vec<u8>> = examples().into_iter().map(|(_, file, _)| file).collect();
     let mut random = Random::new(10);
-    let mut words = BTreeMap::new();
-    for round in 0..1_500 {
-        let from = if round % 2 == 0 { &examples } else { &files };
-        let at = random.below(from.len());
-        let file = near(&mut random, &from[at]);
-        let budget = random.pick(&[300, 1000, 3000]);
-        *words.entry(agrees_around(&mut random, &file, budget)).or_insert(0) += 1;
+    let examples: Vec<Vec<u8>> = examples().into_iter().map(|(_, file, _)| file).collect();
+    for listing in Listing::BOTH {
+        let mut files: Vec<Vec<u8>> = cases(listing).into_iter().map(|(file, ..)| file).collect();
+        files.retain(|file| reference::open(file).is_ok());
+        let mut words = BTreeMap::new();
+        for round in 0..1_500 {
+            let from = if round % 2 == 0 { &examples } else { &files };
+            let at = random.below(from.len());
+            let file = near(&mut random, &from[at]);
+            let budget = random.pick(&[300, 1000, 3000]);
+            *words.entry(agrees_around(listing, &mut random, &file, budget)).or_insert(0) += 1;
+        }
+        assert_many(&words, &["BROKEN", "HELD", "STOPPED"]);
     }
-    assert_many(&words, &["BROKEN", "HELD", "STOPPED"]);
 }
 
 #[test]
 fn refused_calls_write_nothing() {
     let p1 = reference::bytes(P1).unwrap();
-    for length in 0..128 {
-        assert_eq!(agrees(&p1, length), format!("REFUSED 10 {length}"));
-    }
-    for end in 0..p1.len() {
-        for length in [0, 127, 128, 200] {
-            let expected = if end == 0 { "REFUSED 1 0".to_string() } else { format!("REFUSED 3 {end}") };
-            assert_eq!(agrees(&p1[..end], length), expected);
+    for listing in Listing::BOTH {
+        for length in 0..128 {
+            assert_eq!(agrees(listing, &p1, length), format!("REFUSED 10 {length}"));
+        }
+        for end in 0..p1.len() {
+            for length in [0, 127, 128, 200] {
+                let expected = if end == 0 { "REFUSED 1 0".to_string() } else { format!("REFUSED 3 {end}") };
+                assert_eq!(agrees(listing, &p1[..end], length), expected);
+            }
         }
     }
 }
 
+/// One run's sends and claims come in one order, so both lists are equal.
 #[test]
 fn budgets_at_their_ends() {
     let (p1, p2) = (reference::bytes(P1).unwrap(), reference::bytes(P2).unwrap());
-    for (budget, verdict) in [(0, "STOPPED 0"), (1, "STOPPED 1"), (2, "STOPPED 2"), (3, "HELD 3"), (4, "HELD 3"), (u32::MAX, "HELD 3")] {
-        assert_eq!(agrees(&with_budget(&p2, budget), 128), verdict);
-    }
     let broken = "BROKEN 3 RUN 1 EVENT 1 TRACE 01000100";
-    for (budget, verdict) in [(0, "STOPPED 0"), (2, "STOPPED 2"), (3, broken), (4, broken), (u32::MAX, broken)] {
-        assert_eq!(agrees(&with_budget(&p1, budget), 128), verdict);
+    for listing in Listing::BOTH {
+        for (budget, verdict) in [(0, "STOPPED 0"), (1, "STOPPED 1"), (2, "STOPPED 2"), (3, "HELD 3"), (4, "HELD 3"), (u32::MAX, "HELD 3")] {
+            assert_eq!(agrees(listing, &with_budget(&p2, budget), 128), verdict);
+        }
+        for (budget, verdict) in [(0, "STOPPED 0"), (2, "STOPPED 2"), (3, broken), (4, broken), (u32::MAX, broken)] {
+            assert_eq!(agrees(listing, &with_budget(&p1, budget), 128), verdict);
+        }
     }
 }
 
@@ -219,14 +135,16 @@ fn a_trace_may_need_all_128_bytes() {
     // Three readers with an untrusted agent, then the claimer.
     let runs = [0, 0, 1, 0, 0, 1, 0, 0, 1, 1, 0, 0];
     let file = framed(100, [&rows, &[reader, claimer].concat(), &runs, &[0, 1]]);
-    let verdict = agrees(&file, 128);
-    assert!(verdict.starts_with("BROKEN 33 RUN 4 EVENT 7 TRACE "), "{verdict}");
-    assert_eq!(verdict.split(' ').last().unwrap().len(), 256);
-    replays(&file, &verdict);
-    for length in [129, 200, 256] {
-        assert_eq!(agrees(&file, length), verdict);
+    for listing in Listing::BOTH {
+        let verdict = agrees(listing, &file, 128);
+        assert!(verdict.starts_with("BROKEN 33 RUN 4 EVENT 7 TRACE "), "{verdict}");
+        assert_eq!(verdict.split(' ').last().unwrap().len(), 256);
+        replays(&file, &verdict);
+        for length in [129, 200, 256] {
+            assert_eq!(agrees(listing, &file, length), verdict);
+        }
+        assert_eq!(agrees(listing, &file, 127), "REFUSED 10 127");
     }
-    assert_eq!(agrees(&file, 127), "REFUSED 10 127");
 }
 
 /// Eight variables under a key that stays unknown, with more than a hundred values for each.
@@ -241,9 +159,11 @@ fn hopeless_choices_are_not_tried() {
     rows.extend([12, 80, 13]);
     let role = [3, 2, 3, 13, 1, 1, 0, 1, 81];
     let file = framed(100, [&rows, &[&role[..], &[0, 0]].concat(), &[0, 0, 0, 0, 0, 0], &[0, 1]]);
-    let begin = std::time::Instant::now();
-    assert_eq!(agrees(&with_budget(&file, u32::MAX), 128), "HELD 1");
-    assert!(begin.elapsed().as_millis() < 1000, "{:?}", begin.elapsed());
+    for listing in Listing::BOTH {
+        let begin = std::time::Instant::now();
+        assert_eq!(agrees(listing, &with_budget(&file, u32::MAX), 128), "HELD 1");
+        assert!(begin.elapsed().as_millis() < 1000, "{:?}", begin.elapsed());
+    }
 }
 
 /// Reads of several variables of which each part alone can be derivable, but not all with the same values.
@@ -254,10 +174,10 @@ fn contradictory_parts_are_not_tried() {
     files.extend([5, 20, 50].map(reads::unknown_value));
     files.extend([(0, 30), (5, 10), (5, 30)].map(|(several, constants)| reads::built_or_known(several, constants)));
     files.extend([(5, 3), (3, 5), (1, 7)].map(|(free, length)| reads::cycle(free, length, 3)));
-    for file in files {
+    for (file, listing) in files.iter().flat_map(|file| Listing::BOTH.map(|listing| (file, listing))) {
         let begin = std::time::Instant::now();
-        assert_eq!(answered(&file, 128), "HELD 1", "{}", reference::hexadecimal(&file));
-        assert!(begin.elapsed().as_millis() < 1000, "{:?}: {}", begin.elapsed(), reference::hexadecimal(&file));
+        assert_eq!(answered(listing, file, 128), "HELD 1", "{}", reference::hexadecimal(file));
+        assert!(begin.elapsed().as_millis() < 1000, "{:?}: {}", begin.elapsed(), reference::hexadecimal(file));
     }
 }
 
@@ -268,7 +188,7 @@ fn reads_of_several_variables_answer_as_the_reference() {
     let mut lengths = BTreeMap::new();
     for _ in 0..3_000 {
         let file = with_budget(&reads::random(&mut random), random.pick(&[20, 300, 3000]));
-        *lengths.entry(agrees(&file, 128)).or_insert(0) += 1;
+        *lengths.entry(agrees(Full, &file, 128)).or_insert(0) += 1;
     }
     assert!(lengths.len() > 10, "{lengths:?}");
     assert!(lengths["HELD 1"] > 100 && lengths["HELD 1"] < 2_900, "{lengths:?}");
@@ -279,8 +199,8 @@ fn reads_of_several_variables_answer_as_the_reference() {
 fn a_call_needs_no_more_stack_than_stated() {
     let header = include_str!("../../../include/tejorva.h");
     let stated = header.split("#define TEJORVA_SEARCH_STACK ").nth(1).unwrap().split_whitespace().next().unwrap();
-    for readers in 0..=4 {
-        let call = move || answered(&with_budget(&reads::deepest(readers), 3000), 128);
+    for (readers, listing) in (0..=4).flat_map(|readers| Listing::BOTH.map(|listing| (readers, listing))) {
+        let call = move || answered(listing, &with_budget(&reads::deepest(readers), 3000), 128);
         let thread = std::thread::Builder::new().stack_size(stated.parse().unwrap()).spawn(call).unwrap();
         assert_eq!(thread.join().unwrap(), "STOPPED 3000");
     }
@@ -291,9 +211,9 @@ fn a_call_needs_no_more_stack_than_stated() {
 fn long_lists_answer_as_the_reference() {
     let mut verdicts = vec![];
     for file in [reads::values(4, 3, 5), reads::values(2, 5, 4), reads::claims(8, 2), reads::claims(4, 4), reads::claims(8, 4)] {
-        let whole = agrees(&with_budget(&file, u32::MAX), 128);
+        let whole = agrees(Full, &with_budget(&file, u32::MAX), 128);
         for budget in [1, 1000, 100_000, number(&whole) - 1, number(&whole)] {
-            agrees(&with_budget(&file, budget), 128);
+            agrees(Full, &with_budget(&file, budget), 128);
         }
         verdicts.push(whole);
     }

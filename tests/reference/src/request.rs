@@ -5,11 +5,13 @@ use crate::refusal::Refusal;
 use crate::replay::replay;
 use crate::scenario::open;
 use crate::search::{search, Verdict};
+use crate::walk::Listing;
 
 pub const MALFORMED: &str = "MALFORMED";
 
-/// The answer to a request: `0 open FILE`, `0 search FILE BUFFER_LENGTH`, `0 derive TABLE LIST
-/// TARGET` or `0 replay FILE TRACE`.
+/// The answer to a request: `0 open FILE`, `0 search FILE BUFFER_LENGTH`, `3 short FILE
+/// BUFFER_LENGTH`, `0 derive TABLE LIST TARGET` or `0 replay FILE TRACE`. The number in front is the
+/// level of the rules, and the short list comes with level 3.
 pub fn answer(request: &str) -> String {
     match answer_to_fields(&request.split(' ').collect::<Vec<_>>()) {
         Some(Ok(answer)) => answer,
@@ -22,9 +24,8 @@ pub fn answer(request: &str) -> String {
 fn answer_to_fields(fields: &[&str]) -> Option<Result<String, Refusal>> {
     match *fields {
         ["0", "open", file] => Some(open(&bytes(file)?).map(|_| "OK".to_string())),
-        ["0", "search", file, length] => {
-            Some(search(&bytes(file)?, number(length)?).map(verdict_text))
-        }
+        ["0", "search", file, length] => answer_to_search(Listing::Full, file, length),
+        ["3", "short", file, length] => answer_to_search(Listing::Short, file, length),
         ["0", "derive", table, list, target] => {
             Some(derive(&bytes(table)?, &bytes(list)?, one_byte(target)?).map(derive_text))
         }
@@ -33,6 +34,10 @@ fn answer_to_fields(fields: &[&str]) -> Option<Result<String, Refusal>> {
         }
         _ => None,
     }
+}
+
+fn answer_to_search(listing: Listing, file: &str, length: &str) -> Option<Result<String, Refusal>> {
+    Some(search(listing, &bytes(file)?, number(length)?).map(verdict_text))
 }
 
 fn verdict_text(verdict: Verdict) -> String {

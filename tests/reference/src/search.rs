@@ -1,9 +1,9 @@
-//! Search: the verdict on a scenario, by its budget; and the list of its traces.
+//! Search by either list: the verdict on a scenario, by its budget; and the list of its traces.
 
 use crate::refusal::{refused, Refusal};
 use crate::scenario::open;
 use crate::system::Claim;
-use crate::walk::{walk, Visitor};
+use crate::walk::{walk, Listing, Visitor};
 use std::ops::ControlFlow;
 
 pub const TRACE_BYTES: usize = 128;
@@ -24,8 +24,8 @@ pub enum Verdict {
 }
 
 /// "Search refuses as Open, then 10 if the trace buffer is shorter than 128 bytes, place its
-/// length."
-pub fn search(file: &[u8], buffer_length: usize) -> Result<Verdict, Refusal> {
+/// length." The search through the short list "refuses as Search does".
+pub fn search(listing: Listing, file: &[u8], buffer_length: usize) -> Result<Verdict, Refusal> {
     let scenario = open(file)?;
     if buffer_length < TRACE_BYTES {
         return refused(10, buffer_length);
@@ -35,7 +35,7 @@ pub fn search(file: &[u8], buffer_length: usize) -> Result<Verdict, Refusal> {
         judged: 0,
         verdict: None,
     };
-    walk(scenario, &mut judge);
+    walk(listing, scenario, &mut judge);
     Ok(judge.verdict.unwrap_or(Verdict::Held(judge.judged)))
 }
 
@@ -80,21 +80,21 @@ impl Visitor for Judge {
 }
 
 /// The first `bound` traces of a file's list, or all of them if there are fewer.
-pub fn traces(file: &[u8], bound: usize) -> Result<Vec<Vec<u8>>, Refusal> {
-    let mut listing = Listing {
+pub fn traces(listing: Listing, file: &[u8], bound: usize) -> Result<Vec<Vec<u8>>, Refusal> {
+    let mut first = FirstTraces {
         bound,
         traces: Vec::new(),
     };
-    walk(open(file)?, &mut listing);
-    Ok(listing.traces)
+    walk(listing, open(file)?, &mut first);
+    Ok(first.traces)
 }
 
-struct Listing {
+struct FirstTraces {
     bound: usize,
     traces: Vec<Vec<u8>>,
 }
 
-impl Visitor for Listing {
+impl Visitor for FirstTraces {
     fn visit(&mut self, trace: &[u8], _broken: Option<Claim>) -> ControlFlow<()> {
         if self.traces.len() == self.bound {
             return ControlFlow::Break(());

@@ -1,6 +1,6 @@
 //! Worked cases P1 to P12, cuts, limits and single rules, each with its answer.
 
-use crate::{answer, bytes, hexadecimal, open, Refusal, MALFORMED};
+use crate::{answer, bytes, hexadecimal, open, traces, Listing, Refusal, MALFORMED};
 
 /// The four blocks of a file in hexadecimal, blanks between the items.
 type Blocks<'a> = [&'a str; 4];
@@ -45,10 +45,17 @@ fn opened(blocks: Blocks) -> String {
 }
 
 fn searched(budget: u32, blocks: Blocks) -> String {
-    answer(&format!(
-        "0 search {} 128",
-        hexadecimal(&file(budget, blocks))
-    ))
+    searched_by("0 search", budget, blocks)
+}
+
+/// The verdict by the short list.
+fn searched_short(budget: u32, blocks: Blocks) -> String {
+    searched_by("3 short", budget, blocks)
+}
+
+fn searched_by(operation: &str, budget: u32, blocks: Blocks) -> String {
+    let file = hexadecimal(&file(budget, blocks));
+    answer(&format!("{operation} {file} 128"))
 }
 
 fn replayed(blocks: Blocks, trace: &str) -> String {
@@ -106,6 +113,47 @@ fn p12_reads_only_between_known_names() {
     assert_eq!(verdict("00 01"), "HELD 2");
     assert_eq!(verdict("00"), "HELD 1");
     assert_eq!(verdict("01"), "HELD 1");
+}
+
+#[test]
+fn the_short_list_has_one_order_of_sends_and_claims() {
+    let broken = "BROKEN 3 RUN 1 EVENT 1 TRACE 01000100";
+    assert_eq!(searched_short(100, P1), broken);
+    assert_eq!(searched_short(2, P1), "STOPPED 2");
+    assert_eq!(searched_short(100, P2), "HELD 3");
+    // P4: of two runs of P2 the first moves to its end, then the second.
+    let p4 = [P2_ROWS, P2_ROLES, "000001 000001", ""];
+    let listed = traces(Listing::Short, &file(100, p4), 100).unwrap();
+    assert_eq!(listed.last(), Some(&bytes_of("0100 0100 0200 0200")));
+    assert_eq!(searched_short(100, p4), "HELD 5");
+    assert_eq!(searched_short(5, p4), "HELD 5");
+    assert_eq!(searched_short(4, p4), "STOPPED 4");
+    assert_eq!(searched_short(0, p4), "STOPPED 0");
+    let p12 = [P12_ROWS, P12_ROLES, "000001", "00 01"];
+    assert_eq!(searched_short(100, p12), "HELD 2");
+}
+
+#[test]
+fn the_short_list_reads_where_no_run_sends_or_claims() {
+    // Role 0 reads the variable of P12 and sends it on; role 1 claims a local constant.
+    let rows = format!("{P12_ROWS} 070000");
+    let roles = "020203 02 01000105 00000105 03020306 01 02000006";
+    for (runs, list) in [
+        (
+            "000001 010001",
+            ["", "0200", "0200 01010400", "0200 01010400 0100"],
+        ),
+        (
+            "010001 000001",
+            ["", "0100", "0100 02010400", "0100 02010400 0200"],
+        ),
+    ] {
+        let blocks = [&rows, roles, runs, "00 01"];
+        let listed = traces(Listing::Short, &file(100, blocks), 100).unwrap();
+        assert_eq!(listed, list.map(bytes_of), "{runs}");
+        assert_eq!(searched(100, blocks), "HELD 9");
+        assert_eq!(searched_short(100, blocks), "HELD 4");
+    }
 }
 
 #[test]
@@ -169,6 +217,10 @@ fn requests_out_of_form_are_malformed() {
         "0 search - x",
         "0 search - +5",
         "0 replay -",
+        "3 short -",
+        "3 short - x",
+        "0 short - 128",
+        "3 search - 128",
     ];
     for request in open.iter().chain(&digits).chain(&others) {
         assert_eq!(answer(request), MALFORMED, "{request:?}");
@@ -377,15 +429,17 @@ fn a_known_row_follows_its_rules() {
 #[test]
 fn the_buffer_has_128_bytes_at_least() {
     let file = hexadecimal(&file(100, P2));
-    for (length, expected) in [
-        (0, "REFUSED 10 0"),
-        (127, "REFUSED 10 127"),
-        (128, "HELD 3"),
-        (300, "HELD 3"),
-    ] {
-        assert_eq!(answer(&format!("0 search {file} {length}")), expected);
+    for search in ["0 search", "3 short"] {
+        for (length, expected) in [
+            (0, "REFUSED 10 0"),
+            (127, "REFUSED 10 127"),
+            (128, "HELD 3"),
+            (300, "HELD 3"),
+        ] {
+            assert_eq!(answer(&format!("{search} {file} {length}")), expected);
+        }
+        assert_eq!(answer(&format!("{search} - 0")), "REFUSED 1 0");
     }
-    assert_eq!(answer("0 search - 0"), "REFUSED 1 0");
 }
 
 #[test]

@@ -9,6 +9,34 @@ use std::ops::ControlFlow;
 /// So many states are remembered at most, to bound the room a walk takes.
 const MOST_REMEMBERED: usize = 1 << 18;
 
+/// Which list of traces is meant.
+#[derive(Clone, Copy, Debug, PartialEq, Eq)]
+pub enum Listing {
+    /// All allowed traces.
+    Full,
+    /// "wherever some run's next event is a send or claim, the only move listed is that of the
+    /// lowest such run"
+    Short,
+}
+
+impl Listing {
+    pub const BOTH: [Listing; 2] = [Listing::Full, Listing::Short];
+
+    /// The runs whose moves the list goes on with in a state, in their order.
+    fn runs(self, system: &System, state: &State) -> Vec<usize> {
+        let runs = system.scenario.run_numbers();
+        let sends_or_claims = |&run: &usize| {
+            let next = system.next_event(state, run);
+            next.is_some_and(|event| event.action != Action::Read)
+        };
+        let alone = match self {
+            Listing::Full => None,
+            Listing::Short => runs.clone().find(sends_or_claims),
+        };
+        alone.map_or_else(|| runs.collect(), |run| vec![run])
+    }
+}
+
 /// Who looks at the list.
 pub trait Visitor {
     /// Takes the next trace of the list, with the claim it breaks, and says whether to go on.
@@ -22,13 +50,14 @@ pub trait Visitor {
     }
 }
 
-/// Shows the list to a visitor: "in it a trace precedes its extensions. Two traces that first
+/// Shows a list to a visitor: "in it a trace precedes its extensions. Two traces that first
 /// differ at a move are ordered by run, then by the new values in order of variable row, each by
 /// row and then run."
-pub fn walk(scenario: Scenario, visitor: &mut dyn Visitor) {
+pub fn walk(listing: Listing, scenario: Scenario, visitor: &mut dyn Visitor) {
     let mut system = System::new(scenario);
     let start = system.start();
     let mut walk = Walk {
+        listing,
         system,
         visitor,
         trace: Vec::new(),
@@ -39,6 +68,7 @@ pub fn walk(scenario: Scenario, visitor: &mut dyn Visitor) {
 }
 
 struct Walk<'a> {
+    listing: Listing,
     system: System,
     visitor: &'a mut dyn Visitor,
     /// The trace that leads here.
@@ -46,7 +76,7 @@ struct Walk<'a> {
     /// How many traces were visited or passed.
     shown: u64,
     /// How many traces of the list go through a state by one way there. That depends on the state
-    /// alone.
+    /// alone, since a walk is of one list.
     extensions: HashMap<State, u64>,
 }
 
@@ -63,7 +93,7 @@ impl Walk<'_> {
         let broken = self.system.broken_claim(here);
         self.visitor.visit(&self.trace, broken)?;
         self.shown += 1;
-        for run in self.system.scenario.run_numbers() {
+        for run in self.listing.runs(&self.system, &here.state) {
             self.traces_by_run(here, run)?;
         }
         self.remember(here, self.shown - before);

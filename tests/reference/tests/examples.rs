@@ -1,7 +1,7 @@
 //! The files of examples/: each has the verdict that its first line states and the table in its
-//! README gives, and no row too many.
+//! README gives, the verdict by the short list that its second line states, and no row too many.
 
-use reference::{answer, hexadecimal, open, stated_verdict, uncommented, Scenario};
+use reference::{answer, hexadecimal, open, stated_short, stated_verdict, uncommented, Scenario};
 use std::collections::BTreeSet;
 use std::path::PathBuf;
 
@@ -11,6 +11,7 @@ struct Example {
     name: String,
     file: Vec<u8>,
     verdict: String,
+    short: String,
 }
 
 fn examples() -> Vec<Example> {
@@ -27,6 +28,9 @@ fn examples() -> Vec<Example> {
                 verdict: stated_verdict(&text)
                     .unwrap_or_else(|| panic!("{name}: no verdict"))
                     .to_string(),
+                short: stated_short(&text)
+                    .unwrap_or_else(|| panic!("{name}: no verdict by the short list"))
+                    .to_string(),
                 name,
             }
         })
@@ -40,6 +44,17 @@ fn verdict(file: &[u8]) -> String {
     answer(&format!("0 search {} 128", hexadecimal(file)))
 }
 
+fn short_verdict(file: &[u8]) -> String {
+    answer(&format!("3 short {} 128", hexadecimal(file)))
+}
+
+/// The word of a verdict and its number.
+fn word_and_number(verdict: &str) -> (&str, u32) {
+    let mut fields = verdict.split(' ');
+    let mut next = || fields.next().unwrap();
+    (next(), next().parse().unwrap())
+}
+
 /// The same file with another budget.
 fn with_budget(file: &[u8], budget: u32) -> Vec<u8> {
     [&file[..1], &budget.to_be_bytes(), &file[5..]].concat()
@@ -51,9 +66,11 @@ fn every_example_has_its_verdict() {
         name,
         file,
         verdict: stated,
+        short,
     } in examples()
     {
         assert_eq!(verdict(&file), stated, "{name}");
+        assert_eq!(short_verdict(&file), short, "{name}");
     }
 }
 
@@ -63,12 +80,29 @@ fn one_trace_less_stops_every_example() {
         name,
         file,
         verdict: stated,
+        ..
     } in examples()
     {
-        let number: u32 = stated.split(' ').nth(1).unwrap().parse().unwrap();
+        let (_, number) = word_and_number(&stated);
         let less = format!("STOPPED {}", number - 1);
         assert_eq!(verdict(&with_budget(&file, number)), stated, "{name}");
         assert_eq!(verdict(&with_budget(&file, number - 1)), less, "{name}");
+    }
+}
+
+#[test]
+fn the_short_list_gives_every_example_its_word_no_later() {
+    for Example {
+        name,
+        verdict: stated,
+        short,
+        ..
+    } in examples()
+    {
+        let ((full_word, full), (word, number)) =
+            (word_and_number(&stated), word_and_number(&short));
+        assert_eq!(word, full_word, "{name}: {short}");
+        assert!(number <= full, "{name}: {short}");
     }
 }
 
@@ -113,12 +147,19 @@ fn every_row_is_needed_and_every_agent_takes_part() {
 
 #[test]
 fn the_readme_gives_every_verdict() {
-    for Example { name, verdict, .. } in examples() {
-        let words = verdict.split(" TRACE").next().unwrap();
+    for Example {
+        name,
+        verdict,
+        short,
+        ..
+    } in examples()
+    {
+        let words = |verdict: &str| verdict.split(" TRACE").next().unwrap().to_string();
+        let cells = format!("| {} | {} |", words(&verdict), words(&short));
         let line = README
             .lines()
             .find(|line| line.contains(&format!("`{name}`")));
         let line = line.unwrap_or_else(|| panic!("{name} is not in the table"));
-        assert!(line.contains(&format!("| {words} |")), "{name}: {line}");
+        assert!(line.contains(&cells), "{name}: {line}");
     }
 }

@@ -1,12 +1,12 @@
--- `main` prints a text whose length counts its bytes. Assumes nothing.
+-- `print_verdict` prints a text whose length counts its bytes. Assumes nothing.
 use native.Mathlib.Omega.{arith}
 use borrow.Author.Needs.{needs}
 use Prim.Native.Nat.{ℕ, _≤_}
 use mathlib.Core.List.{List}
 use lib.ListN.{length, replicate, length-replicate}
 use Rattle.text.specs.laws.Adds.{holds-fits, holds-count}
-use Rattle.verdict.proofs.main.Statement.{statement}
-use Rattle.verdict.proofs.main.Tie as tie
+use Rattle.report.proofs.print_verdict.Statement.{statement}
+use Rattle.report.proofs.print_verdict.Tie as tie
 
 -- a buffer that is long enough
 abbrev buffer : List ℕ
@@ -21,5 +21,5 @@ array-share-prefix-bytes c = holds-fits (c .before .verdict-text .ensures buffer
 slice-aggregate-write-all : tie.Need-slice-aggregate-write-all
 slice-aggregate-write-all c = holds-count (c .before .before .verdict-text .ensures buffer long)
 
-pub main-spec : {M : Type 1} → statement M
-main-spec = tie.close (tie.spec (λ c. search needs) (λ c κs. search needs) (λ c. search needs) (λ c κs. search needs) (λ c. search needs) (λ c. search needs) (λ c. search needs) (λ c κs. search needs) array-share-prefix-bytes slice-aggregate-write-all (λ c κs. search needs) (λ c. search needs))
+pub print-verdict-spec : {M : Type 1} → statement M
+print-verdict-spec = tie.close (tie.spec (λ c. search needs) (λ c κs. search needs) (λ c. search needs) (λ c κs. search needs) (λ c. search needs) (λ c. search needs) (λ c. search needs) (λ c κs. search needs) array-share-prefix-bytes slice-aggregate-write-all (λ c κs. search needs) (λ c. search needs))
