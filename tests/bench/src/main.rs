@@ -5,14 +5,20 @@ mod open;
 mod replay;
 mod search;
 
+/// Times everything, or the lines of `search` or `short` alone.
 fn main() {
-    if std::env::args().any(|a| a == "search") {
+    let asked = |section: &str| std::env::args().any(|a| a == section);
+    if asked("search") {
         return search::run();
+    }
+    if asked("short") {
+        return search::run_short();
     }
     derive::run();
     open::run();
     replay::run();
     search::run();
+    search::run_short();
 }
 
 /// The least time of one call in nanoseconds, over rounds that take turns with the other side.

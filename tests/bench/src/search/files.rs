@@ -53,6 +53,21 @@ impl Role {
     }
 }
 
+/// A message to a role.
+pub fn send(peer: u8, row: u8) -> [u8; 4] {
+    [0, 0, peer, row]
+}
+
+/// A message from a role.
+pub fn read(peer: u8, row: u8) -> [u8; 4] {
+    [1, 0, peer, row]
+}
+
+/// A claim that a row is secret.
+pub fn claim(row: u8) -> [u8; 4] {
+    [2, 0, 0, row]
+}
+
 /// The bytes of a file that is written as text, with comments from `#` to the end of a line.
 pub fn bytes(text: &str) -> Vec<u8> {
     let digits: String = text.lines().flat_map(|line| line.split('#').next().unwrap().split_whitespace()).collect();

@@ -1,18 +1,13 @@
 //! Files whose lists are far too long to be walked through trace by trace, and yet below the largest budget. None breaks a claim.
-use super::files::{bytes, Parts, Role};
+use super::files::{bytes, claim, Parts, Role};
 use crate::replay;
 use library::random::Random;
 
 const LOWE: &str = include_str!("../../../../examples/needham-schroeder-lowe-4.hex");
 const ANDREW: &str = include_str!("../../../../examples/andrew-3.hex");
 
-/// A claim that a row is secret.
-fn claim(row: u8) -> [u8; 4] {
-    [2, 0, 0, row]
-}
-
 /// Needham-Schroeder-Lowe in four runs, with further claims of each role: the other's nonce, then the own secret key.
-fn lowe(claims: usize) -> Vec<u8> {
+pub fn lowe(claims: usize) -> Vec<u8> {
     let mut parts = Parts::of(&bytes(LOWE));
     for (role, rows) in parts.roles.iter_mut().zip([[0x09, 0x0b], [0x08, 0x0d]]) {
         role.events.extend(rows[..claims].iter().map(|&row| claim(row)));
@@ -21,7 +16,7 @@ fn lowe(claims: usize) -> Vec<u8> {
 }
 
 /// Andrew in four runs: both roles between a and b, and both with a and b exchanged.
-fn andrew() -> Vec<u8> {
+pub fn andrew() -> Vec<u8> {
     let mut parts = Parts::of(&bytes(ANDREW));
     parts.runs = vec![vec![0, 0, 1], vec![1, 0, 1], vec![0, 1, 0], vec![1, 1, 0]];
     parts.file()

@@ -1,6 +1,7 @@
 //! The memory of states: with how many traces a state goes on, itself included, where none of them breaks a claim.
 use super::scenario::{Scenario, State};
 use crate::knowledge::cell;
+use std::collections::HashMap;
 
 const SETS: usize = 1344;
 const WAYS: usize = 4;
@@ -8,15 +9,8 @@ const WAYS: usize = 4;
 /// How far the runs have come, how many moves are left, a word that is not used, and the names of each run at the variables' rows.
 type Key = [u16; 38];
 
-#[derive(Clone, Copy)]
-struct Slot {
-    key: Key,
-    count: u32,
-}
-
-/// Sets of slots, in one of which a key may stand. A slot whose count is 0 is empty.
-pub struct Memory {
-    slots: Vec<Slot>,
+/// What keys are made of.
+pub struct Keys {
     // The rows of the variables; row 0 in places that are not used.
     variables: [usize; 8],
     moves: usize,
@@ -28,12 +22,12 @@ pub struct Place {
     first: usize,
 }
 
-impl Memory {
+impl Keys {
     pub fn new(scenario: &Scenario) -> Self {
         let mut variables = [0; 8];
         variables[..scenario.variables.len()].copy_from_slice(&scenario.variables);
         let moves = scenario.runs.iter().map(|run| run.events.len()).sum();
-        Memory { slots: vec![Slot { key: [0; 38], count: 0 }; SETS * WAYS], variables, moves }
+        Keys { variables, moves }
     }
 
     /// The place of the state once run k, from 0, has made one more event.
@@ -52,19 +46,64 @@ impl Memory {
         }
         Place { key, first: hash(&key) as usize % SETS * WAYS }
     }
+}
 
+/// What a walk remembers.
+pub trait Memory {
     /// The count of a state, or 0.
-    pub fn look_up(&self, place: &Place) -> u32 {
-        let set = &self.slots[place.first..place.first + WAYS];
-        set.iter().find(|slot| slot.key == place.key).map_or(0, |slot| slot.count)
+    fn look_up(&mut self, place: &Place) -> u128;
+
+    /// Stores the count of a state.
+    fn store(&mut self, place: &Place, count: u128);
+}
+
+#[derive(Clone, Copy)]
+struct Slot {
+    key: Key,
+    count: u32,
+}
+
+/// As many slots as the library has: sets of them, in one of which a key may stand. A slot whose count is 0 is empty.
+pub struct Slots(Vec<Slot>);
+
+impl Slots {
+    pub fn new() -> Self {
+        Slots(vec![Slot { key: [0; 38], count: 0 }; SETS * WAYS])
+    }
+}
+
+impl Memory for Slots {
+    fn look_up(&mut self, place: &Place) -> u128 {
+        let set = &self.0[place.first..place.first + WAYS];
+        set.iter().find(|slot| slot.key == place.key).map_or(0, |slot| slot.count.into())
     }
 
-    /// Stores the count of a state, over its own entry or else over the first of the smallest count.
-    pub fn store(&mut self, place: &Place, count: u32) {
-        let set = &mut self.slots[place.first..place.first + WAYS];
+    /// Over the state's own entry or else over the first of the smallest count. No count is above the budget, which fits.
+    fn store(&mut self, place: &Place, count: u128) {
+        let set = &mut self.0[place.first..place.first + WAYS];
         let own = set.iter().position(|slot| slot.key == place.key);
         let way = own.or_else(|| (0..WAYS).min_by_key(|&way| set[way].count)).unwrap();
-        set[way] = Slot { key: place.key, count };
+        set[way] = Slot { key: place.key, count: count as u32 };
+    }
+}
+
+/// Every state that was looked up, to count with.
+#[derive(Default)]
+pub struct AllStates(HashMap<Key, u128>);
+
+impl AllStates {
+    pub fn count(&self) -> usize {
+        self.0.len()
+    }
+}
+
+impl Memory for AllStates {
+    fn look_up(&mut self, place: &Place) -> u128 {
+        *self.0.entry(place.key).or_insert(0)
+    }
+
+    fn store(&mut self, place: &Place, count: u128) {
+        self.0.insert(place.key, count);
     }
 }
 
