@@ -1,2 +1,3 @@
--- The laws of the verdict's text.
+-- What a program prints of a verdict, and the laws of the verdict's text.
+pub mod Prints
 pub mod laws

@@ -5,6 +5,7 @@ ghost use lib.ListN.{length};
 ghost use Rattle.semantics.specs.Verdict.{searchedIn};
 ghost use Rattle.search_runs.specs.Runs.{listAs};
 ghost use Rattle.text.specs.Text.{verdictText, HoldsText};
+ghost use Rattle.report.specs.Prints.{Prints};
 use answers::Trace;
 use frame::File;
 use search_runs::Listing;
@@ -19,8 +20,11 @@ pub fn verdict_text(file: &[u8], list: Listing) -> Text
     text::answer_text(answer, &trace)
 }
 
-// Reads a scenario file on standard input and prints the verdict on it. No contract can say what is read or written.
-pub fn print_verdict(list: Listing) {
+// Reads a scenario file on standard input and prints the verdict on it. It answers what it prints: the text of the verdict on some file, or nothing. That this file is what was read, and that the
+// text is what is written, no contract can say.
+pub fn print_verdict(list: Listing) -> Text
+    ensures { λ t. ⌜ Prints (listAs list) t ⌝ }
+{
     // one byte more than a file may have, so that a longer one is refused and not cut
     let mut file = [0; File::MOST_BYTES + 1];
     let n = io::read_full(0, &mut file);
@@ -28,11 +32,15 @@ pub fn print_verdict(list: Listing) {
     let mut more = [0; 1];
     if n <= File::MOST_BYTES {
         if libc::read(0, &mut more) != 0 {
-            return;
+            return Text {
+                bytes: [0; 1024],
+                len: 0,
+            };
         }
     }
     let text = verdict_text(&file[..n], list);
     let bytes = text.bytes;
     let len = text.len;
     io::write_all(1, &bytes[..len]);
+    text
 }

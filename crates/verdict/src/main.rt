@@ -2,5 +2,5 @@
 use search_runs::Listing;
 
 fn main() {
-    report::print_verdict(Listing::Full)
+    report::print_verdict(Listing::Full);
 }

@@ -2,5 +2,5 @@
 use search_runs::Listing;
 
 fn main() {
-    report::print_verdict(Listing::Short)
+    report::print_verdict(Listing::Short);
 }
