@@ -1,7 +1,7 @@
 -- The laws of cells: parts are lower rows, and cells are told apart. Assumes nothing.
 use Rattle.std.specs.Prelude.{ℕ, zero, suc, ◌+◌, ◌*◌, ◌<◌, ◌≤◌, ◌≡◌, refl, ◌↔◌, Bool, true, false, cond, T, ltb, length, get_or}
 use Rattle.std.proofs.Common.{le_of_suc-le-suc, not-suc-le-zero, eq-or-lt_of_le, arith, sym, ⊎_elim, true≢false, lt-ltb, le-ltb, ltb-false}
-use Rattle.std.proofs.Math.Logic.{Iff·rfl}
+use mathlib.Core.Logic.Iff
 use Rattle.std.proofs.lemmas.Bool.{false≢true}
 use mathlib.Core.List.{List, [], ◌∷◌, Memᴰ}
 use Rattle.std.proofs.Math.Option.{some}
@@ -76,7 +76,7 @@ module _ (bytes classes : List ℕ) (x a b w : ℕ) where
   parts-tell {class} {l} {s} {first} {second} {r} ec there el es ef eg er = go r (T r) (parts_are (sym er))
     where
       parts_are : same_parts a b first second ≡ r → T r ↔ T (same_parts a b (get_or classes (cell_of (get_or bytes (3 * x + 1) 0) w) absent) (get_or classes (cell_of (second_of bytes x) w) absent))
-      parts_are e = rw (← es, ← el, ← eg, ← ef, e) Iff·rfl
+      parts_are e = rw (← es, ← el, ← eg, ← ef, e) Iff.rfl
 
       go : (r : Bool) (P : Type 0) → T r ↔ T (same_parts a b (get_or classes (cell_of (get_or bytes (3 * x + 1) 0) w) absent) (get_or classes (cell_of (second_of bytes x) w) absent))
           → Tells (Matches bytes classes a b x w) r

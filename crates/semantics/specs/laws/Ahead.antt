@@ -262,10 +262,10 @@ module _ {sc : Scenario} (g : Guarantee sc) where
     ahead : Ahead sc s end
 
   overtakes : {ms ns ls : List Move} {s t e : State} → AllowedTrace sc ms s → TraceIn short sc ns t → Closed sc t → Ahead sc s t → Follows (Step sc) s ls e → Overtaking e
-  overtakes {ns = ns} {t = t} allowed path is_closed ahead stays = record { trace = ns; end = t; follows = path; ahead = ahead }
-  overtakes allowed path is_closed ahead (moves p h) =
+  overtakes {ms = ms} {ns = ns} {t = t} allowed path is_closed ahead stays = record { trace = ns; end = t; follows = path; ahead = ahead }
+  overtakes {ms = ms} allowed path is_closed ahead (moves {m = m} p h) =
       let c = catches allowed (trace-in short sc path) ahead is_closed p in
-      overtakes (follows-append allowed (moves p stays)) (follows-append path c.follows) c.is_closed c.still h
+      overtakes {ms = ms ++ (m ∷ [])} (follows-append allowed (moves p stays)) (follows-append path c.follows) c.is_closed c.still h
 
   overtaken : {ms : List Move} {s : State} → AllowedTrace sc ms s → Overtaking s
   overtaken f =

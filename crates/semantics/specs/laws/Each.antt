@@ -49,6 +49,8 @@ module _ {A B : Type 0} {R : A → B → Type 0} where
       go : (o : Option A) (p : Option B) → Both R o p → Each R (present_ones (map f cs)) (present_ones (map g cs)) → Each R (present_ones (o ∷ map f cs)) (present_ones (p ∷ map g cs))
       go none none none_of rest = rest
       go (some a) (some b) (some_of r) rest = cons r rest
+      go none (some b) x4 rest = elim x4 [ ]
+      go (some a) none x4 rest = elim x4 [ ]
 
   -- two that may be missing, the other way round
   pub both-turned : {o : Option A} {o' : Option B} {Q : B → A → Type 0} → ((x : A) (y : B) → R x y → Q y x) → Both R o o' → Both Q o' o

@@ -580,13 +580,13 @@ first-record n at known m events rest l = rw (shape-taken known m events rest l,
 -- the bytes of roles are cut into their records
 roles-read : {at : ℕ} {rs : List Role} {bytes : List ℕ} (n : ℕ) → length bytes ≤ n → RoleBytes at rs bytes → Matched Written (records_from role_length n at bytes) rs
 unfolding records_from
-roles-read zero l no_roles = no_matched
-roles-read (suc n) l no_roles = no_matched
-roles-read zero l (more_roles e p) = absurd (omega arith)
-roles-read (suc n) l (more_roles {at = at} {r = r} {events = events} {bytes = rest} e p) =
+roles-read {at = at} zero l no_roles = no_matched
+roles-read {at = at} (suc n) l no_roles = no_matched
+roles-read {at = at} zero l (more_roles e p) = absurd (omega arith)
+roles-read {at = at} (suc n) l (more_roles {r = r} {events = events} {bytes = rest} e p) =
     let a = length-append r.knowledge (length r.events ∷ (events ++ rest)) in
     let b = length-append events rest in
-    rw (first-record n at r.knowledge (length r.events) events rest (events-read e).1) (more_matched (role-written at r events e) (roles-read n (omega arith) p))
+    rw (first-record n at r.knowledge (length r.events) events rest (events-read e).1) (more_matched (role-written at r events e) (roles-read {at = at + (2 + length r.knowledge + 4 * length r.events)} n (omega arith) p))
 
 -- the knowledge of a good role fits
 knowledge-fits : (rows : List Row) (known : List ℕ) → T (rising known) → ((x : ℕ) → Memᴰ x known → HasValue without_variables rows x) → T (knowledge_fits rows known)

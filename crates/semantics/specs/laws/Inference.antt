@@ -1,7 +1,9 @@
 -- The laws of inference, with their proofs: the decision says yes exactly of what derives. Assumes nothing.
 use Rattle.std.specs.Prelude.{ℕ, zero, suc, ◌+◌, ◌≤◌, ◌<◌, ◌≡◌, refl, ◌↔◌, ◌⊎◌, Bool, true, false, ◌&&◌, T}
 use Rattle.std.proofs.Common.{arith, inr, ⊎_elim}
-use Rattle.std.proofs.Math.Logic.{⊎_map, Iff·trans, Iff·symm, Dec·of-iff}
+use Rattle.std.proofs.Math.Logic.{⊎_map}
+use mathlib.Core.Logic.Iff
+use mathlib.Core.Logic.Dec
 use mathlib.Core.List.Memᴰ
 use mathlib.Core.List.Memᴰ.{head as here}
 use mathlib.Core.List.Memᴰ.{tail as later}
@@ -138,6 +140,8 @@ parts-derive : {known : List Term} {t : Term} {ps : List Term} → Opens known t
 parts-derive opens_pair m x (here e) = rw e (first (member m))
 parts-derive opens_pair m x (later (here e)) = rw e (second (member m))
 parts-derive {known} (opens_encrypted {k = k} b) m x (here e) = rw e (decrypts (member m) (builds-sound known (inverse k) b))
+parts-derive {known = known} (opens_pair {t = t} {u = u}) m x (later (later x19)) = elim x19 [ ]
+parts-derive {known = known} (opens_encrypted {t = t} {k = k} b) m x (later x14) = elim x14 [ ]
 
 -- the parts are the same, whatever else is known
 parts_same : {known more : List Term} {t : Term} {ps qs : List Term} → Opens known t ps → Opens more t qs → ps ≡ qs
@@ -309,8 +313,8 @@ derivable-exact known t = (derivable-sound known t, derivable-complete known t)
 pub derivable-members : (known other : List Term) → ((x : Term) → Memᴰ x known → Memᴰ x other) → ((x : Term) → Memᴰ x other → Memᴰ x known) → (t : Term) → derivable known t ≡ derivable other t
 derivable-members known other f g t =
     let same : Derives known t ↔ Derives other t = (derives-monotone f, derives-monotone g) in
-    same_test (derivable known t) (derivable other t) (Iff·trans (derivable-exact known t) (Iff·trans same (Iff·symm (derivable-exact other t))))
+    same_test (derivable known t) (derivable other t) (Iff.trans (derivable-exact known t) (Iff.trans same (Iff.symm (derivable-exact other t))))
 
 -- inference is decidable
 pub derives-dec : (known : List Term) (t : Term) → Dec (Derives known t)
-derives-dec known t = Dec·of-iff (derivable-exact known t) (test-dec (derivable known t))
+derives-dec known t = Dec.of_iff (derivable-exact known t) (test-dec (derivable known t))

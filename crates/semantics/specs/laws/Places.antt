@@ -131,6 +131,7 @@ module _ (file : List ℕ) where
   frame-place {n} {at} (holds e f) = let z = ((unversioned-exactly file at).0 e).0 in omega arith
   frame-place {n} {at} (passes e (holds f g)) = let w = (too_long-exactly file at).0 f in omega arith
   frame-place {n} {at} (passes e (passes f (holds g h))) = let z = ((misframed-exactly file at).0 g).0 in let l = file-short file f in omega arith
+  frame-place {n = n} {at = at} (passes e (passes f (passes _ x24))) = elim x24 [ ]
 
   module _ (within : PartsWithin file) where
     -- a role record stands within the file
@@ -177,6 +178,7 @@ module _ (file : List ℕ) where
     record-place {rows} {n} {at} t (passes e (passes f (passes g (passes h (holds i j))))) =
         let l = knowledge-place ((bad_knowledge-exactly rows (knowledge_part file).start 0 (knowledge_part file).bytes at).0 i) in
         omega (arith, within.knowledge)
+    record-place {rows = rows} {n = n} {at = at} t (passes e (passes f (passes g (passes h (passes _ x36))))) = elim x36 [ ]
 
   -- what the passing of 1 to 3 says
   frame-passes : NoneHolds (frame_conditions file) → (length file ≤ 4096) × PartsWithin file

@@ -84,6 +84,8 @@ module _ (sc : Scenario) where
           (and_then o' (λ p. mapped (λ ev. record { index = k; run = run; progress = p; event = ev }) (get_elem? (events_of sc run) p.done)))
       at-progress run none none none_of = none_of
       at-progress run (some p) (some q) (some_of same) = at-event run same (get_elem? (events_of sc run) p.done) (get_elem? (events_of sc run) q.done) (ap (get_elem? (events_of sc run)) same.done)
+      at-progress run none (some q) x'' = elim x'' [ ]
+      at-progress run (some p) none x3 = elim x3 [ ]
 
       at-run : (o : Option Run) → Both SameActive
           (and_then o (λ run. and_then (get_elem? d.progress k) (λ p. mapped (λ ev. record { index = k; run = run; progress = p; event = ev }) (get_elem? (events_of sc run) p.done))))
@@ -195,6 +197,8 @@ module _ (sc : Scenario) where
         at-progress run none none none_of = refl
         at-progress run (some p) (some q) (some_of runs) =
             (λ i. first_of (map (λ j. and_then (get_elem? (events_of sc run) j) (λ ev. broken-event same (suc k) run runs j ev i)) (numbers_from 0 (runs.done i))))
+        at-progress run none (some q) x'' = elim x'' [ ]
+        at-progress run (some p) none x3 = elim x3 [ ]
 
         at-run : (o : Option Run) → and_then o (λ run. and_then (get_elem? d.progress k) (judged_in d k run)) ≡ and_then o (λ run. and_then (get_elem? e.progress k) (judged_in e k run))
         at-run none = refl

@@ -201,6 +201,8 @@ module _ {sc : Scenario} (g : Guarantee sc) where
           let l' : j < p'.done = rw runs'.done at l in
           let messages = message-same sc.rows (suc k) run p.values p'.values e (row_same sc g.table (suc k) run p.values p'.values runs'.sets e.row) in
           in_run k j f r n l' z (sym messages ∙ v) h
+      go none (some p') x7 q r = elim x7 [ ]
+      go (some p₀) none x6 q r = elim x6 [ ]
 
   -- Reached states with equal positions and values differ in nothing that counts.
   pub same-reached : {ms ms' : List Move} {d d' : State} → AllowedTrace sc ms d → AllowedTrace sc ms' d' → Each (SameRun sc.rows) d.progress d'.progress → Same sc.rows d d'

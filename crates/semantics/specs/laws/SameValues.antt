@@ -88,6 +88,8 @@ reading-same rows u run sets sets' h x (variable n y) f = go (assigned (variable
     go : (o o' : Option Value) → Both (SameValue rows) o o' → and_then o (term_of rows) ≡ and_then o' (term_of rows)
     go none none none_of = refl
     go (some v) (some w) (some_of e) = e
+    go none (some w) x4 = elim x4 [ ]
+    go (some v) none x5 = elim x5 [ ]
 reading-same rows u run sets sets' h x (local n w) f = refl
 
 -- a message depends on the value of its event's row only
@@ -121,6 +123,8 @@ module _ (rows : List Row) (sets sets' : List (Atom × Value)) (same : SameSets 
       go : (o o' : Option Value) → Both (SameValue rows) o o' → not (present o) ≡ not (present o')
       go none none none_of = refl
       go (some v) (some w) (some_of e) = refl
+      go none (some w) x4 = elim x4 [ ]
+      go (some v) none x5 = elim x5 [ ]
   unset-at x (local n w) f = refl
 
   -- so beneath a pattern the same variables are
@@ -153,6 +157,8 @@ module _ (rows : List Row) (sets sets' : List (Atom × Value)) (same : SameSets 
       go : (o o' m : Option Value) → Both (SameValue rows) o o' → Both (SameValue rows) (or_else o m) (or_else o' m)
       go none none m none_of = itself m
       go (some v) (some w) m (some_of e) = some_of e
+      go none (some w) m x3 = elim x3 [ ]
+      go (some v) none m x4 = elim x4 [ ]
 
 -- equal values and positions, the other way round
 pub runs-turned : {rows : List Row} (p q : Progress) → SameRun rows p q → SameRun rows q p

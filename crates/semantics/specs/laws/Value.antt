@@ -4,7 +4,8 @@ use Rattle.std.proofs.Common.{add-zero, zero-add, not-suc-le-zero, arith, ◌∙
 use Rattle.std.proofs.Math.Decide.{dec_lt}
 use Rattle.std.specs.Prelude.{◌≡◌, refl, ◌↔◌, ◌⊎◌, ◌||◌, T, eqb, get_or, take}
 use Rattle.std.proofs.Math.Path.{sym}
-use Rattle.std.proofs.Math.Logic.{⊎_map, Iff·rfl}
+use Rattle.std.proofs.Math.Logic.{⊎_map}
+use mathlib.Core.Logic.Iff
 use Rattle.std.proofs.Math.Bool.{Bool, false}
 use Rattle.std.proofs.Math.Option.{Option, none, some, some-injective, none-ne-some}
 use mathlib.Core.List.Memᴰ
@@ -273,7 +274,7 @@ module _ {rows : List Row} (good : GoodTable rows) where
 
   -- a row has a value exactly if its role-level term has
   pub value-term : (reading : Reading) (i : ℕ) {t : Term} → value_of as_atoms rows i ≡ some t → HasValue reading rows i ↔ There (substituted reading t)
-  value-term reading i {t} e = rw (value-substituted reading i (value-within as_atoms rows i (t, e)), e) Iff·rfl
+  value-term reading i {t} e = rw (value-substituted reading i (value-within as_atoms rows i (t, e)), e) Iff.rfl
 
   -- a row keeps a value where every atom of the table does
   pub value-imply : (reading reading' : Reading) → ((x : ℕ) (a : Atom) → atom_at rows x ≡ some a → There (reading a) → There (reading' a))

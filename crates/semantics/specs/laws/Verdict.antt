@@ -21,17 +21,17 @@ module _ (judge : Entry → Option Claim) where
   -- one entry more, which breaks nothing
   walked_more : (budget : ℕ) (e : Entry) (es : List Entry) (r : Finding) → judge e ≡ none → Walked judge budget es r → Walked judge (suc budget) (e ∷ es) (later r)
   walked_more budget e es r q (walked_found i l at b before) =
-      walked_found (suc i) (omega arith) at b (λ j. elim j [
+      walked_found (suc i) (omega arith) at b (λ j. elim j as (λ k. (f : Entry) → k < suc i → get_elem? (e ∷ es) k ≡ some f → judge f ≡ none) [
         | zero ↦ λ f l' at'. rw (← some-injective e f at') q
         | suc j' ↦ λ f l' at'. before j' f (omega arith) at'
       ])
   walked_more budget e es r q (walked_all l all) =
-      walked_all (omega arith) (λ j. elim j [
+      walked_all (omega arith) (λ j. elim j as (λ k. (f : Entry) → get_elem? (e ∷ es) k ≡ some f → judge f ≡ none) [
         | zero ↦ λ f at'. rw (← some-injective e f at') q
         | suc j' ↦ λ f at'. all j' f at'
       ])
   walked_more budget e es r q (walked_cut l all) =
-      walked_cut (omega arith) (λ j. elim j [
+      walked_cut (omega arith) (λ j. elim j as (λ k. (f : Entry) → k < suc budget → get_elem? (e ∷ es) k ≡ some f → judge f ≡ none) [
         | zero ↦ λ f l' at'. rw (← some-injective e f at') q
         | suc j' ↦ λ f l' at'. all j' f (omega arith) at'
       ])
