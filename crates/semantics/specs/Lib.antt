@@ -1,4 +1,4 @@
--- The definitions of document 01, in its order, and then their laws.
+-- The definitions of document 01, in its order; their laws and theorems are in proofs/.
 pub mod Basic
 pub mod Limits
 pub mod Term
@@ -26,5 +26,3 @@ pub mod Meaning
 pub mod Encoding
 pub mod Refusals
 pub mod Worked
-pub mod laws
-pub mod Theorems

@@ -9,7 +9,7 @@ use Rattle.std.proofs.Math.ListN.{get_elem?}
 use Rattle.semantics.specs.Table.{Row}
 use Rattle.semantics.specs.Guarantee.{refers_to}
 use Rattle.semantics.specs.Encoding.{RowBytes}
-use Rattle.semantics.specs.laws.List.{get_elem-there}
+use Rattle.semantics.proofs.laws.List.{get_elem-there}
 use Rattle.rows.specs.Rows.{rows_of, Shape}
 use Rattle.rows.specs.laws.Table.{table-good, table-row, left-lower as lower-left}
 use Rattle.rows.specs.laws.Decode.{decodes-refers}

@@ -15,8 +15,8 @@ use Rattle.semantics.specs.Scenario.{Scenario}
 use Rattle.semantics.specs.Guarantee.{Guarantee}
 use Rattle.semantics.specs.State.{Progress, State, events_of, reading_in}
 use Rattle.semantics.specs.Verdict.{claimed_value, is_known, is_against, broken_event}
-use Rattle.semantics.specs.laws.List.{get_elem-below, get_elem-there}
-use Rattle.semantics.specs.laws.Inference.{derivable-exact}
+use Rattle.semantics.proofs.laws.List.{get_elem-below, get_elem-there}
+use Rattle.semantics.proofs.laws.Inference.{derivable-exact}
 use Rattle.cells.specs.Cells.{cell_of, Within, cell_value}
 use Rattle.runs.specs.declared.Runs.{Runs}
 use Rattle.runs.specs.declared.RunEvent.{RunEvent}

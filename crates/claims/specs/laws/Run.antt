@@ -13,7 +13,7 @@ use Rattle.semantics.specs.Runs.{Run, all_trusted}
 use Rattle.semantics.specs.Scenario.{Scenario}
 use Rattle.semantics.specs.State.{Progress, State, events_of, reading_in}
 use Rattle.semantics.specs.Verdict.{is_against, broken_event, broken_in_run}
-use Rattle.semantics.specs.laws.Broken.{first_found, first-none}
+use Rattle.semantics.proofs.laws.Broken.{first_found, first-none}
 use Rattle.runs.specs.declared.Runs.{Runs}
 use Rattle.claims.specs.AtRun.{AtRun, event_breaks, AnswersEvent}
 use Rattle.answers.specs.Answers.{claimed_as}

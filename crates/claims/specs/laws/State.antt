@@ -9,8 +9,8 @@ use Rattle.semantics.specs.Scenario.{Scenario}
 use Rattle.semantics.specs.State.{Progress, State}
 use Rattle.semantics.specs.State as definitions
 use Rattle.semantics.specs.Verdict.{broken_in_run, broken}
-use Rattle.semantics.specs.laws.List.{get_elem-there}
-use Rattle.semantics.specs.laws.Broken.{first_found, first-none}
+use Rattle.semantics.proofs.laws.List.{get_elem-there}
+use Rattle.semantics.proofs.laws.Broken.{first_found, first-none}
 use Rattle.rows.specs.Rows.{rows_of}
 use Rattle.knowledge.specs.Marks.{Exact}
 use Rattle.runs.specs.declared.Runs.{Runs}

@@ -14,8 +14,8 @@ use Rattle.semantics.specs.Term.{Term}
 use Rattle.semantics.specs.Table.{Row, atomic, pk_of, sk_of, shared_of, pair_of, encrypted_of}
 use Rattle.semantics.specs.Value.{value_of}
 use Rattle.semantics.specs.Guarantee.{refers_to, GoodTable}
-use Rattle.semantics.specs.laws.Test.{There}
-use Rattle.semantics.specs.laws.Value.{row_value, value-unfolds, row-induction}
+use Rattle.semantics.proofs.laws.Test.{There}
+use Rattle.semantics.proofs.laws.Value.{row_value, value-unfolds, row-induction}
 use Rattle.cells.specs.Cells.{cell_of, absent, Within, cell_value}
 use Rattle.classes.specs.Classes.{Stands, by_name, by_cell, Classes}
 

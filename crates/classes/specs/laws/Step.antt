@@ -8,7 +8,7 @@ use Rattle.semantics.specs.Term.{Atom, Term, atom}
 use Rattle.semantics.specs.Value.{value_of}
 use Rattle.semantics.specs.State.{in_run}
 use Rattle.semantics.specs.Runs.{atom_at}
-use Rattle.semantics.specs.laws.Test.{There, both, both-parts}
+use Rattle.semantics.proofs.laws.Test.{There, both, both-parts}
 use Rattle.rows.specs.Rows.{rows_of, Shape}
 use Rattle.cells.specs.Cells.{cell_of, cell_count, absent, Within, Readings, cell_value, Canonical, Matches, is_found, not_found}
 use Rattle.cells.specs.laws.Cells.{class-read, left-lower, second-lower}

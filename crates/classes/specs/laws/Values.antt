@@ -11,14 +11,14 @@ use Rattle.semantics.specs.Term.{Atom, Term, pk, sk, shared, pair, encrypted}
 use Rattle.semantics.specs.Table.{Row, atomic, pk_of, sk_of, shared_of, pair_of, encrypted_of}
 use Rattle.semantics.specs.Value.{Reading, value_of}
 use Rattle.semantics.specs.Guarantee.{refers_to, GoodTable}
-use Rattle.semantics.specs.laws.Test.{mapped-some}
-use Rattle.semantics.specs.laws.Value.{row_value, value-unfolds, value-within, row-induction}
+use Rattle.semantics.proofs.laws.Test.{mapped-some}
+use Rattle.semantics.proofs.laws.Value.{row_value, value-unfolds, value-within, row-induction}
 use Rattle.rows.specs.Rows.{rows_of, Shape}
 use Rattle.cells.specs.Cells.{Readings, cell_value, second_of}
 use Rattle.cells.specs.laws.Cells.{left-lower, second-lower}
 use Rattle.classes.specs.Classes.{Grows}
 use Rattle.classes.specs.Filled.{mixed}
-use Rattle.semantics.specs.laws.Test.{mapped₂-some}
+use Rattle.semantics.proofs.laws.Test.{mapped₂-some}
 use Rattle.classes.specs.laws.Kinds.{MadeAt, good-rows, value_made}
 
 module _ {reading reading' : Reading} (stays : (a : Atom) (t : Term) → reading a ≡ some t → reading' a ≡ some t) where

@@ -8,7 +8,7 @@ use Rattle.semantics.specs.Answer.{accepted}
 use Rattle.semantics.specs.Table.{rows_from}
 use Rattle.semantics.specs.Value.{value_of, as_atoms}
 use Rattle.semantics.specs.Derive.{absent_from, derivable_row, derived}
-use Rattle.semantics.specs.laws.Derive.{all_there}
+use Rattle.semantics.proofs.laws.Derive.{all_there}
 use Rattle.rows.specs.Rows.{rows_of, place_as, Shape}
 use Rattle.rows.specs.declared.Place.{Place}
 use Rattle.rows.specs.declared.Place.TheVariants.{At, Nowhere}

@@ -13,7 +13,7 @@ use Rattle.std.proofs.Math.Seq.{drop-cons}
 use Rattle.semantics.specs.Basic.{provided}
 use Rattle.semantics.specs.Table.{Row}
 use Rattle.semantics.specs.Derive.{absent_from}
-use Rattle.semantics.specs.laws.List.{mem-get_elem}
+use Rattle.semantics.proofs.laws.List.{mem-get_elem}
 use Rattle.cells.specs.Cells.{absent}
 use Rattle.rows.specs.Rows.{place_as}
 use Rattle.rows.specs.declared.Place.TheVariants.{At, Nowhere}

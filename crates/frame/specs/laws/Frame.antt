@@ -6,7 +6,7 @@ use Rattle.std.proofs.Math.Option.{Option, none, some}
 use Rattle.std.proofs.lemmas.Bool.{lt-leb}
 use Rattle.std.proofs.Math.Dec.{not_t}
 use Rattle.semantics.specs.Answer.{checked, ◌>>◌}
-use Rattle.semantics.specs.laws.Test.{both_left, both_right, provided-none, not-not, passes-true}
+use Rattle.semantics.proofs.laws.Test.{both_left, both_right, provided-none, not-not, passes-true}
 use Rattle.semantics.specs.Frame.{block_length, budget_of, framed, unversioned, too_long, misframed, block_from, block}
 use Rattle.rows.specs.Rows.{place_as}
 use Rattle.rows.specs.laws.Places.{at_some, nowhere-none}

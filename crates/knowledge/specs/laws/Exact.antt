@@ -6,8 +6,8 @@ use mathlib.Core.List.{List, Memᴰ}
 use Rattle.std.proofs.Math.Dec.{eqb_refl}
 use Rattle.semantics.specs.Term.{Term, pair, encrypted, inverse}
 use Rattle.semantics.specs.Inference.{Derives}
-use Rattle.semantics.specs.laws.Test.{both}
-use Rattle.semantics.specs.laws.Inference.{Carried, derives-keeps}
+use Rattle.semantics.proofs.laws.Test.{both}
+use Rattle.semantics.proofs.laws.Inference.{Carried, derives-keeps}
 use Rattle.rows.specs.Rows.{rows_of, Shape}
 use Rattle.cells.specs.Cells.{cell_of, absent, Readings, cell_value, second_of, Found, is_found, not_found}
 use Rattle.cells.specs.laws.Cells.{second-left}

@@ -9,7 +9,7 @@ use Rattle.std.proofs.Math.Option.{some, some-injective}
 use Rattle.semantics.specs.Term.{Term}
 use Rattle.semantics.specs.Inference.{Derives, member}
 use Rattle.semantics.specs.Table.{Row}
-use Rattle.semantics.specs.laws.Inference.{derives-cut, derives-monotone}
+use Rattle.semantics.proofs.laws.Inference.{derives-cut, derives-monotone}
 use Rattle.cells.specs.Cells.{cell_of, cell_count, Within, Readings, cell_value}
 use Rattle.knowledge.specs.Marks.{Marked, Derivable, Exact, Celled, Settled, LearnsCell, Learnt, was_marked, is_worked}
 use Rattle.knowledge.specs.laws.Filled.{set_on, set_keeps}

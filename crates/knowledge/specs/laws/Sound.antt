@@ -6,7 +6,7 @@ use Rattle.std.proofs.Math.Bool.{true}
 use Rattle.std.proofs.Math.ListN.{length-set}
 use Rattle.semantics.specs.Term.{Term, pk, sk, inverse}
 use Rattle.semantics.specs.Inference.{Derives, pairs, first, second, encrypts, decrypts}
-use Rattle.semantics.specs.laws.Test.{both_left}
+use Rattle.semantics.proofs.laws.Test.{both_left}
 use Rattle.rows.specs.Rows.{rows_of, Shape}
 use Rattle.cells.specs.Cells.{cell_of, cell_count, absent, Readings, cell_value, second_of, Found, is_found, not_found}
 use Rattle.classes.specs.Classes.{Classes}

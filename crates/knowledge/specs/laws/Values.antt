@@ -11,15 +11,15 @@ use Rattle.semantics.specs.Value.{value_of}
 use Rattle.semantics.specs.Runs.{atom_of, atom_at}
 use Rattle.semantics.specs.Guarantee.{refers_to}
 use Rattle.semantics.specs.Encoding.{RowBytes, trusted_bytes, untrusted_bytes, global_bytes, intruder_bytes, role_bytes, agent_variable_bytes, fresh_variable_bytes, local_bytes, public_bytes, secret_bytes, shared_bytes, pair_bytes, encrypted_bytes}
-use Rattle.semantics.specs.laws.Test.{There, mapped-some}
-use Rattle.semantics.specs.laws.Value.{row_value, value-unfolds}
+use Rattle.semantics.proofs.laws.Test.{There, mapped-some}
+use Rattle.semantics.proofs.laws.Value.{row_value, value-unfolds}
 use Rattle.rows.specs.Rows.{rows_of, Shape}
 use Rattle.rows.specs.laws.Table.{table-good}
 use Rattle.cells.specs.Cells.{cell_of, absent, Within, Readings, cell_value}
 use Rattle.cells.specs.laws.Cells.{row-there, row-decodes}
 use Rattle.classes.specs.Classes.{Classes, Stands, by_name, by_cell}
 pub use Rattle.knowledge.specs.Marks.{Has}
-use Rattle.semantics.specs.laws.Test.{mapped₂-some}
+use Rattle.semantics.proofs.laws.Test.{mapped₂-some}
 use Rattle.knowledge.specs.Steps.{class_at, kind_at, left_at, right_at, Inside}
 
 -- a cell is the cell of one row in one run

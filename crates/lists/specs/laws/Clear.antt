@@ -12,7 +12,7 @@ use Rattle.semantics.specs.Term.{Atom, Term, trusted, untrusted, global, intrude
 use Rattle.semantics.specs.Table.{Row}
 use Rattle.semantics.specs.Value.{Reading, value_of, without_variables, without_run}
 use Rattle.semantics.specs.Encoding.{RowBytes, trusted_bytes, untrusted_bytes, global_bytes, intruder_bytes, role_bytes, agent_variable_bytes, fresh_variable_bytes, local_bytes, public_bytes, secret_bytes, shared_bytes, pair_bytes, encrypted_bytes}
-use Rattle.semantics.specs.laws.Value.{row_value, value-unfolds}
+use Rattle.semantics.proofs.laws.Value.{row_value, value-unfolds}
 use Rattle.rows.specs.Rows.{rows_of, Sized}
 use Rattle.rows.specs.laws.Table.{table-good, row_here, left-lower, right-lower}
 use Rattle.lists.specs.Lists.{atom_kind, Bars, Valued, clear_by, clear_at}

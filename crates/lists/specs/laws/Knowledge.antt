@@ -18,7 +18,7 @@ use Rattle.semantics.specs.Runs.{bad_knowledge_from}
 use Rattle.rows.specs.Rows.{place_as}
 use Rattle.rows.specs.declared.Place.{Place}
 use Rattle.rows.specs.declared.Place.TheVariants.{At, Nowhere}
-use Rattle.semantics.specs.laws.Value.{value-within}
+use Rattle.semantics.proofs.laws.Value.{value-within}
 use Rattle.lists.specs.Lists.{Valued, has_value}
 
 -- a row that is absent has no value

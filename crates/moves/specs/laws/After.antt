@@ -8,7 +8,7 @@ use Rattle.semantics.specs.Roles.{ClaimKind, EventKind, send, read, claim, event
 use Rattle.semantics.specs.State.{State, Message}
 use Rattle.semantics.specs.Moves.{advanced}
 use Rattle.semantics.specs.Allowed.{Performs, reads, claims}
-use Rattle.semantics.specs.laws.Moves.{performed-exact}
+use Rattle.semantics.proofs.laws.Moves.{performed-exact}
 use Rattle.rows.specs.Rows.{rows_of}
 use Rattle.cells.specs.Cells.{Readings, cell_value}
 use Rattle.knowledge.specs.Marks.{LearnsCell}

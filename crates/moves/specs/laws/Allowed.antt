@@ -6,7 +6,7 @@ use Rattle.std.proofs.lemmas.Bool.{eqb-false}
 use Rattle.semantics.specs.Basic.{present}
 use Rattle.semantics.specs.Roles.{send, read}
 use Rattle.semantics.specs.State.{State}
-use Rattle.semantics.specs.laws.Test.{present-some, absent_none}
+use Rattle.semantics.proofs.laws.Test.{present-some, absent_none}
 use Rattle.cells.specs.Cells.{cell_of, cell_count, absent}
 use Rattle.cells.specs.laws.Cells.{get_d_any}
 use Rattle.classes.specs.laws.Classes.{classes-none, classes-there}

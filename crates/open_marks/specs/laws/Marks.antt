@@ -9,9 +9,9 @@ use Rattle.std.proofs.Math.ListN.{get_elem?}
 use Rattle.semantics.specs.Term.{role, Atom, Term, atom, inverse}
 use Rattle.semantics.specs.Inference.{Derives, member, derivable}
 use Rattle.semantics.specs.Table.{atomic}
-use Rattle.semantics.specs.laws.Test.{same_test}
-use Rattle.semantics.specs.laws.Inference.{derivable-exact}
-use Rattle.semantics.specs.laws.Value.{as_atoms-value}
+use Rattle.semantics.proofs.laws.Test.{same_test}
+use Rattle.semantics.proofs.laws.Inference.{derivable-exact}
+use Rattle.semantics.proofs.laws.Value.{as_atoms-value}
 use Rattle.rows.specs.Rows.{rows_of, Shape}
 use Rattle.rows.specs.laws.Table.{table-good}
 use Rattle.cells.specs.Cells.{Within, cell_value}

@@ -6,7 +6,7 @@ use Rattle.semantics.specs.Term.{Term, atom, pk, sk, shared, pair, encrypted, in
 use Rattle.semantics.specs.Inference.{Derives, first, second, derivable}
 use Rattle.semantics.specs.WellFormed.{readable_atom, readable}
 use Rattle.semantics.specs.Allowed.{Readable, reads_atom, reads_pk, reads_sk, reads_shared, reads_pair, reads_whole}
-use Rattle.semantics.specs.laws.Inference.{derives-monotone}
+use Rattle.semantics.proofs.laws.Inference.{derives-monotone}
 use Rattle.rows.specs.Rows.{rows_of, Shape}
 use Rattle.knowledge.specs.Steps.{kind_at, left_at, right_at}
 use Rattle.role_level.specs.RoleLevel.{RoleCelled, RoleExact}

@@ -13,13 +13,13 @@ use Rattle.semantics.specs.Table.{Row, atomic, pk_of, sk_of, shared_of, pair_of,
 use Rattle.semantics.specs.Value.{value_of, as_atoms}
 use Rattle.semantics.specs.Guarantee.{refers_to}
 use Rattle.semantics.specs.Encoding.{RowBytes, trusted_bytes, untrusted_bytes, global_bytes, intruder_bytes, role_bytes, agent_variable_bytes, fresh_variable_bytes, local_bytes, public_bytes, secret_bytes, shared_bytes, pair_bytes, encrypted_bytes}
-use Rattle.semantics.specs.laws.Test.{mapped-some}
-use Rattle.semantics.specs.laws.Inference.{Carried, derives-keeps}
-use Rattle.semantics.specs.laws.Value.{row_value, value-unfolds, value-within}
+use Rattle.semantics.proofs.laws.Test.{mapped-some}
+use Rattle.semantics.proofs.laws.Inference.{Carried, derives-keeps}
+use Rattle.semantics.proofs.laws.Value.{row_value, value-unfolds, value-within}
 use Rattle.rows.specs.Rows.{rows_of, Shape}
 use Rattle.rows.specs.laws.Table.{table-good}
 use Rattle.cells.specs.laws.Cells.{row-there, row-decodes, left-lower, second-lower, second-right}
-use Rattle.semantics.specs.laws.Test.{mapped₂-some}
+use Rattle.semantics.proofs.laws.Test.{mapped₂-some}
 use Rattle.knowledge.specs.Steps.{kind_at, left_at, right_at}
 use Rattle.knowledge.specs.laws.Sound.{KeyOf, pk_key, sk_key}
 use Rattle.role_level.specs.RoleLevel.{RoleCelled}

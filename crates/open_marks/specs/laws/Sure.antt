@@ -14,10 +14,10 @@ use Rattle.semantics.specs.Table.{Row}
 use Rattle.semantics.specs.Value.{value_of, as_atoms}
 use Rattle.semantics.specs.WellFormed.{readable}
 use Rattle.semantics.specs.Allowed.{Readable, reads_variable, reads_pair, reads_content}
-use Rattle.semantics.specs.laws.Test.{same_test}
-use Rattle.semantics.specs.laws.List.{mem-map, mem-present}
-use Rattle.semantics.specs.laws.Inference.{derives-cut, derives-monotone}
-use Rattle.semantics.specs.laws.WellFormed.{readable-exact}
+use Rattle.semantics.proofs.laws.Test.{same_test}
+use Rattle.semantics.proofs.laws.List.{mem-map, mem-present}
+use Rattle.semantics.proofs.laws.Inference.{derives-cut, derives-monotone}
+use Rattle.semantics.proofs.laws.WellFormed.{readable-exact}
 use Rattle.rows.specs.Rows.{rows_of, Shape}
 use Rattle.knowledge.specs.Marks.{Settled, Learnt, was_marked, is_worked}
 use Rattle.knowledge.specs.Steps.{On, kind_at, left_at, right_at, InverseKinds}

@@ -13,9 +13,9 @@ use Rattle.semantics.specs.Value.{value_of, as_atoms, without_variables}
 use Rattle.semantics.specs.Frame.{Part, first_bad}
 use Rattle.semantics.specs.Roles.{EventKind, event_kinds, Event, event_from, knowledge_count, event_count, role_length, knowledge_in, events_in, role_in, role_records, roles_present, peer_fits, event_fits, knowledge_fits, good_role, bad_role, roles_from}
 use Rattle.semantics.specs.WellFormed.{well_formed, learned, event_term, role_knowledge, ill_formed_from, ill_formed}
-use Rattle.semantics.specs.laws.Test.{both_left, both_right, both-parts, present-some, passed_none}
-use Rattle.semantics.specs.laws.List.{mem-present, mem-map, every-iff}
-use Rattle.semantics.specs.laws.Value.{value-within}
+use Rattle.semantics.proofs.laws.Test.{both_left, both_right, both-parts, present-some, passed_none}
+use Rattle.semantics.proofs.laws.List.{mem-present, mem-map, every-iff}
+use Rattle.semantics.proofs.laws.Value.{value-within}
 use Rattle.rows.specs.Rows.{rows_of, place_as, Shape}
 use Rattle.rows.specs.declared.Place.{Place}
 use Rattle.rows.specs.declared.Place.TheVariants.{At, Nowhere}

@@ -6,7 +6,7 @@ use Rattle.std.proofs.lemmas.Bool.{false≢true}
 use Rattle.std.proofs.Math.Option.{Option, some, some-injective}
 use Rattle.std.proofs.lemmas.List.{length-replicate, get_or-replicate}
 use Rattle.semantics.specs.Term.{Term}
-use Rattle.semantics.specs.laws.Value.{value-within}
+use Rattle.semantics.proofs.laws.Value.{value-within}
 use Rattle.rows.specs.Rows.{rows_of}
 use Rattle.cells.specs.Cells.{cell_of, cell_count, absent, second_of}
 use Rattle.cells.specs.laws.Cells.{class-read, left-lower, second-lower}

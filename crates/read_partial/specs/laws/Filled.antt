@@ -17,10 +17,10 @@ use Rattle.semantics.specs.State.{Value, State, Active, in_run, term_of, assigne
 use Rattle.semantics.specs.Moves.{candidates, to_set, set_after}
 use Rattle.semantics.specs.Replay.{is_value_of, suits}
 use Rattle.semantics.specs.Allowed.{MayTake, an_agent, an_intruder, a_local, Takes, takes_none, takes_more}
-use Rattle.semantics.specs.laws.Test.{There, both_left, passes-true}
-use Rattle.semantics.specs.laws.List.{mem-cases, get_elem-below, get_elem-there}
-use Rattle.semantics.specs.laws.Moves.{atom_at-bound, suits-exact, ActiveIn, active-in}
-use Rattle.semantics.specs.laws.Reached.{paired-set, takes-length, takes-may, assigned-append, assigned-new, or_else, unset-iff, unset-mem}
+use Rattle.semantics.proofs.laws.Test.{There, both_left, passes-true}
+use Rattle.semantics.proofs.laws.List.{mem-cases, get_elem-below, get_elem-there}
+use Rattle.semantics.proofs.laws.Moves.{atom_at-bound, suits-exact, ActiveIn, active-in}
+use Rattle.semantics.proofs.laws.Reached.{paired-set, takes-length, takes-may, assigned-append, assigned-new, or_else, unset-iff, unset-mem}
 use Rattle.rows.specs.Rows.{rows_of, Shape}
 use Rattle.rows.specs.laws.Decode.{six-atom}
 use Rattle.cells.specs.Cells.{Readings, cell_value}

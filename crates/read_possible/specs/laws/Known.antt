@@ -3,7 +3,7 @@ use Rattle.std.specs.Prelude.{ℕ, ◌<◌, ◌≤◌, ◌≡◌, Bool, List}
 use Rattle.std.proofs.Common.{arith, sym, ◌∙◌}
 use Rattle.semantics.specs.Term.{Term, pair, encrypted, inverse}
 use Rattle.semantics.specs.Inference.{Derives, member, pairs, first, second, encrypts, decrypts}
-use Rattle.semantics.specs.laws.Inference.{Carried, derives-keeps}
+use Rattle.semantics.proofs.laws.Inference.{Carried, derives-keeps}
 use Rattle.rows.specs.Rows.{rows_of}
 use Rattle.cells.specs.Cells.{cell_of, Readings, second_of}
 use Rattle.cells.specs.laws.Cells.{left-lower, second-lower}

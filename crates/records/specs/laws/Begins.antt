@@ -6,7 +6,7 @@ use Rattle.std.proofs.Math.Option.{none, some, none-ne-some}
 use Rattle.std.proofs.Math.ListN.{get_elem?}
 use Rattle.semantics.specs.Frame.{Part, records}
 use Rattle.semantics.specs.Roles.{role_length, role_records}
-use Rattle.semantics.specs.laws.List.{get_elem-there}
+use Rattle.semantics.proofs.laws.List.{get_elem-there}
 use Rattle.records.specs.Records.{part_at, record_at, RoleAt}
 use Rattle.records.specs.laws.Roles.{role-bytes}
 use Rattle.records.specs.laws.Records.{records_left, left-all, left-cons, left-none}

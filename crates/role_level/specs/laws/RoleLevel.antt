@@ -14,10 +14,10 @@ use Rattle.semantics.specs.Runs.{atom_of, atom_at}
 use Rattle.semantics.specs.State.{in_run}
 use Rattle.semantics.specs.Derive.{derivable_row}
 use Rattle.semantics.specs.Encoding.{RowBytes, trusted_bytes, untrusted_bytes, global_bytes, intruder_bytes, role_bytes, agent_variable_bytes, fresh_variable_bytes, local_bytes, public_bytes, secret_bytes, shared_bytes, pair_bytes, encrypted_bytes}
-use Rattle.semantics.specs.laws.Test.{same_test}
-use Rattle.semantics.specs.laws.List.{mem-map, mem-present, get_elem-below}
-use Rattle.semantics.specs.laws.Inference.{derivable-exact}
-use Rattle.semantics.specs.laws.Value.{as_atoms-value, value-within}
+use Rattle.semantics.proofs.laws.Test.{same_test}
+use Rattle.semantics.proofs.laws.List.{mem-map, mem-present, get_elem-below}
+use Rattle.semantics.proofs.laws.Inference.{derivable-exact}
+use Rattle.semantics.proofs.laws.Value.{as_atoms-value, value-within}
 use Rattle.rows.specs.Rows.{rows_of, Shape}
 use Rattle.rows.specs.laws.Table.{table-good, table-row}
 use Rattle.cells.specs.Cells.{Within, cell_value, Canonical}

@@ -8,9 +8,9 @@ use Rattle.semantics.specs.Table.{Row}
 use Rattle.semantics.specs.Runs.{atom_of, atom_at}
 use Rattle.semantics.specs.Guarantee.{GoodTable}
 use Rattle.semantics.specs.Encoding.{RowBytes}
-use Rattle.semantics.specs.laws.List.{get_elem-below, get_elem-there}
-use Rattle.semantics.specs.laws.Encoding.{decode-exactly}
-use Rattle.semantics.specs.laws.Table.{rows-good, rows-decoded}
+use Rattle.semantics.proofs.laws.List.{get_elem-below, get_elem-there}
+use Rattle.semantics.proofs.laws.Encoding.{decode-exactly}
+use Rattle.semantics.proofs.laws.Table.{rows-good, rows-decoded}
 use Rattle.rows.specs.Rows.{rows_of, IsTable, Sized, decoded_at}
 use Rattle.rows.specs.laws.Decode.{decodes-refers}
 

@@ -10,7 +10,7 @@ use Rattle.std.proofs.Math.Seq.{get_or-take, get_or-drop, drop-drop}
 use Rattle.semantics.specs.Answer.{accepted}
 use Rattle.semantics.specs.Frame.{Part, block_length, framed, block_from, block}
 use Rattle.semantics.specs.Scenario.{Scenario, opened}
-use Rattle.semantics.specs.laws.Open.{opened-inverts}
+use Rattle.semantics.proofs.laws.Open.{opened-inverts}
 use Rattle.frame.specs.Framing.{IsFramed}
 use Rattle.frame.specs.laws.Frame.{framed-whole, framing-framed}
 

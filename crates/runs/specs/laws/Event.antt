@@ -9,7 +9,7 @@ use Rattle.semantics.specs.Runs.{Run, atom_at, is_agent}
 use Rattle.semantics.specs.Scenario.{Scenario}
 use Rattle.semantics.specs.State.{events_of}
 use Rattle.semantics.specs.Guarantee.{GoodRole, GoodRun, Guarantee}
-use Rattle.semantics.specs.laws.List.{mem-get_elem, get_elem-below, get_elem-there}
+use Rattle.semantics.proofs.laws.List.{mem-get_elem, get_elem-below, get_elem-there}
 use Rattle.runs.specs.Runs.{RunAt, RunsAt, EventRead}
 use Rattle.runs.specs.declared.Runs.{Runs}
 

@@ -6,7 +6,7 @@ use Rattle.std.proofs.Math.ListN.{get_elem?}
 use Rattle.semantics.specs.Basic.{every, present_ones}
 use Rattle.semantics.specs.Table.{Row}
 use Rattle.semantics.specs.Roles.{Event, knowledge_count, event_count, events_in, event_fits}
-use Rattle.semantics.specs.laws.Test.{both_right}
+use Rattle.semantics.proofs.laws.Test.{both_right}
 use Rattle.records.specs.Records.{part_at, event_at}
 use Rattle.records.specs.laws.Events.{events_left, left-events-all, left-events-cons, left-events-none}
 

@@ -19,10 +19,10 @@ use Rattle.semantics.specs.Roles.{Event, Role, knowledge_count, event_count, rol
 use Rattle.semantics.specs.Runs.{Run, run_length, run_in, run_records, good_run, bad_run, runs_from}
 use Rattle.semantics.specs.Scenario.{Scenario, role_part, run_part, role_parts, role_count, run_parts, scenario_of, opened}
 use Rattle.semantics.specs.State.{events_of}
-use Rattle.semantics.specs.laws.Test.{both-parts, mapped-some}
-use Rattle.semantics.specs.laws.List.{mem-get_elem, get_elem-below, get_elem-there}
-use Rattle.semantics.specs.laws.Frame.{first_bad-none}
-use Rattle.semantics.specs.laws.Open.{Opened, opened-inverts, opened-guarantee, bad_role-present}
+use Rattle.semantics.proofs.laws.Test.{both-parts, mapped-some}
+use Rattle.semantics.proofs.laws.List.{mem-get_elem, get_elem-below, get_elem-there}
+use Rattle.semantics.proofs.laws.Frame.{first_bad-none}
+use Rattle.semantics.proofs.laws.Open.{Opened, opened-inverts, opened-guarantee, bad_role-present}
 use Rattle.records.specs.Records.{part_at, record_at, event_at}
 use Rattle.records.specs.laws.Roles.{role-good, own-events_in}
 use Rattle.records.specs.laws.Runs.{run-bytes}

@@ -7,9 +7,9 @@ use Rattle.std.proofs.Math.ListN.{get_elem?}
 use Rattle.semantics.specs.Answer.{accepted}
 use Rattle.semantics.specs.Runs.{Run}
 use Rattle.semantics.specs.Scenario.{Scenario, run_part, opened}
-use Rattle.semantics.specs.laws.List.{get_elem-below, get_elem-there}
-use Rattle.semantics.specs.laws.Open.{opened-guarantee}
-use Rattle.semantics.specs.laws.Answer.{accepted-same}
+use Rattle.semantics.proofs.laws.List.{get_elem-below, get_elem-there}
+use Rattle.semantics.proofs.laws.Open.{opened-guarantee}
+use Rattle.semantics.proofs.laws.Answer.{accepted-same}
 use Rattle.answers.specs.Answers.{layout_of}
 use Rattle.answers.specs.declared.Layout.{Layout}
 use Rattle.runs.specs.Runs.{RunAt, RunsAt, IsRun}

@@ -7,7 +7,7 @@ use Rattle.semantics.specs.Basic.{every}
 use Rattle.semantics.specs.Runs.{Run, atom_at, is_trusted, all_trusted}
 use Rattle.semantics.specs.Scenario.{Scenario}
 use Rattle.semantics.specs.Guarantee.{Guarantee}
-use Rattle.semantics.specs.laws.List.{mem-get_elem, get_elem-there}
+use Rattle.semantics.proofs.laws.List.{mem-get_elem, get_elem-there}
 use Rattle.rows.specs.Rows.{rows_of}
 use Rattle.runs.specs.Runs.{RunsAt, AgentsAt}
 use Rattle.runs.specs.declared.Runs.{Runs}

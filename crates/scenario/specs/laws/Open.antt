@@ -13,7 +13,7 @@ use Rattle.semantics.specs.Roles.{bad_role, absent_role_from, role_in, roles_fro
 use Rattle.semantics.specs.WellFormed.{ill_formed}
 use Rattle.semantics.specs.Runs.{run_length, run_in, run_records, runs_from, bad_run, bad_knowledge_from}
 use Rattle.semantics.specs.Scenario.{Scenario, term_part, role_part, run_part, knowledge_part, role_parts, role_count, run_parts, scenario_of, opened}
-use Rattle.semantics.specs.laws.Open.{bad_role-present}
+use Rattle.semantics.proofs.laws.Open.{bad_role-present}
 use Rattle.rows.specs.Rows.{rows_of, place_as, Shape}
 use Rattle.rows.specs.laws.Places.{at_some, nowhere-none}
 use Rattle.rows.specs.declared.Place.{Place}

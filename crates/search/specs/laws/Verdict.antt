@@ -13,7 +13,7 @@ use Rattle.semantics.specs.State.{Progress, initial, events_left}
 use Rattle.semantics.specs.Moves.{Listing, moves_in}
 use Rattle.semantics.specs.Tree.{listed, stays}
 use Rattle.semantics.specs.Verdict.{Entry, Finding, found, nothing, cut, walked, Verdict, verdict_from, verdict, trace_list, trace_bytes, short_buffer, written, searched_in, buffer_in}
-use Rattle.semantics.specs.laws.Open.{opened-inverts}
+use Rattle.semantics.proofs.laws.Open.{opened-inverts}
 use Rattle.answers.specs.Answers.{scenario_in, checked_as, opened_as, verdict_as, searched_as, answered}
 use Rattle.answers.specs.laws.Answers.{opened-refused, answer-found}
 use Rattle.answers.specs.declared.Refusal.{Refusal}

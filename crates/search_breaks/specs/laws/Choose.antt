@@ -16,8 +16,8 @@ use Rattle.semantics.specs.State.{Value, State, Active}
 use Rattle.semantics.specs.Moves.{Move, candidates, to_set}
 use Rattle.semantics.specs.Verdict.{Entry}
 use Rattle.semantics.specs.Allowed.{MayTake, Takes, takes_none, takes_more}
-use Rattle.semantics.specs.laws.Moves.{mem-candidates}
-use Rattle.semantics.specs.laws.Bytes.{set-few}
+use Rattle.semantics.proofs.laws.Moves.{mem-candidates}
+use Rattle.semantics.proofs.laws.Bytes.{set-few}
 use Rattle.rows.specs.Rows.{rows_of}
 use Rattle.cells.specs.Cells.{cell_of}
 use Rattle.classes.specs.Classes.{Refilled}

@@ -11,9 +11,9 @@ use Rattle.semantics.specs.State.{Value, State, Active, active}
 use Rattle.semantics.specs.Moves.{Move, candidates, choices, performed, to_set, branch, moves_of_run, runs_in, moves_in}
 use Rattle.semantics.specs.Verdict.{Entry}
 use Rattle.semantics.specs.Allowed.{Takes, Step}
-use Rattle.semantics.specs.laws.Moves.{mem-choices, moves-exact}
-use Rattle.semantics.specs.laws.Traces.{step_in}
-use Rattle.semantics.specs.laws.Tree.{listed_suc}
+use Rattle.semantics.proofs.laws.Moves.{mem-choices, moves-exact}
+use Rattle.semantics.proofs.laws.Traces.{step_in}
+use Rattle.semantics.proofs.laws.Tree.{listed_suc}
 use Rattle.search_runs.specs.Runs.{list_as}
 use Rattle.search_breaks.specs.declared.Plan.{Plan}
 use Rattle.search_breaks.specs.Walk.{next_in, entries_from, after_move, below, of_run, branches}

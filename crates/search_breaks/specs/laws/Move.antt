@@ -11,10 +11,10 @@ use Rattle.semantics.specs.Moves.{Move, performed}
 use Rattle.semantics.specs.Tree.{stays, moves}
 use Rattle.semantics.specs.Verdict.{Entry, found, nothing, walked, value_bytes, move_bytes, trace_bytes}
 use Rattle.semantics.specs.Allowed.{Step, step, AllowedTrace}
-use Rattle.semantics.specs.laws.Tree.{follows-append, follows-map, listed-sound}
-use Rattle.semantics.specs.laws.Moves.{performed-exact}
-use Rattle.semantics.specs.laws.Reached.{takes-length}
-use Rattle.semantics.specs.laws.Bytes.{set-few, trace-bytes}
+use Rattle.semantics.proofs.laws.Tree.{follows-append, follows-map, listed-sound}
+use Rattle.semantics.proofs.laws.Moves.{performed-exact}
+use Rattle.semantics.proofs.laws.Reached.{takes-length}
+use Rattle.semantics.proofs.laws.Bytes.{set-few, trace-bytes}
 use Rattle.state.specs.State.{IsState}
 use Rattle.moves.specs.Moves.{AtEvent, TellsAllowed, MarksAfter}
 use Rattle.moves.specs.laws.Allowed.{told-some, told_none}

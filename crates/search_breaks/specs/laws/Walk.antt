@@ -11,7 +11,7 @@ use Rattle.semantics.specs.Moves.{Move, runs_in}
 use Rattle.semantics.specs.Tree.{listed}
 use Rattle.semantics.specs.Verdict.{Entry, Finding, found, nothing, cut, later, walked, broken, trace_bytes}
 use Rattle.semantics.specs.State as states
-use Rattle.semantics.specs.laws.Tree.{listed-zero, listed_suc}
+use Rattle.semantics.proofs.laws.Tree.{listed-zero, listed_suc}
 use Rattle.answers.specs.Answers.{claim_as, claimed_as, walked_as}
 use Rattle.answers.specs.declared.Claimed.{Claimed}
 use Rattle.answers.specs.declared.Walked.{Walked}

@@ -8,8 +8,8 @@ use Rattle.std.proofs.Math.Option.{Option, none, some, some-injective, none-ne-s
 use Rattle.std.proofs.Math.ListN.{length}
 use Rattle.semantics.specs.State.{Claim}
 use Rattle.semantics.specs.Verdict.{Entry, Finding, found, nothing, cut, later, walked}
-use Rattle.semantics.specs.laws.List.{mem-get_elem}
-use Rattle.semantics.specs.laws.Verdict.{Walked, walked_found, walked_all, walked_cut, walked-view}
+use Rattle.semantics.proofs.laws.List.{mem-get_elem}
+use Rattle.semantics.proofs.laws.Verdict.{Walked, walked_found, walked_all, walked_cut, walked-view}
 
 -- what is found so many entries later
 abbrev pub later_by : ℕ → Finding → Finding

@@ -12,7 +12,7 @@ use Rattle.semantics.specs.Roles.{EventKind, send, read, claim, event_kinds}
 use Rattle.semantics.specs.Scenario.{Scenario}
 use Rattle.semantics.specs.State.{State, events_of}
 use Rattle.semantics.specs.Moves.{send_or_claim, ready_at, run_numbers, alone_or, runs_in}
-use Rattle.semantics.specs.laws.Broken.{first_found, first-none}
+use Rattle.semantics.proofs.laws.Broken.{first_found, first-none}
 use Rattle.runs.specs.declared.Runs.{Runs}
 use Rattle.runs.specs.declared.RunEvent.{RunEvent}
 use Rattle.runs.specs.Runs.{ReadsEvent}

@@ -10,10 +10,10 @@ use Rattle.semantics.specs.Verdict as verdicts
 use Rattle.semantics.specs.Verdict.{Entry, Finding, nothing, cut, walked}
 use Rattle.semantics.specs.Allowed.{AllowedTrace}
 use Rattle.semantics.specs.Guarantee.{Guarantee}
-use Rattle.semantics.specs.laws.List.{mem-get_elem, get_elem-below}
-use Rattle.semantics.specs.laws.Tree.{listed-first}
-use Rattle.semantics.specs.laws.Verdict as walks
-use Rattle.semantics.specs.laws.Verdict.{walked_found, walked_all, walked_cut, walked-view}
+use Rattle.semantics.proofs.laws.List.{mem-get_elem, get_elem-below}
+use Rattle.semantics.proofs.laws.Tree.{listed-first}
+use Rattle.semantics.proofs.laws.Verdict as walks
+use Rattle.semantics.proofs.laws.Verdict.{walked_found, walked_all, walked_cut, walked-view}
 use Rattle.answers.specs.declared.Walked.TheVariants as answers
 use Rattle.search_runs.specs.Runs.{list_as}
 use Rattle.search_breaks.specs.declared.Plan.{Plan}
@@ -24,9 +24,9 @@ use Rattle.search_breaks.specs.laws.Finds.{answer-clean}
 use Rattle.semantics.specs.Same.{Each, cons, Same, SameEntry}
 use Rattle.state.specs.State.{Placed}
 use Rattle.search_same.specs.Clean.{Clean, SamePositions, SameNames}
-use Rattle.semantics.specs.laws.Each.{each-length}
-use Rattle.semantics.specs.laws.Same.{listed_same, broken-same}
-use Rattle.semantics.specs.laws.SameKnown.{same-reached}
+use Rattle.semantics.proofs.laws.Each.{each-length}
+use Rattle.semantics.proofs.laws.Same.{listed_same, broken-same}
+use Rattle.semantics.proofs.laws.SameKnown.{same-reached}
 use Rattle.search_same.specs.laws.Names.{same_names}
 
 module _ (sc : Scenario) (left : ℕ) (es : List Entry) where

@@ -3,7 +3,7 @@ use Rattle.std.specs.Prelude.{ℕ, suc, ◌+◌, ◌<◌, ◌≤◌, ◌≡◌, 
 use Rattle.std.proofs.Common.{arith, sym, ◌∙◌, subst, ltb-true, ltb-false}
 use Rattle.std.proofs.Math.Option.{Option, none, some}
 use Rattle.semantics.specs.Basic.{present}
-use Rattle.semantics.specs.laws.Test.{present-some, absent_none}
+use Rattle.semantics.proofs.laws.Test.{present-some, absent_none}
 use Rattle.search_memory.specs.Memory.{IsKey, LookedUp, Kept}
 use Rattle.answers.specs.declared.Walked.{Walked}
 use Rattle.answers.specs.declared.Walked.TheVariants as answers

@@ -9,7 +9,7 @@ use Rattle.semantics.specs.Runs.{atom_of, atom_at}
 use Rattle.semantics.specs.Scenario.{Scenario}
 use Rattle.semantics.specs.State.{State}
 use Rattle.semantics.specs.Moves.{Move}
-use Rattle.semantics.specs.laws.List.{get_elem-there}
+use Rattle.semantics.proofs.laws.List.{get_elem-there}
 use Rattle.rows.specs.Rows.{rows_of}
 use Rattle.rows.specs.laws.Decode.{variable-six}
 use Rattle.rows.specs.laws.Table.{table-row}

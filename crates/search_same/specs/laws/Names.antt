@@ -12,8 +12,8 @@ use Rattle.semantics.specs.Runs.{atom_at}
 use Rattle.semantics.specs.Scenario.{Scenario}
 use Rattle.semantics.specs.Guarantee.{Guarantee}
 use Rattle.semantics.specs.State.{Value, Progress, State, in_run, term_of, assigned, reading_in}
-use Rattle.semantics.specs.laws.Test.{There, none-there}
-use Rattle.semantics.specs.laws.List.{get_elem-below, get_elem-there}
+use Rattle.semantics.proofs.laws.Test.{There, none-there}
+use Rattle.semantics.proofs.laws.List.{get_elem-below, get_elem-there}
 use Rattle.cells.specs.Cells.{cell_of}
 use Rattle.classes.specs.Classes.{Named, unnamed, named}
 use Rattle.state.specs.Readings.{sets_in, sets_of, readings}
@@ -22,7 +22,7 @@ use Rattle.state.specs.laws.Start.{atom-below}
 use Rattle.semantics.specs.Same.{Both, none_of, some_of, Each, SameValue, SameSets, SameRun}
 use Rattle.state.specs.State.{Placed}
 use Rattle.search_same.specs.Clean.{SamePositions, SameNames}
-use Rattle.semantics.specs.laws.Each.{each_from}
+use Rattle.semantics.proofs.laws.Each.{each_from}
 
 -- a cell fixes its row and its run
 cell-run : (x x' w w' : ℕ) → x < 96 → x' < 96 → cell_of x w ≡ cell_of x' w' → (x ≡ x') × (w ≡ w')

@@ -1,7 +1,7 @@
 -- Positions and names of the state after a move, before any mark is worked on. Assumes nothing.
 use Rattle.std.specs.Prelude.{ℕ, ◌+◌, ◌≡◌, Bool, List, length, get_or, set}
 use Rattle.std.proofs.Common.{sym, ap, ◌∙◌}
-use Rattle.semantics.specs.laws.Moves.{performed-exact}
+use Rattle.semantics.proofs.laws.Moves.{performed-exact}
 use Rattle.state.specs.State.{Placed}
 use Rattle.state.specs.laws.Moves.{advanced-placed}
 use Rattle.state.specs.laws.Ready.{advanced-done}

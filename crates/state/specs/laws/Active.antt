@@ -10,7 +10,7 @@ use Rattle.semantics.specs.Roles.{Event}
 use Rattle.semantics.specs.Runs.{Run, atom_of, atom_at, is_agent}
 use Rattle.semantics.specs.Scenario.{Scenario}
 use Rattle.semantics.specs.State.{Progress, State, Active, active, events_of}
-use Rattle.semantics.specs.laws.List.{get_elem-below, get_elem-there}
+use Rattle.semantics.proofs.laws.List.{get_elem-below, get_elem-there}
 use Rattle.runs.specs.declared.RunEvent.{RunEvent}
 use Rattle.runs.specs.declared.Runs.{Runs}
 use Rattle.runs.specs.Runs.{RunsAt, RunAt, EventRead}

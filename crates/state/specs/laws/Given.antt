@@ -4,7 +4,7 @@ use Rattle.std.proofs.Common.{arith, ◌∙◌}
 use Rattle.std.proofs.Math.Path.{sym, ap}
 use Rattle.semantics.specs.Answer.{accepted}
 use Rattle.semantics.specs.Scenario.{Scenario, term_part, knowledge_part, scenario_of, opened}
-use Rattle.semantics.specs.laws.Open.{opened-inverts, opened-guarantee}
+use Rattle.semantics.proofs.laws.Open.{opened-inverts, opened-guarantee}
 use Rattle.rows.specs.Rows.{rows_of}
 use Rattle.rows.specs.laws.Table.{table-good, table-length}
 use Rattle.table.specs.laws.Table.{accepted-table}

@@ -16,12 +16,12 @@ use Rattle.semantics.specs.Scenario.{Scenario}
 use Rattle.semantics.specs.Guarantee.{Guarantee, GoodTable}
 use Rattle.semantics.specs.State.{Value, Progress, State, Active, active, term_of, reading_in, paired, Message}
 use Rattle.semantics.specs.Moves.{message, known_after, set_after, message_after, advanced, performed}
-use Rattle.semantics.specs.laws.Test.{all_three}
-use Rattle.semantics.specs.laws.List.{get_elem-below}
-use Rattle.semantics.specs.laws.Reached.{Standing}
-use Rattle.semantics.specs.laws.Value.{value-unfolds}
-use Rattle.semantics.specs.laws.Inference.{derivable-exact}
-use Rattle.semantics.specs.laws.Moves.{ActiveIn, active-in}
+use Rattle.semantics.proofs.laws.Test.{all_three}
+use Rattle.semantics.proofs.laws.List.{get_elem-below}
+use Rattle.semantics.proofs.laws.Reached.{Standing}
+use Rattle.semantics.proofs.laws.Value.{value-unfolds}
+use Rattle.semantics.proofs.laws.Inference.{derivable-exact}
+use Rattle.semantics.proofs.laws.Moves.{ActiveIn, active-in}
 use Rattle.cells.specs.Cells.{Within, Readings, cell_value}
 use Rattle.classes.specs.Classes.{NamesRight}
 use Rattle.knowledge.specs.Marks.{Marked, Derivable, Exact}
@@ -30,7 +30,7 @@ use Rattle.state_start.specs.laws.Names.{agent-atom, agent-term}
 use Rattle.state.specs.declared.State.{State as CodeState}
 use Rattle.state.specs.Readings.{SetsOf, sets_of, with_sets, readings}
 use Rattle.state.specs.State.{Placed, Arrays, IsState, Sets}
-use Rattle.semantics.specs.laws.List.{set_same, set_other}
+use Rattle.semantics.proofs.laws.List.{set_same, set_other}
 use Rattle.state.specs.laws.Readings.{with-same, with-other, sets-advanced, reading-run}
 use Rattle.knowledge.specs.laws.Learn.{marked-derives}
 

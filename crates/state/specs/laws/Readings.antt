@@ -12,8 +12,8 @@ use Rattle.semantics.specs.Value.{Reading, value_of, without_run}
 use Rattle.semantics.specs.Runs.{Run, atom_at, is_agent}
 use Rattle.semantics.specs.Scenario.{Scenario}
 use Rattle.semantics.specs.State.{Value, Progress, term_of, assigned, reading_in}
-use Rattle.semantics.specs.laws.List.{set_same, set_other}
-use Rattle.semantics.specs.laws.Reached.{assigned-stays}
+use Rattle.semantics.proofs.laws.List.{set_same, set_other}
+use Rattle.semantics.proofs.laws.Reached.{assigned-stays}
 use Rattle.cells.specs.Cells.{Readings}
 use Rattle.classes.specs.Classes.{Grows}
 use Rattle.state.specs.Readings.{SetsOf, sets_in, sets_of, with_sets, run_reading, readings}

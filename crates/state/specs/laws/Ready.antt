@@ -10,8 +10,8 @@ use Rattle.semantics.specs.Roles.{secrecy, EventKind, send, read, claim, event_k
 use Rattle.semantics.specs.Scenario.{Scenario}
 use Rattle.semantics.specs.State.{Value, State, Active, paired}
 use Rattle.semantics.specs.Moves.{to_set, set_after}
-use Rattle.semantics.specs.laws.Reached.{Standing}
-use Rattle.semantics.specs.laws.Moves.{ActiveIn, active-in}
+use Rattle.semantics.proofs.laws.Reached.{Standing}
+use Rattle.semantics.proofs.laws.Moves.{ActiveIn, active-in}
 use Rattle.rows.specs.Rows.{rows_of, Shape}
 use Rattle.cells.specs.Cells.{Within, Readings, cell_value}
 use Rattle.classes.specs.Classes.{Grows, Refilled}

@@ -21,9 +21,9 @@ use Rattle.semantics.specs.Scenario.{Scenario}
 use Rattle.semantics.specs.Guarantee.{Guarantee, GoodTable}
 use Rattle.semantics.specs.State.{Progress, reading_in, intruder_atom, atoms_of, initial_knowledge, initial, assigned}
 use Rattle.semantics.specs.Encoding.{RowBytes, trusted_bytes, untrusted_bytes, global_bytes, intruder_bytes, role_bytes, agent_variable_bytes, fresh_variable_bytes, local_bytes, public_bytes, secret_bytes, shared_bytes, pair_bytes, encrypted_bytes}
-use Rattle.semantics.specs.laws.List.{mem-map, mem-present, mem-keep, mem-numbers_from, mem-get_elem, get_elem-below, get_elem-there, get_elem-get_d}
-use Rattle.semantics.specs.laws.Reached.{Standing}
-use Rattle.semantics.specs.laws.Value.{value-unfolds, value-within}
+use Rattle.semantics.proofs.laws.List.{mem-map, mem-present, mem-keep, mem-numbers_from, mem-get_elem, get_elem-below, get_elem-there, get_elem-get_d}
+use Rattle.semantics.proofs.laws.Reached.{Standing}
+use Rattle.semantics.proofs.laws.Value.{value-unfolds, value-within}
 use Rattle.rows.specs.Rows.{rows_of, Shape}
 use Rattle.cells.specs.Cells.{cell_of, absent, Within, Readings, cell_value}
 use Rattle.cells.specs.laws.Cells.{row-there, row-decodes}

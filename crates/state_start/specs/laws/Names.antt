@@ -10,7 +10,7 @@ use Rattle.semantics.specs.Value.{without_run}
 use Rattle.semantics.specs.Runs.{Run, atom_of, atom_at, is_agent}
 use Rattle.semantics.specs.State.{in_run, term_of, reading_in, assigned}
 use Rattle.semantics.specs.Encoding.{RowBytes, trusted_bytes, untrusted_bytes, global_bytes, intruder_bytes, role_bytes, agent_variable_bytes, fresh_variable_bytes, local_bytes, public_bytes, secret_bytes, shared_bytes, pair_bytes, encrypted_bytes}
-use Rattle.semantics.specs.laws.List.{get_elem-below, mem-get_elem}
+use Rattle.semantics.proofs.laws.List.{get_elem-below, mem-get_elem}
 use Rattle.rows.specs.Rows.{rows_of, Shape}
 use Rattle.cells.specs.Cells.{cell_of, absent, Within, Canonical}
 use Rattle.cells.specs.laws.Cells.{row-there, row-decodes}

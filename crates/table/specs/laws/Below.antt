@@ -6,7 +6,7 @@ use Rattle.std.proofs.Math.ListN.{get_elem?}
 use Rattle.semantics.specs.Basic.{present}
 use Rattle.semantics.specs.Table.{Row, agent_like, no_pair}
 use Rattle.semantics.specs.Encoding.{RowBytes}
-use Rattle.semantics.specs.laws.List.{get_elem-there}
+use Rattle.semantics.proofs.laws.List.{get_elem-there}
 use Rattle.rows.specs.Rows.{IsTable, rows_of}
 use Rattle.rows.specs.laws.Table.{table-length, row_here}
 use Rattle.rows.specs.laws.Decode.{agent_kind, decodes-agent, decodes-pair}

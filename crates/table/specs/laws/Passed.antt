@@ -9,7 +9,7 @@ use Rattle.std.proofs.Math.ListN.{drop_of_length-le}
 use Rattle.semantics.specs.Basic.{keep}
 use Rattle.semantics.specs.Guarantee.{GoodTable}
 use Rattle.semantics.specs.Table.{Row, variable_row, admissible, repeated, row_refusal, rows_from}
-use Rattle.semantics.specs.laws.Table.{row_refusal-none, rows_from-then, rows_from-short}
+use Rattle.semantics.proofs.laws.Table.{row_refusal-none, rows_from-then, rows_from-short}
 use Rattle.answers.specs.Answers.{numbered}
 use Rattle.table.specs.declared.Judged.TheVariants.{Refused, Rows}
 use Rattle.rows.specs.Rows.{IsTable, decoded_at}

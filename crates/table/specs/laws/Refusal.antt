@@ -9,10 +9,10 @@ use Rattle.std.proofs.lemmas.Bool.{eqb-false}
 use Rattle.semantics.specs.Basic.{keep}
 use Rattle.semantics.specs.Table.{Row, variable_row, fits, admissible, repeated, row_refusal}
 use Rattle.semantics.specs.Encoding.{RowBytes}
-use Rattle.semantics.specs.laws.Table.{admissible-holds, row-unrefused}
-use Rattle.semantics.specs.laws.Test.{all_three, passes-true, fails-false}
-use Rattle.semantics.specs.laws.List.{keep-cons}
-use Rattle.semantics.specs.laws.Encoding.{decode-exactly}
+use Rattle.semantics.proofs.laws.Table.{admissible-holds, row-unrefused}
+use Rattle.semantics.proofs.laws.Test.{all_three, passes-true, fails-false}
+use Rattle.semantics.proofs.laws.List.{keep-cons}
+use Rattle.semantics.proofs.laws.Encoding.{decode-exactly}
 use Rattle.rows.specs.Rows.{IsTable, decoded_at}
 use Rattle.table.specs.Check.{fits_decoded, repeats_decoded, number_or}
 use Rattle.rows.specs.laws.Decode.{decodes-variable}

@@ -6,10 +6,10 @@ use Rattle.std.proofs.Math.Bool.{false}
 use Rattle.std.proofs.Math.Option.{Option, none, some}
 use Rattle.std.proofs.Math.Dec.{eqb_refl}
 use Rattle.semantics.specs.Table.{Row, repeated}
-use Rattle.semantics.specs.laws.Table.{repeated-at}
-use Rattle.semantics.specs.laws.Test.{all_three, passes-true, fails-false}
-use Rattle.semantics.specs.laws.List.{get_elem-below}
-use Rattle.semantics.specs.laws.Encoding.{decode-exactly}
+use Rattle.semantics.proofs.laws.Table.{repeated-at}
+use Rattle.semantics.proofs.laws.Test.{all_three, passes-true, fails-false}
+use Rattle.semantics.proofs.laws.List.{get_elem-below}
+use Rattle.semantics.proofs.laws.Encoding.{decode-exactly}
 use Rattle.rows.specs.Rows.{IsTable, decoded_at}
 use Rattle.table.specs.Check.{repeats_decoded, same_bytes}
 use Rattle.rows.specs.laws.Decode.{decodes-same}

@@ -4,8 +4,8 @@ use Rattle.std.proofs.Common.{arith, sym, ap, ◌∙◌}
 use Rattle.std.proofs.Math.Option.{some}
 use Rattle.semantics.specs.Answer.{Answer, refused, accepted, refuse}
 use Rattle.semantics.specs.Table.{Row, decode, admissible, repeated, rows_from}
-use Rattle.semantics.specs.laws.Table.{rows_from-step, Reads, ends, reads, rows_from-reads}
-use Rattle.semantics.specs.laws.Encoding.{table-exactly}
+use Rattle.semantics.proofs.laws.Table.{rows_from-step, Reads, ends, reads, rows_from-reads}
+use Rattle.semantics.proofs.laws.Encoding.{table-exactly}
 use Rattle.rows.specs.Rows.{IsTable, Sized, rows_of, rows_or}
 use Rattle.answers.specs.declared.Refusal.{Refusal}
 use Rattle.table.specs.Check.{judged_as}

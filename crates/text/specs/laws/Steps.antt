@@ -5,7 +5,7 @@ use Rattle.semantics.specs.Basic.{joined}
 use Rattle.semantics.specs.State.{Value}
 use Rattle.semantics.specs.Moves.{Move}
 use Rattle.semantics.specs.Verdict.{value_bytes, move_bytes, trace_bytes}
-use Rattle.semantics.specs.laws.Bytes.{value-bytes}
+use Rattle.semantics.proofs.laws.Bytes.{value-bytes}
 use Rattle.text.specs.Text.{value_text, step_text}
 
 -- no values

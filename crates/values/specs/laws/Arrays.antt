@@ -4,7 +4,7 @@ use Rattle.std.proofs.Common.{add-one, sym, ap, ◌∙◌, subst, append-nil, ap
 use Rattle.semantics.specs.Term.{Atom}
 use Rattle.semantics.specs.Scenario.{Scenario}
 use Rattle.semantics.specs.State.{Value, State, Active, paired}
-use Rattle.semantics.specs.laws.Moves.{ActiveIn, active-in}
+use Rattle.semantics.proofs.laws.Moves.{ActiveIn, active-in}
 use Rattle.rows.specs.Rows.{rows_of, Shape}
 use Rattle.classes.specs.Classes.{Grows, Refilled}
 use Rattle.knowledge.specs.Marks.{Settled}

@@ -16,10 +16,10 @@ use Rattle.semantics.specs.Scenario.{Scenario}
 use Rattle.semantics.specs.Guarantee.{Guarantee, GoodTable}
 use Rattle.semantics.specs.State.{Value, State, Active, active, assigned, term_of, in_run, reading_in, unset_beneath, new_variables, paired}
 use Rattle.semantics.specs.Moves.{to_set, set_after}
-use Rattle.semantics.specs.laws.Test.{There, holds-decided}
-use Rattle.semantics.specs.laws.Reached.{Standing, standing-append, or_else, assigned-first, assigned-later, assigned-append, assigned-new}
-use Rattle.semantics.specs.laws.List.{get_elem-below, get_elem-there}
-use Rattle.semantics.specs.laws.Moves.{ActiveIn, active-in}
+use Rattle.semantics.proofs.laws.Test.{There, holds-decided}
+use Rattle.semantics.proofs.laws.Reached.{Standing, standing-append, or_else, assigned-first, assigned-later, assigned-append, assigned-new}
+use Rattle.semantics.proofs.laws.List.{get_elem-below, get_elem-there}
+use Rattle.semantics.proofs.laws.Moves.{ActiveIn, active-in}
 use Rattle.cells.specs.Cells.{cell_of, cell_count, absent, Within, Canonical}
 use Rattle.classes.specs.Classes.{Named, unnamed, named, NamesRight}
 use Rattle.knowledge.specs.laws.Values.{cells-apart}

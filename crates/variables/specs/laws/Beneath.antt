@@ -12,9 +12,9 @@ use Rattle.semantics.specs.Table.{Row}
 use Rattle.semantics.specs.Value.{beneath}
 use Rattle.semantics.specs.Guarantee.{GoodTable, refers_to}
 use Rattle.semantics.specs.Encoding.{RowBytes, trusted_bytes, untrusted_bytes, global_bytes, intruder_bytes, role_bytes, agent_variable_bytes, fresh_variable_bytes, local_bytes, public_bytes, secret_bytes, shared_bytes, pair_bytes, encrypted_bytes}
-use Rattle.semantics.specs.laws.Test.{same_test, passes-true}
-use Rattle.semantics.specs.laws.List.{mem-cases, get_elem-there, get_elem-below}
-use Rattle.semantics.specs.laws.Value.{row-induction, beneath-iff}
+use Rattle.semantics.proofs.laws.Test.{same_test, passes-true}
+use Rattle.semantics.proofs.laws.List.{mem-cases, get_elem-there, get_elem-below}
+use Rattle.semantics.proofs.laws.Value.{row-induction, beneath-iff}
 use Rattle.rows.specs.Rows.{rows_of, Sized}
 use Rattle.rows.specs.laws.Table.{table-good}
 use Rattle.cells.specs.Cells.{second_of}

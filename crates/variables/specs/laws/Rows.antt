@@ -8,7 +8,7 @@ use Rattle.std.proofs.Math.ListN.{get_elem?}
 use Rattle.std.proofs.lemmas.List.{get_or-replicate}
 use Rattle.semantics.specs.Basic.{keep}
 use Rattle.semantics.specs.Table.{variable_row}
-use Rattle.semantics.specs.laws.List.{keep-cons, get_elem-there}
+use Rattle.semantics.proofs.laws.List.{keep-cons, get_elem-there}
 use Rattle.rows.specs.Rows.{rows_of, Sized}
 use Rattle.rows.specs.laws.Decode.{six-variable}
 use Rattle.rows.specs.laws.Table.{table-good, table-row}

@@ -16,9 +16,9 @@ use Rattle.semantics.specs.Replay.{is_value_of, suits}
 use Rattle.semantics.specs.Allowed.{Takes, takes_none, takes_more}
 use Rattle.semantics.specs.Allowed as allowed
 use Rattle.semantics.specs.Encoding.{RowBytes, trusted_bytes, untrusted_bytes, global_bytes, intruder_bytes, role_bytes, agent_variable_bytes, fresh_variable_bytes, local_bytes, public_bytes, secret_bytes, shared_bytes, pair_bytes, encrypted_bytes}
-use Rattle.semantics.specs.laws.Test.{both, both_left, passes-true, fails-false}
-use Rattle.semantics.specs.laws.List.{mem-joined, mem-map, mem-numbers_from}
-use Rattle.semantics.specs.laws.Moves.{suits-exact, mem-candidates}
+use Rattle.semantics.proofs.laws.Test.{both, both_left, passes-true, fails-false}
+use Rattle.semantics.proofs.laws.List.{mem-joined, mem-map, mem-numbers_from}
+use Rattle.semantics.proofs.laws.Moves.{suits-exact, mem-candidates}
 use Rattle.rows.specs.Rows.{rows_of, Shape}
 use Rattle.rows.specs.laws.Decode.{six-atom}
 use Rattle.cells.specs.Cells.{Canonical}

@@ -11,7 +11,7 @@ use Rattle.semantics.specs.Table.{Row, variable_atom}
 use Rattle.semantics.specs.Value.{beneath}
 use Rattle.semantics.specs.Runs.{atom_at}
 use Rattle.semantics.specs.State.{Value, assigned, unset_beneath}
-use Rattle.semantics.specs.laws.Test.{passes-true}
+use Rattle.semantics.proofs.laws.Test.{passes-true}
 use Rattle.rows.specs.Rows.{rows_of, Sized}
 use Rattle.rows.specs.laws.Decode.{variable-six, six-atom}
 use Rattle.cells.specs.Cells.{cell_of, absent}
