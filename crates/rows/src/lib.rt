@@ -1,4 +1,6 @@
 // Access to the rows of a table, three bytes each: kind, left, right; whether a row is an agent's; and a place that may be missing.
+#![tactic(auto)]
+
 ghost use Rattle.std.specs.Prelude.{◌≡◌, ◌+◌, ◌*◌, ◌<◌, length, get_or};
 ghost use Rattle.semantics.specs.Runs.{atom_at, is_agent, is_trusted};
 ghost use Rattle.rows.specs.Rows.{rows_of, Sized};
