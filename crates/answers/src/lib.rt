@@ -1,25 +1,27 @@
 // What the operations answer, by value, and the last steps to Search's answer: refusal 10, and the verdict by what the walk found.
+#![tactic(auto)]
+
 ghost use Rattle.std.specs.Prelude.{◌≡◌};
 ghost use Rattle.semantics.specs.Answer.{checked};
 ghost use Rattle.semantics.specs.Verdict.{short_buffer};
 ghost use Rattle.answers.specs.Answers.{checked_as, answered};
 
 // "A refusal is a number and a place, the offset of the item's first byte"
-#[derive(Drop)]
+#[derive(Clone, Copy)]
 pub struct Refusal {
     pub number: usize,
     pub place: usize,
 }
 
 // What a check answers that gives nothing else.
-#[derive(Drop)]
+#[derive(Clone, Copy)]
 pub enum Checked {
     Refused(Refusal),
     Passed,
 }
 
 // What Derive answers.
-#[derive(Drop)]
+#[derive(Clone, Copy)]
 pub enum Derived {
     Refused(Refusal),
     Derivable,
@@ -27,14 +29,14 @@ pub enum Derived {
 }
 
 // A block of an accepted file: where its bytes begin, and how many rows, roles, runs or knowledge rows it has.
-#[derive(Drop)]
+#[derive(Clone, Copy)]
 pub struct Block {
     pub start: usize,
     pub count: usize,
 }
 
 // Where the parts of an accepted file stand.
-#[derive(Drop)]
+#[derive(Clone, Copy)]
 pub struct Layout {
     pub budget: usize,
     pub terms: Block,
@@ -44,20 +46,20 @@ pub struct Layout {
 }
 
 // What Open answers.
-#[derive(Drop)]
+#[derive(Clone, Copy)]
 pub enum Opened {
     Refused(Refusal),
     Accepted(Layout),
 }
 
 // The kind of a claim.
-#[derive(Drop)]
+#[derive(Clone, Copy)]
 pub enum ClaimKind {
     Secrecy,
 }
 
 // A claim: its run, from 1, its event, from 0, and its kind.
-#[derive(Drop)]
+#[derive(Clone, Copy)]
 pub struct Claim {
     pub run: usize,
     pub event: usize,
@@ -65,14 +67,14 @@ pub struct Claim {
 }
 
 // The claim that a state breaks, or none.
-#[derive(Drop)]
+#[derive(Clone, Copy)]
 pub enum Claimed {
     Broken(Claim),
     Nothing,
 }
 
 // What Replay answers.
-#[derive(Drop)]
+#[derive(Clone, Copy)]
 pub enum Replayed {
     Refused(Refusal),
     Broken(Claim),
@@ -80,7 +82,7 @@ pub enum Replayed {
 }
 
 // A break: its place in the list, the length of its trace in bytes, and the claim's run, event and kind.
-#[derive(Drop)]
+#[derive(Clone, Copy)]
 pub struct Break {
     pub place: usize,
     pub length: usize,
@@ -90,7 +92,7 @@ pub struct Break {
 }
 
 // What Search answers: a break, the list's length, or the budget.
-#[derive(Drop)]
+#[derive(Clone, Copy)]
 pub enum Verdict {
     Refused(Refusal),
     Broken(Break),
@@ -99,7 +101,7 @@ pub enum Verdict {
 }
 
 // What a walk through a part of the list finds: a break, so many traces without one, or that the budget ended.
-#[derive(Drop)]
+#[derive(Clone, Copy)]
 pub enum Walked {
     Broken(Break),
     Clean(usize),

@@ -1,4 +1,6 @@
 // Cells, each a row in a run, and the look-up of a class by the classes of its parts.
+#![tactic(auto)]
+
 ghost use Rattle.std.specs.Prelude.{◌≡◌, ◌+◌, ◌*◌, ◌<◌, ◌≤◌, length, get_or};
 ghost use Rattle.rows.specs.Rows.{Shape};
 ghost use Rattle.cells.specs.Cells.{cell_of, cell_count, absent, second_of, same_parts, Tells, Matches, Found, FoundInRow};
@@ -16,7 +18,7 @@ impl Cells {
 }
 
 // A run that is looked at, in a table with so many rows and a scenario with so many runs.
-#[derive(Drop)]
+#[derive(Clone, Copy)]
 pub struct Scope {
     pub rows: usize,
     pub runs: usize,

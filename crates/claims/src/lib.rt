@@ -1,4 +1,6 @@
 // Which claim a state breaks: of the runs whose agents are all trusted, the first claim passed whose value is derivable.
+#![tactic(auto)]
+
 ghost use Rattle.std.specs.Prelude.{◌≡◌, ◌<◌, length};
 ghost use Rattle.semantics.specs.Scenario.{Scenario};
 ghost use Rattle.semantics.specs.Guarantee.{Guarantee};

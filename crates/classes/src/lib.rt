@@ -1,4 +1,6 @@
 // Comparison of values: the class of every cell, equal for equal values.
+#![tactic(auto)]
+
 ghost use Rattle.std.specs.Prelude.{◌≡◌, ◌+◌, ◌<◌, ◌≤◌, length};
 ghost use Rattle.rows.specs.Rows.{rows_of, Shape};
 ghost use Rattle.cells.specs.Cells.{cell_count};

@@ -1,4 +1,6 @@
 // Derive: whether a row's term is derivable from those of listed rows.
+#![tactic(auto)]
+
 ghost use Rattle.std.specs.Prelude.{◌≡◌, ◌<◌, ◌≤◌, length};
 ghost use Rattle.semantics.specs.Value.{value_of, as_atoms};
 ghost use Rattle.semantics.specs.Derive.{derived, derivable_row};

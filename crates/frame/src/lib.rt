@@ -1,4 +1,6 @@
 // The frame of a scenario file: version, budget, and four blocks, each a part of the lent slice; refusals 1 to 3.
+#![tactic(auto)]
+
 ghost use Rattle.std.specs.Prelude.{◌≡◌, true, ◌+◌, ◌<◌, ◌≤◌, length, take, drop};
 ghost use Rattle.semantics.specs.Frame.{block_length, unversioned, too_long, budget_of, framed, misframed, block_from, block};
 ghost use Rattle.rows.specs.Rows.{place_as};

@@ -1,4 +1,6 @@
 // Knowledge as marks: one for each row in each run, taken apart and built up until nothing is added.
+#![tactic(auto)]
+
 ghost use Rattle.std.specs.Prelude.{◌≡◌, false, ◌+◌, ◌*◌, ◌<◌, ◌≤◌, length, get_or};
 ghost use Rattle.rows.specs.Rows.{rows_of, Shape};
 ghost use Rattle.cells.specs.Cells.{cell_count};

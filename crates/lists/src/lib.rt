@@ -1,4 +1,6 @@
 // Lists of rows: which rows have a value if some atoms have none, and the first of a rising list that has none; refusal 9.
+#![tactic(auto)]
+
 ghost use Rattle.std.specs.Prelude.{◌≡◌, ◌<◌, ◌≤◌, length};
 ghost use Rattle.semantics.specs.Basic.{unfit_from};
 ghost use Rattle.semantics.specs.Value.{Reading};

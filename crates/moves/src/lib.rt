@@ -1,4 +1,6 @@
 // Moves: whether one is allowed, with no work on the marks, and the marks after one that is.
+#![tactic(auto)]
+
 ghost use Rattle.std.specs.Prelude.{◌≡◌, ◌<◌, length};
 ghost use Rattle.rows.specs.Rows.{Shape};
 ghost use Rattle.cells.specs.Cells.{cell_count};

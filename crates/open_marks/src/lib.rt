@@ -1,4 +1,6 @@
 // Marks at role level: whether a name or a key's inverse is derivable, marks with more known, marks that two have in common, and marks that are kept in notes.
+#![tactic(auto)]
+
 ghost use Rattle.std.specs.Prelude.{◌≡◌, true, ◌<◌, ◌≤◌, length};
 ghost use Rattle.rows.specs.Rows.{rows_of, Shape};
 ghost use Rattle.cells.specs.Cells.{cell_count};

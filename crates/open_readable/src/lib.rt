@@ -1,4 +1,6 @@
 // Readable over the marks at role level.
+#![tactic(auto)]
+
 ghost use Rattle.std.specs.Prelude.{◌<◌};
 ghost use Rattle.rows.specs.Rows.{rows_of, Shape};
 ghost use Rattle.role_level.specs.RoleLevel.{RoleClasses};

@@ -1,4 +1,6 @@
 // Well-formed events: WF over the marks at role level; refusal 7.
+#![tactic(auto)]
+
 ghost use Rattle.std.specs.Prelude.{◌≡◌, ◌<◌, ◌≤◌};
 ghost use Rattle.std.proofs.Math.Option.{none};
 ghost use Rattle.semantics.specs.Roles.{role_records, roles_from, bad_role};

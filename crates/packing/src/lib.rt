@@ -1,4 +1,6 @@
 // The packing of each operation's answer into 64 bits, as C gets it.
+#![tactic(auto)]
+
 ghost use Rattle.std.specs.Prelude.{◌≡◌, ◌<◌, ◌≤◌, min};
 ghost use Rattle.semantics.specs.Packing.{word_alone, packed_number, claim_bits};
 ghost use Rattle.packing.specs.Packing.{packed_refused, packed_deriving, packed_opening, packed_code_kind, packed_code_claim, packed_replaying, packed_code_break, packed_searching};

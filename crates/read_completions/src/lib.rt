@@ -1,5 +1,7 @@
 // Whether a partial choice of values has a completion with which a row is derivable: the classes that each unset variable may still get are narrowed until
 // none falls away, and tried one by one where variables are tied to each other.
+#![tactic(auto)]
+
 ghost use Rattle.std.specs.Prelude.{◌≡◌, false, ℕ, ◌<◌, ◌≤◌, length, get_or};
 ghost use Rattle.rows.specs.Rows.{Shape};
 ghost use Rattle.cells.specs.Cells.{cell_count};
@@ -14,7 +16,7 @@ use rows::Kind;
 use variables::VariableRows;
 
 // A pattern that is read: its run and row, and its variables without a value.
-#[derive(Drop)]
+#[derive(Clone, Copy)]
 pub struct Pattern {
     pub scope: Scope,
     pub row: usize,

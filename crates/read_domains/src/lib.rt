@@ -1,4 +1,6 @@
 // The classes of the values that variables may take, and sets of classes: what a test of partial choices narrows.
+#![tactic(auto)]
+
 ghost use Rattle.std.specs.Prelude.{◌≡◌, true, List, ℕ, ◌+◌, ◌*◌, ◌<◌, ◌≤◌, length, get_or};
 ghost use Rattle.cells.specs.Cells.{cell_count};
 ghost use Rattle.knowledge.specs.Steps.{kind_at};

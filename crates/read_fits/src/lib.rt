@@ -1,4 +1,6 @@
 // Whether a row can still get the value of a class once more variables of its run are set: what it and the rows below it need.
+#![tactic(auto)]
+
 ghost use Rattle.std.specs.Prelude.{◌≡◌, ◌<◌, ◌≤◌, length};
 ghost use Rattle.cells.specs.Cells.{cell_count};
 ghost use Rattle.read_fits.specs.Fits.{InScope, MadeInScope, Asked, PartsAsked, PassedDown, NeedsMet};

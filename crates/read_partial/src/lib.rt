@@ -1,4 +1,6 @@
 // The test of a partial choice of a read's values: whether a completion of it may be allowed.
+#![tactic(auto)]
+
 ghost use Rattle.std.specs.Prelude.{◌≡◌, length};
 ghost use Rattle.rows.specs.Rows.{Shape};
 ghost use Rattle.cells.specs.Cells.{cell_count};

@@ -1,4 +1,6 @@
 // The test of a partial choice of values: whether a row can still be derivable once more variables of its run are set.
+#![tactic(auto)]
+
 ghost use Rattle.std.specs.Prelude.{◌≡◌, true, false, ◌&&◌, ℕ, ◌<◌, ◌≤◌, get_or};
 ghost use Rattle.rows.specs.Rows.{rows_of};
 ghost use Rattle.read_fits.specs.Fits.{CanTake};

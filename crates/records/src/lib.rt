@@ -1,4 +1,6 @@
 // Role records and run records: refusals 6 and 8.
+#![tactic(auto)]
+
 ghost use Rattle.std.specs.Prelude.{◌≡◌, List, ℕ, ◌+◌, ◌<◌, ◌≤◌, length};
 ghost use Rattle.semantics.specs.Basic.{every};
 ghost use Rattle.semantics.specs.Table.{Row};

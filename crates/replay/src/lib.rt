@@ -1,4 +1,6 @@
 // Replay: a trace followed step by step; refused as Open, refused with 12 at a step, the claim broken, or none.
+#![tactic(auto)]
+
 ghost use Rattle.std.specs.Prelude.{◌≡◌};
 ghost use Rattle.semantics.specs.Replay.{replayed};
 ghost use Rattle.answers.specs.Answers.{scenario_in, Accepts, replayed_as};

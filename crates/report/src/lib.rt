@@ -1,4 +1,6 @@
 // The text of the verdict on a scenario file by a list, and a program's way from standard input to that text.
+#![tactic(auto)]
+
 ghost use Rattle.std.specs.Prelude.{List, ℕ, ◌≤◌, length};
 ghost use Rattle.semantics.specs.Verdict.{searched_in};
 ghost use Rattle.search_runs.specs.Runs.{list_as};

@@ -1,4 +1,6 @@
 // Role level: the classes of rows and the marks of what is known, in run 0.
+#![tactic(auto)]
+
 ghost use Rattle.std.specs.Prelude.{◌≡◌, ◌∷◌, ◌<◌, ◌≤◌, length};
 ghost use Rattle.semantics.specs.Term.{Term};
 ghost use Rattle.semantics.specs.Value.{as_atoms};

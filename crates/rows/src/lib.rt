@@ -6,7 +6,7 @@ ghost use Rattle.semantics.specs.Runs.{atom_at, is_agent, is_trusted};
 ghost use Rattle.rows.specs.Rows.{rows_of, Sized};
 
 // A place, if there is one.
-#[derive(Drop)]
+#[derive(Clone, Copy)]
 pub enum Place {
     At(usize),
     Nowhere,

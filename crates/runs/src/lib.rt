@@ -1,4 +1,6 @@
 // The runs of an accepted file: where their records stand, and the events and agents that they have.
+#![tactic(auto)]
+
 ghost use Rattle.std.specs.Prelude.{◌≡◌, List, ℕ, ◌+◌, ◌<◌, length, get_or};
 ghost use Rattle.semantics.specs.Basic.{every};
 ghost use Rattle.semantics.specs.Runs.{atom_at, is_trusted};
@@ -11,7 +13,7 @@ ghost use Rattle.runs.specs.Runs.{RunsAt, IsRun, AgentsAt, FindsEvents, ReadsEve
 use answers::Layout;
 
 // Where the runs stand: how many, how many agents each names; for each the offset of its record, that of its role's first event, and how many events it has.
-#[derive(Drop)]
+#[derive(Clone, Copy)]
 pub struct Runs {
     pub count: usize,
     pub roles: usize,
@@ -21,7 +23,7 @@ pub struct Runs {
 }
 
 // An event of a run: its kind byte, the agents' rows of the run's own role and of the peer, and the term's row.
-#[derive(Drop)]
+#[derive(Clone, Copy)]
 pub struct RunEvent {
     pub kind: usize,
     pub own: usize,
@@ -30,7 +32,7 @@ pub struct RunEvent {
 }
 
 // Where the events of a role stand: the offset of the first, and how many there are.
-#[derive(Drop)]
+#[derive(Clone, Copy)]
 struct Events {
     first: usize,
     count: usize,

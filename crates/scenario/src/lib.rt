@@ -1,4 +1,6 @@
 // Open: a scenario file is accepted, with where its parts stand, or refused with number and place.
+#![tactic(auto)]
+
 ghost use Rattle.std.specs.Prelude.{◌≡◌, ℕ, ◌+◌, ◌≤◌, length};
 ghost use Rattle.semantics.specs.Runs.{run_records};
 ghost use Rattle.semantics.specs.Scenario.{term_part, role_count, scenario_of, opened};

@@ -1,4 +1,6 @@
 // Search, by the full list or the short one: the verdict on a scenario file, with the trace of a broken claim in the lent buffer; refused as Open, or with 10.
+#![tactic(auto)]
+
 ghost use Rattle.std.specs.Prelude.{◌≡◌, ℕ, ◌<◌, ◌≤◌, length, get_or, take};
 ghost use Rattle.semantics.specs.Basic.{total};
 ghost use Rattle.semantics.specs.Answer.{accepted};

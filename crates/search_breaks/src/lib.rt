@@ -1,4 +1,6 @@
 // Search: the plain data of the walk through the list of allowed traces, and the new values and steps that it writes.
+#![tactic(auto)]
+
 ghost use Rattle.std.specs.Prelude.{◌≡◌, List, [], ◌∷◌, ◌++◌, ◌+◌, ◌*◌, ◌<◌, ◌≤◌, length, take};
 ghost use Rattle.semantics.specs.State.{Value};
 ghost use Rattle.search_breaks.specs.Walk.{over, ValuesAre, StepFits, step_before};
@@ -8,7 +10,7 @@ use runs::{RunEvent, Runs};
 use search_runs::Listing;
 
 // What a walk goes by: which list it goes through, how many rows the table has, the runs, and the rows of the table's variables.
-#[derive(Drop)]
+#[derive(Clone, Copy)]
 pub struct Plan {
     pub list: Listing,
     pub rows: usize,
@@ -17,13 +19,13 @@ pub struct Plan {
 }
 
 // How far a trace has come: how many events each run has made.
-#[derive(Drop)]
+#[derive(Clone, Copy)]
 pub struct Course {
     pub done: [usize; 4],
 }
 
 // How far a walk goes: what is left of the budget, where its own trace ends in the buffer, and how many moves are looked at.
-#[derive(Drop)]
+#[derive(Clone, Copy)]
 pub struct Reach {
     pub left: usize,
     pub at: usize,
@@ -31,14 +33,14 @@ pub struct Reach {
 }
 
 // New values as a trace has them, two bytes each, and how many they are.
-#[derive(Drop)]
+#[derive(Clone, Copy)]
 pub struct Values {
     pub bytes: [u8; 16],
     pub count: usize,
 }
 
 // The next event of a run, from 0, with the new values chosen so far.
-#[derive(Drop)]
+#[derive(Clone, Copy)]
 pub struct Turn {
     pub run: usize,
     pub event: RunEvent,
@@ -46,7 +48,7 @@ pub struct Turn {
 }
 
 // A read whose values are chosen: the rows beneath its pattern; its variables of rows from one on have no value yet.
-#[derive(Drop)]
+#[derive(Clone, Copy)]
 pub struct Choice {
     pub turn: Turn,
     pub under: [bool; 96],

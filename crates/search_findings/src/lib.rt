@@ -1,4 +1,6 @@
 // What a walk through a part of the list finds, and what that becomes in the whole: breaks, counts and the budget. Decisions on plain data alone.
+#![tactic(auto)]
+
 ghost use Rattle.std.specs.Prelude.{◌≡◌, ◌<◌, ◌≤◌};
 ghost use Rattle.search_findings.specs.Findings.{own_break, placed_later, made_longer, own_as, goes_on, known_as, behind_as, after_step, is_clean, is_broken, count_of, size_of, length_of};
 

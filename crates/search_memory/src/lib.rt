@@ -1,4 +1,6 @@
 // The memory of Search: states whose traces were all walked without a break, each with how many there are.
+#![tactic(auto)]
+
 ghost use Rattle.std.specs.Prelude.{◌≡◌, true, ℕ, ◌+◌, ◌*◌, ◌/◌, ◌%◌, ◌<◌, ◌≤◌, length, get_or};
 ghost use Rattle.rows.specs.Rows.{Sized};
 ghost use Rattle.cells.specs.Cells.{cell_count};

@@ -1,4 +1,6 @@
 // Search: which list of traces is walked through, and the runs whose moves it goes on with from a state.
+#![tactic(auto)]
+
 ghost use Rattle.std.specs.Prelude.{◌<◌};
 ghost use Rattle.search_runs.specs.Runs.{SomeStanding, TellsReady, LowestReady, GoesOn};
 
@@ -6,14 +8,14 @@ use records::Event;
 use runs::Runs;
 
 // Which list: all allowed traces; or, wherever some run's next event is a send or claim, only those that go on with the lowest such run.
-#[derive(Drop)]
+#[derive(Clone, Copy)]
 pub enum Listing {
     Full,
     Short,
 }
 
 // Some runs, from 0: from one on, up to another that is none of them.
-#[derive(Drop)]
+#[derive(Clone, Copy)]
 pub struct Span {
     pub from: usize,
     pub end: usize,

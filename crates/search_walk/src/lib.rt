@@ -1,4 +1,6 @@
 // Search: the walk through a list of allowed traces in its order. States that were walked whole are remembered, and not walked again.
+#![tactic(auto)]
+
 ghost use Rattle.std.specs.Prelude.{◌<◌};
 ghost use Rattle.search_breaks.specs.Walk.{state_of, SomeState, SomeClear, SomeChoice, SomeMove, SomeStep, FindsFrom, FindsRun, FindsChoice, FindsMove, FindsStep};
 ghost use Rattle.search_same.specs.Memory.{Remembers, Room};

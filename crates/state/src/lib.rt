@@ -1,4 +1,6 @@
 // The state of a scenario by value: how far each run has come, the names that its atoms have, and marks that are exact.
+#![tactic(auto)]
+
 ghost use Rattle.std.specs.Prelude.{◌≡◌, ◌+◌, ◌<◌, ◌≤◌, length, get_or, set};
 ghost use Rattle.semantics.specs.State as definitions;
 ghost use Rattle.semantics.specs.Scenario.{Scenario};

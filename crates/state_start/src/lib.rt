@@ -1,4 +1,6 @@
 // What a scenario starts with: the names of a run before any variable is set, and the marks of what is known.
+#![tactic(auto)]
+
 ghost use Rattle.std.specs.Prelude.{[], ◌<◌, ◌≤◌};
 ghost use Rattle.rows.specs.Rows.{rows_of, Shape};
 ghost use Rattle.role_level.specs.RoleLevel.{ListedBelow};

@@ -1,4 +1,6 @@
 // The check of a table: refusals 4 and 5.
+#![tactic(auto)]
+
 ghost use Rattle.std.specs.Prelude.{◌≡◌, [], ◌+◌, ◌*◌, ◌<◌, ◌≤◌, length, get_or, take};
 ghost use Rattle.std.proofs.Math.ListN.{get_elem?};
 ghost use Rattle.semantics.specs.Basic.{keep};
@@ -22,7 +24,7 @@ impl Table {
 }
 
 // What a table's check answers.
-#[derive(Drop)]
+#[derive(Clone, Copy)]
 pub enum Judged {
     Refused(Refusal),
     Rows(usize),

@@ -1,4 +1,6 @@
 // The functions that C calls, each one line: an operation, and its answer packed into 64 bits.
+#![tactic(auto)]
+
 ghost use Rattle.std.specs.Prelude.{◌≡◌};
 ghost use Rattle.semantics.specs.Derive.{derived};
 ghost use Rattle.semantics.specs.Scenario.{opened};

@@ -1,4 +1,6 @@
 // What the programs print, as bytes: Search's answer with its trace, and the limits.
+#![tactic(auto)]
+
 ghost use Rattle.std.specs.Prelude.{◌≡◌, List, [], ◌∷◌, ◌++◌, ◌+◌, ◌*◌, ◌<◌, ◌≤◌, length};
 ghost use Rattle.semantics.specs.Basic.{joined};
 ghost use Rattle.semantics.specs.Answer.{Answer};

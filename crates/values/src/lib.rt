@@ -1,4 +1,6 @@
 // New values of a read, given to its variables one after the other: each is one store into the names.
+#![tactic(auto)]
+
 ghost use Rattle.std.specs.Prelude.{◌≡◌, ◌<◌, ◌≤◌, length, set};
 ghost use Rattle.rows.specs.Rows.{rows_of, Shape};
 ghost use Rattle.cells.specs.Cells.{cell_of, cell_count};

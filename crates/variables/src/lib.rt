@@ -1,4 +1,6 @@
 // The variables that a read sets, in order of their rows, and the values that a variable may take, in order of row and run.
+#![tactic(auto)]
+
 ghost use Rattle.std.specs.Prelude.{◌≡◌, false, ◌&&◌, ℕ, ◌+◌, ◌*◌, ◌<◌, ◌≤◌, eqb, length, get_or};
 ghost use Rattle.std.proofs.Math.Option.{some};
 ghost use Rattle.semantics.specs.Term.{VariableType, Atom, variable};
@@ -11,14 +13,14 @@ use cells::Cells;
 use rows::Kind;
 
 // The next value of a variable: its row and run, or nothing.
-#[derive(Drop)]
+#[derive(Clone, Copy)]
 pub enum NextValue {
     Value { row: usize, run: usize },
     Nothing,
 }
 
 // Rows of variables, and how many they are; unused places hold row 0.
-#[derive(Drop)]
+#[derive(Clone, Copy)]
 pub struct VariableRows {
     pub rows: [usize; 8],
     pub count: usize,
