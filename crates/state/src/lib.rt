@@ -17,7 +17,7 @@ use cells::{Cells, Scope};
 use runs::Runs;
 
 // How far each run has come, what its atoms stand for, the classes of values, and the marks, taken apart.
-#[derive(Drop)]
+#[derive(Clone, Copy)]
 pub struct State {
     pub done: [usize; 4],
     pub names: [u16; Cells::COUNT],

@@ -1,0 +1,14 @@
+-- `verdict_of` is the verdict by what the walk found. Assumes nothing.
+use borrow.Author.Rules.{rules}
+use mathlib.Core.Path.{sym, ap}
+use Rattle.answers.specs.Answers.{answered}
+use Rattle.answers.proofs.verdict_of.Goals as goal
+
+pub returns-in-Broken : goal.returns-in-Broken
+returns-in-Broken c = sym (ap (answered c.args.budget) c.walked-1.given.1)
+
+pub returns-in-Clean : goal.returns-in-Clean
+returns-in-Clean c = sym (ap (answered c.args.budget) c.walked-in-Clean-1.given.1)
+
+pub returns-in-Cut : goal.returns-in-Cut
+returns-in-Cut c = sym (ap (answered c.args.budget) c.enum_told-1.given.1)

@@ -1,0 +1,54 @@
+-- `broken_in_run` answers the first broken claim of a run. The loop's invariant: none of the first j events is one. The measure is how many events are left. Assumes nothing.
+use Prim.Native.Nat.{◌-◌, ◌<◌, ◌≤◌}
+use native.Mathlib.Omega.{arith}
+use mathlib.Core.Path.{sym, ◌∙◌}
+use borrow.Author.Rules.{rules}
+use Rattle.cells.specs.laws.Shape.{shape-sized}
+use Rattle.claims.specs.laws.Run.{NoneTo, none_more, run-untrusted, run-broken, run_none}
+use Rattle.claims.proofs.broken_in_run.Goals as goal
+
+-- the function's entry
+abbrev entry : goal.After-all_trusted → goal.Start
+entry a = a.before.before.before.before
+
+-- the run's number fits
+numbered : (s : goal.Start) → s.args.k < 4
+numbered s = omega (arith, s.requires.0.1.runs.few, s.requires.1.1)
+
+pub all_trusted-requires : goal.all_trusted-requires
+all_trusted-requires c =
+    
+    let given = c.requires.0.1 in
+    (shape-sized given.shape, (c.requires.0.0, given.runs, given.good, omega (arith, c.requires.1.1)))
+
+pub loop-j-init : goal.loop-j-init
+loop-j-init c = (omega arith, λ sc d run p at trusts i l. absurd (omega arith))
+
+pub claims_derivable-requires : goal.claims_derivable-requires
+claims_derivable-requires c =
+    let s = entry c.before.before.before in
+    let given = s.pre.0.1 in
+    ((s.pre.0.0, (given.runs, (given.good, omega (arith, s.pre.1.1)))), s.pre.1.0)
+
+pub returns-then-claims_derivable : goal.returns-then-claims_derivable
+returns-then-claims_derivable c sc d run p at same made =
+    let l = c.before.before.before in
+    let a = l.before.before in
+    run-broken at (sym l.before.if1.true ∙ a.all-trusted.ensures sc run same at.runs at.good at.is_run) l.loop.j l.loop.invariant.1 made c.before.before.loop-test.true
+    (rw c.if2.true at c.before.claims-derivable.ensures)
+
+pub loop-j-preserved : goal.loop-j-preserved
+loop-j-preserved c =
+    
+    let s = entry c.before.before in
+    (omega arith, none_more s.args.file.now s.args.r s.args.marks.now s.args.k c.loop-j.j c.loop-j.invariant.1 (rw c.if-claims_derivable.false at c.claims_derivable.ensures))
+
+pub returns-after-loop-j : goal.returns-after-loop-j
+returns-after-loop-j c sc d run p at same made =
+    let l = c.before in
+    let a = l.before.before in
+    run_none at (sym l.before.if1.true ∙ a.all-trusted.ensures sc run same at.runs at.good at.is_run) l.loop.j l.loop.invariant.1 made c.loop-test.false
+
+pub returns-else-all_trusted : goal.returns-else-all_trusted
+returns-else-all_trusted c sc d run p at same made =
+    run-untrusted at (sym c.if1.false ∙ c.before.all-trusted.ensures sc run same at.runs at.good at.is_run)

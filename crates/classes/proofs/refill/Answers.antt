@@ -1,0 +1,7 @@
+-- `classes::refill` meets its contract: all rows are filled. Assumes nothing.
+use borrow.Author.Rules.{rules}
+use Rattle.classes.specs.laws.Step.{filled-all}
+use Rattle.classes.proofs.refill.Goals as goal
+
+pub returns : goal.returns
+returns c = filled-all c.args.t.now c.args.n c.args.runs c.args.u c.args.names.now c.requires.0 c.fill.ensures

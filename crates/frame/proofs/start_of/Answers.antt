@@ -1,0 +1,10 @@
+-- `frame::start_of` meets its contract: the blocks follow version and budget. Assumes nothing.
+use borrow.Author.Rules.{rules}
+use Rattle.frame.specs.laws.Frame.{part-framed, part-few, part-start}
+use Rattle.frame.proofs.start_of.Goals as goal
+
+pub start_from-requires : goal.start_from-requires
+start_from-requires c = (part-framed c.args.file.now c.requires.0, (c.requires.1, part-few c.args.file.now c.requires.0))
+
+pub returns : goal.returns
+returns c = part-start c.args.file.now c.requires.0 c.args.k c.start_from.ensures.0 c.start_from.ensures.1

@@ -1,0 +1,9 @@
+-- `name_known` tells whether a role's name is derivable. Assumes nothing.
+use borrow.Author.Rules.{rules}
+use Rattle.open_marks.specs.laws.Marks.{name-known}
+use Rattle.open_marks.proofs.name_known.Goals as goal
+
+pub returns : goal.returns
+returns c =
+    
+    name-known c.args.t.now c.args.n c.requires.0 c.row_marked.ensures

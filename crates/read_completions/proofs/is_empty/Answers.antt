@@ -1,0 +1,15 @@
+-- `read_completions::is_empty` meets its contract: a domain of size 0 has no class. The measure is how many variables are left. Assumes nothing.
+use mathlib.Core.Path.{refl}
+use Prim.Native.Nat.{◌-◌, ◌≤◌}
+use native.Mathlib.Omega.{arith}
+use borrow.Author.Rules.{rules}
+use Rattle.read_completions.proofs.is_empty.Goals as goal
+
+pub returns-then-size-eq0 : goal.returns-then-size-eq0
+returns-then-size-eq0 c some =
+    let l = c.before.before.before.before.loop.i in
+    let w = some l c.before.before.if1.true in
+    absurd (omega (arith, c.before.size.ensures.1 w.0 w.1.0 w.1.1, c.if2.true))
+
+pub returns : goal.returns
+returns c some = refl

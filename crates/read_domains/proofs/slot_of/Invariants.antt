@@ -1,0 +1,13 @@
+-- `read_domains::slot_of` meets its contract. The loop's invariant: j is at most the number of variables.
+-- The measure is how many variables are left. Assumes nothing.
+use Prim.Native.Nat.{◌-◌, ◌≤◌}
+use Rattle.read_domains.specs.Domains.{is_at, is_none}
+use native.Mathlib.Omega.{arith}
+use borrow.Author.Rules.{rules}
+use Rattle.read_domains.proofs.slot_of.Given as goal
+
+abbrev pub invariant-loop-j : goal.invariant-loop-j
+invariant-loop-j l = l.j ≤ l.vars.count
+
+abbrev pub decreases-loop-j : goal.decreases-loop-j
+decreases-loop-j l = l.vars.count - l.j

@@ -1,0 +1,18 @@
+-- `replay` opens a file and follows a trace through it. Assumes nothing.
+use borrow.Author.Rules.{rules}
+use mathlib.Core.Path.{sym, ap, ◌∙◌}
+use Rattle.answers.specs.Answers.{replayed_as}
+use Rattle.answers.specs.laws.Answers.{opened-accepts}
+use Rattle.replay.specs.laws.Follow.{replayed-accepted, replayed-refused}
+use Rattle.replay.proofs.replay.Goals as goal
+
+pub followed-requires : goal.followed-requires
+followed-requires c = opened-accepts _ (sym c.opened-in-Accepted-1.given.1 ∙ c.before.before.before.«open».ensures)
+
+pub returns-in-Refused : goal.returns-in-Refused
+returns-in-Refused c = replayed-refused _ _ (sym c.opened-1.given.1 ∙ c.before.before.before.«open».ensures)
+
+pub returns-in-Accepted : goal.returns-in-Accepted
+returns-in-Accepted c =
+    let w = opened-accepts _ (sym c.opened-in-Accepted-1.given.1 ∙ c.before.before.before.before.«open».ensures) in
+    c.followed.ensures ∙ ap replayed_as (sym (replayed-accepted _ _ _ w.is_opened))

@@ -1,0 +1,15 @@
+-- `valued` says whether values suit the next event of a run. Assumes nothing.
+use native.Mathlib.Omega.{arith}
+use borrow.Author.Rules.{rules}
+use mathlib.Core.Path.{◌≡◌, refl}
+use Rattle.replay_choices.specs.laws.Values.{none-suit, some-suit-not}
+use Rattle.replay_choices.proofs.valued.Goals as goal
+
+pub returns-then-e-eq1 : goal.returns-then-e-eq1
+returns-then-e-eq1 c sc d a next = c.chosen.ensures _ sc d _ a next refl refl c.before.if1.true
+
+pub returns-then-values-lt2 : goal.returns-then-values-lt2
+returns-then-values-lt2 c sc d a next = none-suit next c.before.if1.false c.before.before.before.before.before.before.args.values.now c.if2.true
+
+pub returns : goal.returns
+returns c sc d a next = some-suit-not next c.before.if1.false c.before.before.before.before.before.before.args.values.now _ c.if2.false

@@ -1,0 +1,29 @@
+-- `print_verdict` prints a text whose length counts its bytes. Assumes nothing.
+use native.Mathlib.Omega.{arith}
+use borrow.Author.Rules.{rules}
+use Prim.Native.Nat.{ℕ, ◌≤◌}
+use mathlib.Core.Path.{refl}
+use mathlib.Core.Logic.{inl, inr}
+use mathlib.Core.List.{List}
+use lib.ListN.{length, replicate, length-replicate}
+use Rattle.text.specs.laws.Adds.{holds_fits, holds-count}
+use Rattle.report.proofs.print_verdict.Goals as goal
+
+-- a buffer that is long enough
+abbrev buffer : List ℕ
+buffer = replicate 128 0
+
+long : 128 ≤ length buffer
+long = omega (arith, length-replicate {A = ℕ} 128 0)
+
+pub slice_bounds-bytes-end : goal.slice_bounds-bytes-end
+slice_bounds-bytes-end c = holds_fits (c.verdict_text-text.ensures buffer long)
+
+pub slice_bounds-write_all-end : goal.slice_bounds-write_all-end
+slice_bounds-write_all-end c = holds-count (c.verdict_text-text.ensures buffer long)
+
+pub returns-then-read-ne0 : goal.returns-then-read-ne0
+returns-then-read-ne0 c = inl refl
+
+pub returns : goal.returns
+returns c = inr (_, c.verdict_text-text.ensures)

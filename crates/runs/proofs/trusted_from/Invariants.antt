@@ -1,0 +1,18 @@
+-- `runs::trusted_from` meets its contract. The loop's invariant: all agents are trusted exactly if those from agent i on are. The measure is how many agents are left. Assumes nothing.
+use Prim.Native.Nat.{ℕ, ◌-◌, ◌≤◌}
+use native.Mathlib.Omega.{arith}
+use mathlib.Core.Path.{refl, sym, ◌∙◌}
+use mathlib.Core.Bool.{Bool}
+use mathlib.Core.List.{List}
+use borrow.Author.Rules.{rules}
+use borrow.Author.Tests.{not-true, not-false}
+use Rattle.semantics.specs.Runs.{atom_at, is_trusted}
+use Rattle.rows.specs.Rows.{rows_of}
+use Rattle.runs.specs.laws.Trusted.{PassFrom, pass-bad, pass-more, pass_all}
+use Rattle.runs.proofs.trusted_from.Given as goal
+
+abbrev pub invariant-loop-i : goal.invariant-loop-i
+invariant-loop-i l = (l.i ≤ l.roles) × PassFrom (trusted l.t) l.file l.start l.roles l.i
+
+abbrev pub decreases-loop-i : goal.decreases-loop-i
+decreases-loop-i l = l.roles - l.i

@@ -1,0 +1,16 @@
+-- `write_step` writes a step over the bytes from a place on. Assumes nothing.
+use native.Mathlib.Omega.{arith}
+use borrow.Author.Rules.{rules}
+use Prim.Native.Nat.{ℕ, ◌+◌, ◌*◌, ◌-◌, ◌≤◌}
+use mathlib.Core.Path.{◌≡◌, refl, sym, ap, ◌∙◌}
+use mathlib.Core.List.{List}
+use lib.ListN.{length, get_or, take, set, length-set}
+use Rattle.search_breaks.specs.Walk.{over}
+use Rattle.search_breaks.specs.laws.Bytes.{over_none, over-next, over-step}
+use Rattle.search_breaks.proofs.write_step.Given as goal
+
+abbrev pub invariant-loop-i : goal.invariant-loop-i
+invariant-loop-i l = (l.i ≤ l.end) × (l.at + 2 + l.end ≤ length l.initial.trace) × (length l.trace ≡ length l.initial.trace) × (l.trace ≡ over l.initial.trace (l.at + 2) (take l.i l.bytes))
+
+abbrev pub decreases-loop-i : goal.decreases-loop-i
+decreases-loop-i l = l.end - l.i

@@ -1,0 +1,16 @@
+-- `after_step` puts a step in front of what is found, by its case. Assumes nothing.
+use native.Mathlib.Omega.{arith}
+use borrow.Author.Rules.{rules}
+use mathlib.Core.Path.{refl, ap}
+use Rattle.answers.specs.declared.Walked.TheVariants.{Broken}
+use Rattle.search_findings.specs.Findings.{length_of}
+use Rattle.search_findings.proofs.after_step.Goals as goal
+
+pub longer-requires : goal.longer-requires
+longer-requires c = (omega (arith, ap length_of c.found-1.given.1), omega arith)
+
+pub returns-in-Broken : goal.returns-in-Broken
+returns-in-Broken c = rw c.found-1.given.1 (ap Broken c.longer.ensures)
+
+pub returns-in-Clean : goal.returns-in-Clean
+returns-in-Clean c = rw c.found-in-Clean-1.given.1 refl

@@ -1,0 +1,19 @@
+-- `behind` puts what is found behind a count, by its case. Assumes nothing.
+use native.Mathlib.Omega.{arith}
+use borrow.Author.Rules.{rules}
+use mathlib.Core.Path.{refl, ap}
+use Rattle.answers.specs.declared.Walked.TheVariants.{Broken}
+use Rattle.search_findings.specs.Findings.{size_of}
+use Rattle.search_findings.proofs.behind.Goals as goal
+
+pub later-requires : goal.later-requires
+later-requires c = (omega (arith, ap size_of c.found-1.given.1), omega arith)
+
+pub overflow_add-result : goal.overflow_add-result
+overflow_add-result c = record { fits = omega (arith, ap size_of c.found-in-Clean-1.given.1) }
+
+pub returns-in-Broken : goal.returns-in-Broken
+returns-in-Broken c = rw c.found-1.given.1 (ap Broken c.later.ensures)
+
+pub returns-in-Clean : goal.returns-in-Clean
+returns-in-Clean c = rw c.found-in-Clean-1.given.1 refl

@@ -1,0 +1,7 @@
+-- `goes_on` answers by the case of what was found. Assumes nothing.
+use borrow.Author.Rules.{rules}
+use mathlib.Core.Path.{refl}
+use Rattle.search_findings.proofs.goes_on.Goals as goal
+
+pub returns-in-Clean : goal.returns-in-Clean
+returns-in-Clean c = rw c.enum_told-in-Clean-1.given.1 refl

@@ -1,0 +1,42 @@
+-- The walk finds what the definitions list, in their order: `walk` from a state, `walk_run` for a run, `walk_values` for the values of a read, `walk_move` and `walk_after` for one move.
+-- The measure is the depth, and within it the functions in their order and the rows left. Assumes nothing.
+use native.Mathlib.Omega.{arith}
+use borrow.Author.Rules.{rules}
+use borrow.Author.Tests.{not-true, not-false}
+use Prim.Native.Nat.{ℕ, suc, ◌+◌, ◌*◌, ◌-◌, ◌<◌, ◌≤◌}
+use mathlib.Core.Path.{◌≡◌, refl, sym, ap, ◌∙◌}
+use mathlib.Core.List.{List}
+use mathlib.Core.Option.{none}
+use lib.ListN.{length, get_or, length-set}
+use Rattle.semantics.specs.Verdict.{broken}
+use Rattle.cells.specs.laws.Shape.{shape-sized}
+use Rattle.variables.specs.laws.Values.{value-falls}
+use Rattle.search_breaks.specs.Walk.{state_of, entries_from, SomeState, SomeChoice, state_clear}
+use Rattle.search_breaks.specs.laws.Finds.{Passed, finds-size, finds-count, passed_on, passed-stops}
+use Rattle.search_breaks.specs.laws.Entries.{runs_from, branches-pruned}
+use Rattle.search_breaks.specs.laws.Walk as from-state
+use Rattle.search_breaks.specs.laws.Run as of-run
+use Rattle.search_breaks.specs.laws.Choose as of_values
+use Rattle.search_breaks.specs.laws.Move as of-move
+use Rattle.search_same.specs.Memory.{Remembers}
+use Rattle.search_same.specs.laws.Memory.{room-on}
+use Rattle.search_same.specs.laws.Known as known
+use Rattle.search_walk.proofs.+walk_walk_after_walk_move_walk_run_walk_values.Given as goal
+
+abbrev pub invariant-loop-k : goal.invariant-loop-k
+invariant-loop-k l =
+    (l.trace ≡ l.initial.trace) × (l.count ≤ l.reach.left) × (l.end ≤ l.plan.runs.count) × (0 < l.reach.depth)
+    × ((m : SomeState l.file l.t l.plan (state_of l.course l.names l.classes l.marks) l.reach.at) → (broken m.sc m.d ≡ none) × Passed m.sc l.reach.left (entries_from l.plan l.reach.depth m.sc m.d) (runs_from l.plan m.sc (l.reach.depth - 1) m.d l.end l.k) l.count)
+    × Remembers l.file l.t l.plan l.memory
+
+abbrev pub decreases-loop-k : goal.decreases-loop-k
+decreases-loop-k l = l.end - l.k
+
+abbrev pub invariant-loop-y : goal.invariant-loop-y
+invariant-loop-y l =
+    (l.trace ≡ l.initial.trace) × (l.count ≤ l.reach.left) × (l.row ≤ l.plan.rows)
+    × ((m : SomeChoice l.file l.t l.plan l.course l.own l.names l.classes l.marks l.reach.at l.choice) (unset : of_values.NextFor l.t l.own l.choice l.x) (more : l.x ≡ l.plan.rows → ⊥) → of_values.Tried unset l.reach m more l.row l.run l.count)
+    × Remembers l.file l.t l.plan l.memory
+
+abbrev pub decreases-loop-y : goal.decreases-loop-y
+decreases-loop-y l = (l.plan.rows - l.row) * 6 + (6 - l.run)

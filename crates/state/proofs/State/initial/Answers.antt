@@ -1,0 +1,58 @@
+-- `State::initial` is the state before any move. Assumes nothing.
+use native.Mathlib.Omega.{arith}
+use borrow.Author.Rules.{rules}
+use Prim.Native.Nat.{ℕ, suc, ◌+◌, ◌-◌, ◌≤◌}
+use mathlib.Core.Path.{◌≡◌, refl, sym, ap}
+use lib.ListN.{length, length-set}
+use Rattle.semantics.specs.Scenario.{Scenario}
+use Rattle.state.specs.State.{Given}
+use Rattle.cells.specs.laws.Shape.{shape-sized}
+use Rattle.state.specs.laws.Start.{Begun, given-none, given-agents, given-more, given-listed, given-start}
+use Rattle.state.proofs.State.initial.Goals as goal
+
+pub loop-u-init : goal.loop-u-init
+loop-u-init c = (omega arith, refl, λ sc given. given-none given)
+
+pub agents_of-agents-requires : goal.agents_of-agents-requires
+agents_of-agents-requires c =
+    
+    let given = c.requires.1.0 in
+    (c.requires.0, (given.runs, (c.loop-u-test.true, given.size)))
+
+pub entered-more-requires : goal.entered-more-requires
+entered-more-requires c =
+    
+    let given = c.requires.1.0 in
+    (shape-sized given.shape, (omega (arith, given.runs.few, c.loop-u-test.true), given-agents given (c.agents_of-agents.ensures c.requires.0 given.runs given.good)))
+
+pub refill-requires : goal.refill-requires
+refill-requires c =
+    
+    
+    let given = c.requires.1.0 in
+    (given.shape, (c.loop-u.invariant.1, (c.entered-more.ensures.size, c.loop-u-test.true)))
+
+pub loop-u-preserved : goal.loop-u-preserved
+loop-u-preserved c =
+    
+    
+    let agents = c.agents_of-agents in
+    let entered = c.entered-more in
+    let refill = c.refill in
+    let begun : (sc : Scenario) (given : Given c.args.file.now c.args.t.now c.args.n c.args.r sc) → Begun given (c.loop-u.u + 1) entered.result refill.new.0 = λ sc given.
+    given-more given c.loop-u.u _ c.loop-u.names entered.result c.loop-u.classes refill.new.0 (c.loop-u.invariant.2 sc given) entered.ensures (agents.ensures sc given.runs given.good) refill.ensures in
+    (omega (arith, c.loop-u-test.true), (begun c.requires.0 c.requires.1.0).classed.size, begun)
+
+pub start_marks-requires : goal.start_marks-requires
+start_marks-requires c =
+    
+    let given = c.requires.1.0 in
+    (shape-sized given.shape, given-listed given _ c.requires.1.1)
+
+pub settle-marks-requires : goal.settle-marks-requires
+settle-marks-requires c = (c.requires.1.0.shape, c.loop-u.invariant.1)
+
+pub returns : goal.returns
+returns c sc given e =
+    let l = c.before.before.before.before in
+    given-start given _ e l.loop.names l.loop.classes c.before.before.start-marks.result c.settle.result c.before.before.before.loop-test.false (l.loop.invariant.2 sc given) c.before.before.start-marks.ensures c.settle.ensures

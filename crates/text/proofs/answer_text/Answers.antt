@@ -1,0 +1,34 @@
+-- `answer_text` is the text of Search's answer. Assumes nothing.
+use native.Mathlib.Omega.{arith}
+use borrow.Author.Rules.{rules}
+use mathlib.Core.Path.{◌≡◌, sym, ◌∙◌}
+use lib.Seq.{length-take-le}
+use Rattle.text.specs.laws.Adds.{adds_on, adds-all, holds_as}
+use Rattle.text.specs.laws.Verdict.{text-refused, text-held, text-stopped, text-broken}
+use Rattle.text.proofs.answer_text.Goals as goal
+
+pub slice_bounds-broken-end : goal.slice_bounds-broken-end
+slice_bounds-broken-end c =
+    let p = c.requires in
+    let found = text-broken p.0 p.1.buffer (sym c.answer-in-Broken-1.given.1 ∙ p.1.is_answer) p.1.is_written in
+    sym (length-take-le _ _ found.fits)
+
+pub broken-requires : goal.broken-requires
+broken-requires c =
+    let p = c.requires in
+    let found = text-broken p.0 p.1.buffer (sym c.answer-in-Broken-1.given.1 ∙ p.1.is_answer) p.1.is_written in
+    ((found.moves, found.trace), omega (arith, found.short, p.1.small))
+
+pub returns-in-Refused : goal.returns-in-Refused
+returns-in-Refused c a shown = holds_as (text-refused a (sym c.before.before.answer.given.1 ∙ shown.is_answer)) c.refused.ensures
+
+pub returns-in-Broken : goal.returns-in-Broken
+returns-in-Broken c a shown =
+    let f = text-broken a shown.buffer (sym c.before.before.before.answer2.given.1 ∙ shown.is_answer) shown.is_written in
+    holds_as f.text (c.broken.ensures f.moves f.trace)
+
+pub returns-in-Held : goal.returns-in-Held
+returns-in-Held c a shown = holds_as (text-held a (sym c.before.before.before.before.before.answer3.given.1 ∙ shown.is_answer)) (adds-all c.before.before.before.empty.ensures (adds_on c.before.put.ensures c.put-line.ensures.0))
+
+pub returns-in-Stopped : goal.returns-in-Stopped
+returns-in-Stopped c a shown = holds_as (text-stopped a (sym c.before.before.before.before.before.answer4.given.1 ∙ shown.is_answer)) (adds-all c.before.before.before.empty2.ensures (adds_on c.before.put2.ensures c.put-line2.ensures.0))

@@ -1,0 +1,15 @@
+-- `put` adds a word byte by byte. The measure is how many bytes are left. Assumes nothing.
+use Prim.Native.Nat.{◌-◌, ◌≤◌}
+use lib.ListN.{length, take}
+use lib.Seq.{length-take-le}
+use Rattle.text.specs.Text.{Adds}
+use Rattle.text.specs.laws.Adds.{adds_none, adds-next, adds-whole}
+use native.Mathlib.Omega.{arith}
+use borrow.Author.Rules.{rules}
+use Rattle.text.proofs.put.Given as goal
+
+abbrev pub invariant-loop-i : goal.invariant-loop-i
+invariant-loop-i l = (l.i ≤ length l.word) × Adds l.initial.more (take l.i l.word) l.more
+
+abbrev pub decreases-loop-i : goal.decreases-loop-i
+decreases-loop-i l = length l.word - l.i

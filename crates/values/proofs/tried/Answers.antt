@@ -1,0 +1,15 @@
+-- `tried` puts a value into copies of the names and classes, and works it into the marks. Assumes nothing.
+use native.Mathlib.Omega.{arith}
+use borrow.Author.Rules.{rules}
+use Rattle.values.proofs.tried.Goals as goal
+
+pub with_names-requires : goal.with_names-requires
+with_names-requires c =
+    
+    (c.requires.0.0, (c.requires.0.1.0, (omega (arith, c.copy-2.auto, c.requires.1.0.1), omega (arith, c.put.auto, c.copy.auto, c.requires.1.0.0))))
+
+pub returns : goal.returns
+returns c = (
+  rw c.copy.ensures at c.put.ensures,
+  (rw c.copy-2.ensures at c.with_names.ensures.0, c.with_names.ensures.1),
+)

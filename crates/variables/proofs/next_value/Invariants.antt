@@ -1,0 +1,16 @@
+-- `variables::next_value` meets its contract. The loop's invariant: row y with run v is not before the given row and run, and no value of the variable lies between the two.
+-- The measure is how many rows are left. Assumes nothing.
+use Prim.Native.Nat.{◌-◌, ◌≤◌}
+use mathlib.Core.Path.{refl}
+use mathlib.Core.Logic.{inr}
+use Rattle.rows.specs.Rows.{rows_of}
+use Rattle.variables.specs.laws.Spans.{Ahead, first_read, count-read, next-none, next_here, ahead_more}
+use native.Mathlib.Omega.{arith}
+use borrow.Author.Rules.{rules}
+use Rattle.variables.proofs.next_value.Given as goal
+
+abbrev pub invariant-loop-y : goal.invariant-loop-y
+invariant-loop-y l = (l.y ≤ l.n) × Ahead (rows_of l.t) l.runs l.x l.r l.w l.y l.v
+
+abbrev pub decreases-loop-y : goal.decreases-loop-y
+decreases-loop-y l = l.n - l.y

@@ -1,0 +1,36 @@
+-- `variables::variable_rows` meets its contract. The loop's invariant: the variables of the set among the first x rows are gathered. The measure is how many rows are left. Assumes nothing.
+use Prim.Native.Nat.{◌-◌, ◌≤◌}
+use mathlib.Core.Bool.{false≢true}
+use mathlib.Core.Logic.{⊎_elim}
+use mathlib.Core.Path.{sym, ◌∙◌}
+use Rattle.variables.specs.laws.Rows.{GatheredRows, gathered_none, gathered-other, gathered-variable, gathered-all, place-left}
+use native.Mathlib.Omega.{arith}
+use borrow.Author.Rules.{rules}
+use Rattle.variables.proofs.variable_rows.Goals as goal
+
+pub loop-x-init : goal.loop-x-init
+loop-x-init c = (omega arith, gathered_none c.args.t.now c.args.n c.args.set.now)
+
+pub bounds-found-count : goal.bounds-found-count
+bounds-found-count c =
+    
+    
+    (place-left c.args.t.now c.args.n c.requires c.loop-x.invariant.1.few c.loop-x-test.true (sym c.kind_of.ensures.0 ∙ c.if-kind_of-eq-VARIABLE.true)).1
+
+pub offset_bounds-found-count : goal.offset_bounds-found-count
+offset_bounds-found-count c = let place = array-write-found c in omega arith
+
+pub overflow_add-count : goal.overflow_add-count
+overflow_add-count c = let place = array-write-found c in omega arith
+
+pub loop-x-preserved : goal.loop-x-preserved
+loop-x-preserved c =
+    
+    
+    let low = c.loop-x-test.true in
+    let g = c.loop-x.invariant.1 in
+    let other = gathered-other c.args.t.now c.args.n c.requires c.args.set.now g in
+    (omega arith, ⊎_elim (λ w. rw (w.3, w.4) (gathered-variable c.args.t.now c.args.n c.requires c.args.set.now g low (sym w.1.ensures.0 ∙ w.2.true) w.0.true)) (⊎_elim (λ w. rw (w.3, w.4) (other (λ e i. w.2.false (w.1.ensures.0 ∙ e)))) (λ w. rw (w.1, w.2) (other (λ e i. false≢true (sym w.0.false ∙ i))))) c.if-set-x.branch-raw)
+
+pub returns : goal.returns
+returns c = gathered-all c.args.t.now c.args.n c.requires c.args.set.now c.loop-x.invariant.1 c.loop-x-test.false
