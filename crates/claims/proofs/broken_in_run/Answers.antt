@@ -7,17 +7,8 @@ use Rattle.cells.specs.laws.Shape.{shape-sized}
 use Rattle.claims.specs.laws.Run.{NoneTo, none_more, run-untrusted, run-broken, run_none}
 use Rattle.claims.proofs.broken_in_run.Goals as goal
 
--- the function's entry
-abbrev entry : goal.After-all_trusted → goal.Start
-entry a = a.before.before.before.before
-
--- the run's number fits
-numbered : (s : goal.Start) → s.args.k < 4
-numbered s = omega (arith, s.requires.0.1.runs.few, s.requires.1.1)
-
 pub all_trusted-requires : goal.all_trusted-requires
 all_trusted-requires c =
-    
     let given = c.requires.0.1 in
     (shape-sized given.shape, (c.requires.0.0, given.runs, given.good, omega (arith, c.requires.1.1)))
 
@@ -26,29 +17,25 @@ loop-j-init c = (omega arith, λ sc d run p at trusts i l. absurd (omega arith))
 
 pub claims_derivable-requires : goal.claims_derivable-requires
 claims_derivable-requires c =
-    let s = entry c.before.before.before in
-    let given = s.pre.0.1 in
-    ((s.pre.0.0, (given.runs, (given.good, omega (arith, s.pre.1.1)))), s.pre.1.0)
+    let given = c.requires.0.1 in
+    ((c.requires.0.0, (given.runs, (given.good, omega (arith, c.requires.1.1)))), c.requires.1.0)
 
 pub returns-then-claims_derivable : goal.returns-then-claims_derivable
 returns-then-claims_derivable c sc d run p at same made =
-    let l = c.before.before.before in
-    let a = l.before.before in
-    run-broken at (sym l.before.if1.true ∙ a.all-trusted.ensures sc run same at.runs at.good at.is_run) l.loop.j l.loop.invariant.1 made c.before.before.loop-test.true
-    (rw c.if2.true at c.before.claims-derivable.ensures)
+    
+    run-broken at (sym c.if-all_trusted.true ∙ c.all_trusted.ensures sc run same at.runs at.good at.is_run) c.loop-j.j c.loop-j.invariant.1 made c.loop-j-test.true
+    (rw c.if-claims_derivable.true at c.claims_derivable.ensures)
 
 pub loop-j-preserved : goal.loop-j-preserved
 loop-j-preserved c =
     
-    let s = entry c.before.before in
-    (omega arith, none_more s.args.file.now s.args.r s.args.marks.now s.args.k c.loop-j.j c.loop-j.invariant.1 (rw c.if-claims_derivable.false at c.claims_derivable.ensures))
+    (omega arith, none_more c.args.file.now c.args.r c.args.marks.now c.args.k c.loop-j.j c.loop-j.invariant.1 (rw c.if-claims_derivable.false at c.claims_derivable.ensures))
 
 pub returns-after-loop-j : goal.returns-after-loop-j
 returns-after-loop-j c sc d run p at same made =
-    let l = c.before in
-    let a = l.before.before in
-    run_none at (sym l.before.if1.true ∙ a.all-trusted.ensures sc run same at.runs at.good at.is_run) l.loop.j l.loop.invariant.1 made c.loop-test.false
+    
+    run_none at (sym c.if-all_trusted.true ∙ c.all_trusted.ensures sc run same at.runs at.good at.is_run) c.loop-j.j c.loop-j.invariant.1 made c.loop-j-test.false
 
 pub returns-else-all_trusted : goal.returns-else-all_trusted
 returns-else-all_trusted c sc d run p at same made =
-    run-untrusted at (sym c.if1.false ∙ c.before.all-trusted.ensures sc run same at.runs at.good at.is_run)
+    run-untrusted at (sym c.if-all_trusted.false ∙ c.all_trusted.ensures sc run same at.runs at.good at.is_run)

@@ -5,22 +5,19 @@ use Rattle.claims.specs.laws.Event.{row-below, past-none, other_none, claim-mark
 use Rattle.claims.proofs.claims_derivable.Goals as goal
 
 pub returns-then-events-k : goal.returns-then-events-k
-returns-then-events-k c sc d run p at trusts = past-none at c.before.before.before.before.args.j c.if1.true
+returns-then-events-k c sc d run p at trusts = past-none at c.args.j c.if-events-k.true
 
 pub cell-c-requires : goal.cell-c-requires
 cell-c-requires c =
-    
     let w = c.requires.0 in
     (row-below c.args.file.now c.args.r c.args.k c.args.j _ w c.event_of-e.ensures (omega (arith, c.if-events-k.false)), omega (arith, w.1.0.few, w.1.1.1))
 
 pub returns-then-e-eq-CLAIM : goal.returns-then-e-eq-CLAIM
 returns-then-e-eq-CLAIM c sc d run p at trusts =
-    let s = c.before.before.before.before.before.before.before.before.before in
-    let e = c.before.before.before.before.event-of in
-    claim-marked at s.args.j e.result e.ensures (omega (arith, c.before.before.before.before.before.if1.false)) trusts c.before.before.if2.true c.before.cell.ensures.0
+    let e = c.event_of-e in
+    claim-marked at c.args.j e.result e.ensures (omega (arith, c.if-events-k.false)) trusts c.if-e-eq-CLAIM.true c.cell-c.ensures.0
 
 pub returns : goal.returns
 returns c sc d run p at trusts =
-    let s = c.before.before.before.before.before.before.before in
-    let e = c.before.before.event-of in
-    other_none at s.args.j e.result e.ensures (omega (arith, c.before.before.before.if1.false)) c.if2.false
+    let e = c.event_of-e in
+    other_none at c.args.j e.result e.ensures (omega (arith, c.if-events-k.false)) c.if-e-eq-CLAIM.false

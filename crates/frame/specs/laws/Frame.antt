@@ -4,7 +4,7 @@ use Rattle.std.proofs.Common.{zero-add, arith, ap, ◌∙◌, true≢false, le-l
 use Rattle.std.proofs.Math.Path.{refl, sym}
 use Rattle.std.proofs.Math.Option.{Option, none, some}
 use Rattle.std.proofs.lemmas.Bool.{lt-leb}
-use Rattle.std.proofs.Math.Dec.{not_t}
+use Rattle.std.proofs.Math.Dec.{not_T}
 use Rattle.semantics.specs.Answer.{checked, ◌>>◌}
 use Rattle.semantics.proofs.laws.Test.{both_left, both_right, provided-none, not-not, passes-true}
 use Rattle.semantics.specs.Frame.{block_length, budget_of, framed, unversioned, too_long, misframed, block_from, block}
@@ -200,7 +200,7 @@ framing-framed file e =
     }
   where
     not-long : (T (ltb 4096 (length file)) → ⊥) → length file ≤ 4096
-    not-long n = nltb→le 4096 (length file) (not_t (ltb 4096 (length file)) n)
+    not-long n = nltb→le 4096 (length file) (not_T (ltb 4096 (length file)) n)
 
 -- a part of a slice, from a start on
 pub part-front : (s : List ℕ) {l : ℕ} → l ≡ block_length s → take (2 + l - 2) (drop 2 s) ≡ take (block_length s) (drop 2 s)

@@ -16,20 +16,18 @@ returns-then-r-eq0 t c = stays
 
 pub build-requires : goal.build-requires
 build-requires t c =
-    
-    (omega (arith, c.requires.0, c.if-r-gt16.true), (c.requires.1.0, (c.requires.1.1.0, (c.requires.1.1.1.0, omega (arith, c.requires.1.1.1.1)))))
+    (omega (arith, c.if-r-gt16.true), (c.requires.0, (c.requires.1.0, (c.requires.1.1.0, omega (arith, c.requires.1.1.1)))))
 
 pub loop-y-init : goal.loop-y-init
 loop-y-init t c =
     (
       ⊎_elim (λ w. omega (arith, w.6)) (λ w. omega (arith, w.2)) c.if-r-gt16.branch-raw,
-      (⊎_elim (λ w. ap length w.5 ∙ w.2.kept.0 ∙ c.requires.1.0) (λ w. ap length w.1 ∙ c.requires.1.0) c.if-r-gt16.branch-raw, stays),
+      (⊎_elim (λ w. ap length w.5 ∙ w.2.kept.0 ∙ c.requires.0) (λ w. ap length w.1 ∙ c.requires.0) c.if-r-gt16.branch-raw, stays),
     )
 
 pub build_row-requires : goal.build_row-requires
 build_row-requires t c =
-    
-    (c.loop-y.invariant.1.0, (c.requires.1.1.0, (c.requires.1.1.1.0, omega (arith, c.requires.1.1.1.1, c.loop-y-test.true))))
+    (c.loop-y.invariant.1.0, (c.requires.1.0, (c.requires.1.1.0, omega (arith, c.requires.1.1.1, c.loop-y-test.true))))
 
 pub loop-y-preserved : goal.loop-y-preserved
 loop-y-preserved t c = (omega (arith, c.loop-y-test.true), (c.build_row.auto.0 ∙ c.loop-y.invariant.1.0, reaches-on c.loop-y.invariant.1.1 c.build_row.ensures))

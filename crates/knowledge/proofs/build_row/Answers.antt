@@ -17,13 +17,11 @@ loop-u-init c = (omega arith, (refl, stays))
 
 pub class_at-requires : goal.class_at-requires
 class_at-requires c =
-    
     let low = parts_below c.args.t.now c.args.n c.args.runs c.requires.1.0 c.args.x c.requires.1.1.1 c.kind_of.ensures.0 c.if-kind_of-lt-PAIR.false c.left_of-l.ensures.0 c.right_of-s.ensures.0 in
     (c.requires.1.1.0, (omega (arith, low.0, low.1), omega (arith, c.requires.1.0.few_runs, c.loop-u-test.true)))
 
 pub class_at-requires-then-is_marked : goal.class_at-requires-then-is_marked
 class_at-requires-then-is_marked c =
-    
     let low = parts_below c.args.t.now c.args.n c.args.runs c.requires.1.0 c.args.x c.requires.1.1.1 c.kind_of.ensures.0 c.if-kind_of-lt-PAIR.false c.left_of-l.ensures.0 c.right_of-s.ensures.0 in
     (c.requires.1.1.0, (omega (arith, low.0, low.1), omega (arith, c.requires.1.0.few_runs, c.loop-u-test.true)))
 

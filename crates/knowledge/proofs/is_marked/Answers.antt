@@ -5,5 +5,4 @@ use Rattle.knowledge.proofs.is_marked.Goals as goal
 
 pub returns : goal.returns
 returns c =
-    
     off c.args.marks.now c.requires c.if-class-lt-ABSENT.false

@@ -11,26 +11,23 @@ use Rattle.knowledge.specs.Marks.{Learnt, LearnsCell, was_marked, is_worked}
 use Rattle.knowledge.specs.laws.Learn.{learnt-exact}
 use Rattle.knowledge.proofs.learn.Goals as goal
 
--- what is found, by the arguments
-abbrev Found : goal.Start → List Bool → Type 0
-Found s more = Learnt (rows_of s.args.t.now) s.args.runs s.args.classes.now s.args.r s.args.u s.args.t1 more
-
 -- with it the marks are exact
-exact : (c : goal.After-cell-c) (more : List Bool) → Found s more
-    → LearnsCell (rows_of c.args.t.now) c.args.runs c.args.classes.now c.args.r c.args.u c.args.t1 more
+exact : (c : goal.After-cell-c) (more : List Bool) → Found more
+    → LearnsCell (rows_of c.args.t.now) c.args.runs c.args.classes.now c.args.r c.args.u c.args.marks more
 exact c more learnt =
-    
     let at = c.cell-c.ensures in
     let within : Within (rows_of c.args.t.now) c.args.runs c.args.r c.args.u = record { row = omega (arith, c.requires.0.count, c.requires.1.1.0); run = c.requires.1.1.1 } in
-    let size : length c.args.t1 ≡ 480 = search rules in
-    learnt-exact (rows_of c.args.t.now) (omega (arith, c.requires.0.few, c.requires.0.count)) c.args.runs c.args.r c.args.u within c.args.classes.now c.args.t1 size (omega (arith, at.0, at.1)) learnt
+    let size : length c.args.marks ≡ 480 = search rules in
+    learnt-exact (rows_of c.args.t.now) (omega (arith, c.requires.0.few, c.requires.0.count)) c.args.runs c.args.r c.args.u within c.args.classes.now c.args.marks size (omega (arith, at.0, at.1)) learnt
 
 pub returns-then-marks-c : goal.returns-then-marks-c
 returns-then-marks-c c =
-    let learnt : Found c.before.before.before.before c.args.t1 = was_marked (rw (← c.cell-c.ensures.0) c.if-marks-c.true) in
+    let Found : List Bool → Type 0 = λ more. Learnt (rows_of c.args.t.now) c.args.runs c.args.classes.now c.args.r c.args.u c.args.marks more in
+    let learnt : Found c.args.marks = was_marked (rw (← c.cell-c.ensures.0) c.if-marks-c.true) in
     (learnt, exact c.before _ learnt)
 
 pub returns : goal.returns
 returns c =
-    let learnt : Found c.before.before.before.before.before c.settle.result = is_worked {more = c.settle.result} (rw (← c.cell-c.ensures.0) c.settle.ensures) in
+    let Found : List Bool → Type 0 = λ more. Learnt (rows_of c.args.t.now) c.args.runs c.args.classes.now c.args.r c.args.u c.args.marks more in
+    let learnt : Found c.settle.result = is_worked {more = c.settle.result} (rw (← c.cell-c.ensures.0) c.settle.ensures) in
     (learnt, exact c.before.before _ learnt)

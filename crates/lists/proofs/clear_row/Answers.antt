@@ -24,8 +24,7 @@ bounds-clear-right_of c =
     omega (arith, right-lower c.args.t.now c.requires.0.table c.args.r (omega (arith, c.requires.0.count)) (omega arith), c.requires.0.few)
 
 pub returns-then-clear-left_of : goal.returns-then-clear-left_of
-returns-then-clear-left_of c = 
-    
+returns-then-clear-left_of c =
     rw (← c.kind_of-kind.ensures.0, c.right_of.ensures.0) (clear-two _ _ _ _ _ c.if-kind-lt-SHARED_KEY.false (rw (← c.left_of.ensures.0) c.if-clear-left_of.true))
 
 pub returns : goal.returns

@@ -22,6 +22,5 @@ loop-r-preserved c =
     )
 
 pub returns : goal.returns
-returns c = 
-    
+returns c =
     cleared-all c.args.t.now c.args.n c.args.low c.args.high c.loop-r.clear c.loop-r.r c.requires c.loop-r-test.false c.loop-r.invariant.1.0 c.loop-r.invariant.1.1

@@ -12,50 +12,38 @@ use Rattle.lists.specs.Lists.{has_value}
 use Rattle.lists.specs.laws.Knowledge.{marked-absent, marked-not, marked-is, unfit_left, unfit-all, unfit-none, unfit-low, unfit-here, unfit-later}
 use Rattle.lists.proofs.unfit_row.Goals as goal
 
--- which rows are marked
-abbrev marked : goal.Start → ℕ → Bool
-marked s = has_value s.args.n s.args.clear.now
-
--- the loop's head and the function's entry
-abbrev head : goal.After-wide-r → goal.At-loop-i
-head c = c.before.before.before
-
-abbrev start : goal.At-loop-i → goal.Start
-start l = l.before.before.before
-
 pub loop-i-init : goal.loop-i-init
-loop-i-init c = (omega arith, unfit-all (marked s) c.args.base c.args.b.now)
+loop-i-init c =
+    let marked : ℕ → Bool = has_value c.args.n c.args.clear.now in
+    (omega arith, unfit-all (marked) c.args.base c.args.b.now)
 
 pub returns-then-r-least : goal.returns-then-r-least
-returns-then-r-least c = 
-    let l = head d in
-    let s = start l in
-    sym (ap place_as (l.loop.inv.1 ∙ unfit-low (marked s) s.args.base s.args.b.now l.loop.least l.loop.i (omega arith) c.wide-r.result c.wide-r.ensures.0 c.if-r-least.true))
+returns-then-r-least c =
+    let marked : ℕ → Bool = has_value c.args.n c.args.clear.now in
+    sym (ap place_as (c.loop-i.invariant.1 ∙ unfit-low (marked) c.args.base c.args.b.now c.loop-i.least c.loop-i.i (omega arith) c.wide-r.result c.wide-r.ensures.0 c.if-r-least.true))
 
 pub returns-then-n-r : goal.returns-then-n-r
-returns-then-n-r c = 
-    let l = head d in
-    let s = start l in
-    sym (ap place_as (l.loop.inv.1 ∙ unfit-here (marked s) s.args.base s.args.b.now l.loop.least l.loop.i (omega arith) c.wide-r.result c.wide-r.ensures.0 c.if-r-least.false
-    (marked-absent s.args.n s.args.clear.now c.wide-r.result c.if-n-r.true)))
+returns-then-n-r c =
+    let marked : ℕ → Bool = has_value c.args.n c.args.clear.now in
+    sym (ap place_as (c.loop-i.invariant.1 ∙ unfit-here (marked) c.args.base c.args.b.now c.loop-i.least c.loop-i.i (omega arith) c.wide-r.result c.wide-r.ensures.0 c.if-r-least.false
+    (marked-absent c.args.n c.args.clear.now c.wide-r.result c.if-n-r.true)))
 
 pub returns-then-not-clear-r : goal.returns-then-not-clear-r
-returns-then-not-clear-r c = 
-    let l = head d in
-    let s = start l in
-    sym (ap place_as (l.loop.inv.1 ∙ unfit-here (marked s) s.args.base s.args.b.now l.loop.least l.loop.i (omega arith) c.wide-r.result c.wide-r.ensures.0 c.if-r-least.false
-    (marked-not s.args.n s.args.clear.now c.wide-r.result (not-true _ c.if-not-clear-r.true))))
+returns-then-not-clear-r c =
+    let marked : ℕ → Bool = has_value c.args.n c.args.clear.now in
+    sym (ap place_as (c.loop-i.invariant.1 ∙ unfit-here (marked) c.args.base c.args.b.now c.loop-i.least c.loop-i.i (omega arith) c.wide-r.result c.wide-r.ensures.0 c.if-r-least.false
+    (marked-not c.args.n c.args.clear.now c.wide-r.result (not-true _ c.if-not-clear-r.true))))
 
 pub loop-i-preserved : goal.loop-i-preserved
-loop-i-preserved c = 
-    let l = head d in
-    let s = start l in (
+loop-i-preserved c =
+    let marked : ℕ → Bool = has_value c.args.n c.args.clear.now in
+    (
       omega arith,
-      l.loop.inv.1 ∙ unfit-later (marked s) s.args.base s.args.b.now l.loop.least l.loop.i (omega arith) c.wide-r.result c.wide-r.ensures.0 c.if-r-least.false
-          (marked-is s.args.n s.args.clear.now c.wide-r.result c.if-n-r.false (not-false _ c.if-not-clear-r.false)),
+      c.loop-i.invariant.1 ∙ unfit-later (marked) c.args.base c.args.b.now c.loop-i.least c.loop-i.i (omega arith) c.wide-r.result c.wide-r.ensures.0 c.if-r-least.false
+          (marked-is c.args.n c.args.clear.now c.wide-r.result c.if-n-r.false (not-false _ c.if-not-clear-r.false)),
     )
 
 pub returns : goal.returns
-returns c = 
-    let s = start l in
-    sym (ap place_as (c.loop-i.invariant.1 ∙ unfit-none (marked s) s.args.base s.args.b.now c.loop-i.least c.loop-i.i c.loop-i-test.false))
+returns c =
+    let marked : ℕ → Bool = has_value c.args.n c.args.clear.now in
+    sym (ap place_as (c.loop-i.invariant.1 ∙ unfit-none (marked) c.args.base c.args.b.now c.loop-i.least c.loop-i.i c.loop-i-test.false))

@@ -5,11 +5,11 @@ use Rattle.moves.specs.laws.After.{marks-kept, marks-sent}
 use Rattle.moves.proofs.perform.Goals as goal
 
 pub returns-then-e-ne-SEND : goal.returns-then-e-ne-SEND
-returns-then-e-ne-SEND c m d' allowed = marks-kept m d' allowed c.if1.true
+returns-then-e-ne-SEND c m d' allowed = marks-kept m d' allowed c.if-e-ne-SEND.true
 
 pub learn-term-requires : goal.learn-term-requires
 learn-term-requires c = (c.requires.0, (c.requires.1.1, (c.requires.1.0.term, omega (arith, c.requires.1.0.is_run))))
 
 pub returns : goal.returns
 returns c m d' allowed =
-    marks-sent m d' allowed c.before.before.before.if1.false c.before.before.learn.result c.before.learn2.result c.learn3.result c.before.before.learn.ensures.1 c.before.learn2.ensures.1 c.learn3.ensures.1
+    marks-sent m d' allowed c.if-e-ne-SEND.false c.learn-term.result c.learn-receiver.result c.learn.result c.learn-term.ensures.1 c.learn-receiver.ensures.1 c.learn.ensures.1

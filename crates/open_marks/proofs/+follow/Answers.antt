@@ -9,15 +9,13 @@ use Rattle.open_marks.proofs.+follow.Goals as goal
 
 pub bounds-more-s : goal.bounds-more-s
 bounds-more-s t c =
-    
-    let low = parts-lower c.args.t.now c.args.n c.requires.1.1.1.0 c.args.x c.requires.1.1.1.1.1.1 c.kind_of-kind.ensures.0 (omega (arith, c.if-kind-eq-PAIR.true)) in
-    omega (arith, c.right_of-s.ensures.0, c.requires.1.1.1.1.1.1, c.requires.1.1.1.0.few, c.requires.1.0)
+    let low = parts-lower c.args.t.now c.args.n c.requires.1.1.0 c.args.x c.requires.1.1.1.1.1 c.kind_of-kind.ensures.0 (omega (arith, c.if-kind-eq-PAIR.true)) in
+    omega (arith, c.right_of-s.ensures.0, c.requires.1.1.1.1.1, c.requires.1.1.0.few, c.requires.0)
 
 pub follow-requires : goal.follow-requires
 follow-requires t c =
-    
-    let low = parts-lower c.args.t.now c.args.n c.requires.1.1.1.0 c.args.x c.requires.1.1.1.1.1.1 c.kind_of-kind.ensures.0 (omega (arith, c.if-kind-eq-PAIR.true)) in
-    (omega (arith, c.left_of-l.ensures.0, c.requires.0), (simp length-set c.requires.1.0, (simp length-set c.requires.1.1.0, (c.requires.1.1.1.0, (c.requires.1.1.1.1.0, (c.requires.1.1.1.1.1.0, omega (arith, c.left_of-l.ensures.0, c.requires.1.1.1.1.1.1)))))))
+    let low = parts-lower c.args.t.now c.args.n c.requires.1.1.0 c.args.x c.requires.1.1.1.1.1 c.kind_of-kind.ensures.0 (omega (arith, c.if-kind-eq-PAIR.true)) in
+    (omega (arith, c.left_of-l.ensures.0), (simp length-set c.requires.0, (simp length-set c.requires.1.0, (c.requires.1.1.0, (c.requires.1.1.1.0, (c.requires.1.1.1.1.0, omega (arith, c.left_of-l.ensures.0, c.requires.1.1.1.1.1)))))))
 
 pub shape_of-more-then-notes-x-eq1 : goal.shape_of-more-then-notes-x-eq1
 shape_of-more-then-notes-x-eq1 t c =
@@ -29,15 +27,13 @@ shape_of-way-then-notes-x-eq1 t c =
 
 pub bounds-more-l : goal.bounds-more-l
 bounds-more-l t c =
-    
-    let low = parts-lower c.args.t.now c.args.n c.requires.1.1.1.0 c.args.x c.requires.1.1.1.1.1.1 c.kind_of-kind.ensures.0 (omega (arith, c.if-kind-eq-PAIR.true)) in
-    omega (arith, c.left_of-l.ensures.0, c.requires.1.1.1.1.1.1, c.requires.1.1.1.0.few, c.requires.1.0)
+    let low = parts-lower c.args.t.now c.args.n c.requires.1.1.0 c.args.x c.requires.1.1.1.1.1 c.kind_of-kind.ensures.0 (omega (arith, c.if-kind-eq-PAIR.true)) in
+    omega (arith, c.left_of-l.ensures.0, c.requires.1.1.1.1.1, c.requires.1.1.0.few, c.requires.0)
 
 pub follow-requires-then-notes-x-eq2 : goal.follow-requires-then-notes-x-eq2
 follow-requires-then-notes-x-eq2 t c =
-    
-    let low = parts-lower c.args.t.now c.args.n c.requires.1.1.1.0 c.args.x c.requires.1.1.1.1.1.1 c.kind_of-kind.ensures.0 (omega (arith, c.if-kind-eq-PAIR.true)) in
-    (omega (arith, c.right_of-s.ensures.0, c.requires.0), (simp length-set c.requires.1.0, (simp length-set c.requires.1.1.0, (c.requires.1.1.1.0, (c.requires.1.1.1.1.0, (c.requires.1.1.1.1.1.0, omega (arith, c.right_of-s.ensures.0, c.requires.1.1.1.1.1.1)))))))
+    let low = parts-lower c.args.t.now c.args.n c.requires.1.1.0 c.args.x c.requires.1.1.1.1.1 c.kind_of-kind.ensures.0 (omega (arith, c.if-kind-eq-PAIR.true)) in
+    (omega (arith, c.right_of-s.ensures.0), (simp length-set c.requires.0, (simp length-set c.requires.1.0, (c.requires.1.1.0, (c.requires.1.1.1.0, (c.requires.1.1.1.1.0, omega (arith, c.right_of-s.ensures.0, c.requires.1.1.1.1.1)))))))
 
 pub shape_of-more-then-notes-x-eq2 : goal.shape_of-more-then-notes-x-eq2
 shape_of-more-then-notes-x-eq2 t c =
@@ -49,9 +45,8 @@ shape_of-way-then-notes-x-eq2 t c =
 
 pub follow-requires-then-notes-x-ne3 : goal.follow-requires-then-notes-x-ne3
 follow-requires-then-notes-x-ne3 t c =
-    
-    let low = parts-lower c.args.t.now c.args.n c.requires.1.1.1.0 c.args.x c.requires.1.1.1.1.1.1 c.kind_of-kind.ensures.0 (omega (arith, c.if-kind-eq-ENCRYPTED.true)) in
-    (omega (arith, c.left_of.ensures.0, c.requires.0), (c.requires.1.0, (simp length-set c.requires.1.1.0, (c.requires.1.1.1.0, (c.requires.1.1.1.1.0, (c.requires.1.1.1.1.1.0, omega (arith, c.left_of.ensures.0, c.requires.1.1.1.1.1.1)))))))
+    let low = parts-lower c.args.t.now c.args.n c.requires.1.1.0 c.args.x c.requires.1.1.1.1.1 c.kind_of-kind.ensures.0 (omega (arith, c.if-kind-eq-ENCRYPTED.true)) in
+    (omega (arith, c.left_of.ensures.0), (c.requires.0, (simp length-set c.requires.1.0, (c.requires.1.1.0, (c.requires.1.1.1.0, (c.requires.1.1.1.1.0, omega (arith, c.left_of.ensures.0, c.requires.1.1.1.1.1)))))))
 
 pub shape_of-more-then-notes-x-ne3 : goal.shape_of-more-then-notes-x-ne3
 shape_of-more-then-notes-x-ne3 t c =

@@ -16,7 +16,6 @@ returns-then-not-marks-x c = λ e. absurd (false≢true e)
 
 pub loop-x-preserved : goal.loop-x-preserved
 loop-x-preserved c =
-    
     (
       omega arith,
       stands-more c.args.marks.now c.args.notes.now c.args.slot c.loop-x.x c.loop-x.invariant.1

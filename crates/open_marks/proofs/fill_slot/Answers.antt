@@ -14,7 +14,6 @@ bounds-notes-slot c = omega (arith, c.loop-x.invariant.1.size)
 
 pub loop-x-preserved : goal.loop-x-preserved
 loop-x-preserved c =
-    
     (
       omega arith,
       filled_more c.args.marks.now c.args.slot c.loop-x.x c.args.notes.now c.loop-x.notes c.byte_of.result (omega arith) (omega (arith, c.loop-x.invariant.1.size)) c.byte_of.ensures c.loop-x.invariant.1,
@@ -25,6 +24,5 @@ shape_of-notes c = c.loop-x.invariant.1.size
 
 pub returns : goal.returns
 returns c =
-    
     
     filled-less c.args.n c.args.marks.now c.args.slot c.loop-x.x c.args.notes.now c.loop-x.notes (omega (arith, c.loop-x-test.false)) c.loop-x.invariant.1

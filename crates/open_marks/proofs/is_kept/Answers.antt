@@ -7,7 +7,6 @@ use Rattle.open_marks.proofs.is_kept.Goals as goal
 
 pub returns-then-covers : goal.returns-then-covers
 returns-then-covers c =
-    
     λ e. (c.loop-slot.slot, c.loop-slot-test.true, sym c.wide.ensures.0 ∙ c.if-wide-x.true, c.covers.ensures c.if-covers.true)
 
 pub returns : goal.returns

@@ -7,9 +7,9 @@ use Rattle.read_completions.proofs.is_empty.Goals as goal
 
 pub returns-then-size-eq0 : goal.returns-then-size-eq0
 returns-then-size-eq0 c some =
-    let l = c.before.before.before.before.loop.i in
-    let w = some l c.before.before.if1.true in
-    absurd (omega (arith, c.before.size.ensures.1 w.0 w.1.0 w.1.1, c.if2.true))
+    let l = c.loop-i.i in
+    let w = some l c.loop-i-test.true in
+    absurd (omega (arith, c.size.ensures.1 w.0 w.1.0 w.1.1, c.if-size-eq0.true))
 
 pub returns : goal.returns
 returns c some = refl

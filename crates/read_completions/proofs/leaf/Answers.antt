@@ -9,27 +9,22 @@ use Rattle.read_completions.proofs.leaf.Goals as goal
 
 pub returns-then-slot-vars : goal.returns-then-slot-vars
 returns-then-slot-vars c t classes marks ready =
-    let s = c.before.before.before.before in
-    misses-none-all ready.scene s.args.dom.now s.args.i s.args.r
+    misses-none-all ready.scene c.args.dom.now c.args.i c.args.r
 
 pub returns-then-slot-i : goal.returns-then-slot-i
 returns-then-slot-i c t classes marks ready =
-    let s = c.before.before.before.before.before.before in
-    let at = slot_at c.before.before.before.before.slot_of.ensures c.before.before.if1.false in
-    misses-none-own ready.scene s.args.dom.now s.args.i s.args.r s.args.marked.now ready.known s.requires.0 (ap (λ (j : ℕ). get_or s.args.pattern.vars.rows j 0) (sym c.before.if2.true) ∙ at.1) c.domain-of.result c.domain-of.ensures
+    let at = slot_at c.slot_of-slot.ensures c.if-slot-vars.false in
+    misses-none-own ready.scene c.args.dom.now c.args.i c.args.r c.args.marked.now ready.known c.requires.0 (ap (λ (j : ℕ). get_or c.args.pattern.vars.rows j 0) (sym c.if-slot-i.true) ∙ at.1) c.domain_of.result c.domain_of.ensures
 
 pub meet-requires : goal.meet-requires
 meet-requires c =
-    
     omega (arith, c.requires.1, (slot_at c.slot_of-slot.ensures c.if-slot-vars.false).0)
 
 pub returns-then-meet : goal.returns-then-meet
 returns-then-meet c t classes marks ready =
-    let s = c.before.before.before.before.before.before.before in
-    misses-none-all ready.scene s.args.dom.now s.args.i s.args.r
+    misses-none-all ready.scene c.args.dom.now c.args.i c.args.r
 
 pub returns : goal.returns
 returns c t classes marks ready =
-    let s = c.before.before.before.before.before.before.before in
-    let at = slot_at c.before.before.before.before.before.slot_of.ensures c.before.before.before.if1.false in
-    misses-none-never ready.scene s.args.dom.now s.args.i s.args.r s.args.marked.now ready.known at.0 at.1 c.before.meet.ensures c.if3.false _
+    let at = slot_at c.slot_of-slot.ensures c.if-slot-vars.false in
+    misses-none-never ready.scene c.args.dom.now c.args.i c.args.r c.args.marked.now ready.known at.0 at.1 c.meet.ensures c.if-meet.false _

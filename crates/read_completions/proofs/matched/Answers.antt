@@ -12,12 +12,10 @@ use Rattle.read_completions.proofs.matched.Goals as goal
 
 pub loop-c-init : goal.loop-c-init
 loop-c-init c =
-    
     (omega arith, matched-none c.requires.0 c.args.dom.now c.args.i c.args.r (replicate cell_count false))
 
 pub admit-more-requires : goal.admit-more-requires
 admit-more-requires c =
-    
     (c.requires.1.0, (c.requires.0.low.few, λ j l. omega (arith, c.requires.0.low.row j l, c.requires.0.shape.few)))
 
 pub loop-c-smaller : goal.loop-c-smaller
@@ -25,11 +23,9 @@ loop-c-smaller c = omega (arith, c.loop-c-test.true)
 
 pub loop-c-preserved : goal.loop-c-preserved
 loop-c-preserved c =
-    
     let l = c.loop-c in
     (omega (arith, c.loop-c-test.true), ⊎_elim (λ w. rw w.3 (matched-more c.requires.0 c.args.dom.now c.args.i c.args.r c.requires.1.0 l.invariant.1 w.1.ensures w.2.ensures)) (λ w. rw w.1 (matched-unmarked c.requires.0 c.args.dom.now c.args.i c.args.r l.set w.0.false l.invariant.1)) c.if-marks-c.branch-raw)
 
 pub returns : goal.returns
 returns c =
-    
     matched-all c.requires.0 c.args.dom.now c.args.i c.args.r c.loop-c.set (omega (arith, c.loop-c-test.false)) c.loop-c.invariant.1

@@ -12,17 +12,14 @@ loop-i-init c = (omega arith, λ k within d. within)
 
 pub is_open-requires : goal.is_open-requires
 is_open-requires c =
-    
     omega (arith, c.requires.scene.low.few, c.loop-i-test.true)
 
 pub set_of-set-requires : goal.set_of-set-requires
 set_of-set-requires c =
-    
     (c.requires, c.loop-i-test.true)
 
 pub narrow-next-requires : goal.narrow-next-requires
 narrow-next-requires c =
-    
     omega (arith, c.requires.scene.low.few, c.loop-i-test.true)
 
 pub loop-i-smaller : goal.loop-i-smaller
@@ -30,7 +27,6 @@ loop-i-smaller c = omega (arith, c.loop-i-test.true)
 
 pub loop-i-preserved : goal.loop-i-preserved
 loop-i-preserved c =
-    
     let l = c.loop-i in
     (omega (arith, c.loop-i-test.true), ⊎_elim (λ w. rw w.4 (kept_more c.requires.scene c.args.dom c.loop-i-test.true l.less w.2.result w.3.result l.invariant.1 w.2.ensures w.3.ensures)) (λ w. rw w.1 l.invariant.1) c.if-is_open.branch-raw)
 

@@ -12,22 +12,18 @@ loop-round-init c = (omega arith, λ k within d. within)
 
 pub total-before-requires : goal.total-before-requires
 total-before-requires c =
-    
     c.requires.scene.low.few
 
 pub narrowed-next-requires : goal.narrowed-next-requires
 narrowed-next-requires c =
-    
     c.requires
 
 pub total-requires : goal.total-requires
 total-requires c =
-    
     c.requires.scene.low.few
 
 pub returns-then-total-before : goal.returns-then-total-before
 returns-then-total-before c =
-    
     let l = c.loop-round in
     kept-both c.requires.scene c.args.dom l.less c.narrowed-next.result l.invariant.1 c.narrowed-next.ensures
 
@@ -36,7 +32,6 @@ loop-round-smaller c = omega (arith, c.loop-round-test.true)
 
 pub loop-round-preserved : goal.loop-round-preserved
 loop-round-preserved c =
-    
     let l = c.loop-round in
     (omega (arith, c.loop-round-test.true), kept-both c.requires.scene c.args.dom l.less c.narrowed-next.result l.invariant.1 c.narrowed-next.ensures)
 

@@ -6,5 +6,4 @@ use Rattle.read_completions.proofs.smallest.Goals as goal
 
 pub bounds-under-rows : goal.bounds-under-rows
 bounds-under-rows c =
-    
     c.requires.1 c.loop-i.i c.loop-i-test.true

@@ -7,22 +7,18 @@ use Rattle.read_completions.proofs.tied.Goals as goal
 
 pub sizes-counts-requires : goal.sizes-counts-requires
 sizes-counts-requires c =
-    
     c.requires.1.1.1.few
 
 pub class_at-requires : goal.class_at-requires
 class_at-requires c =
-    
     search rules
 
 pub beneath-requires : goal.beneath-requires
 beneath-requires c =
-    
     (shape-sized c.requires.0, c.loop-r-test.true)
 
 pub smallest-best-requires : goal.smallest-best-requires
 smallest-best-requires c =
-    
     (c.requires.1.1.1.few, λ j l. omega (arith, c.requires.1.1.1.row j l, c.requires.0.few))
 
 pub loop-r-smaller : goal.loop-r-smaller

@@ -18,7 +18,6 @@ loop-c-init c = (omega arith, (length-replicate {A = Bool} cell_count false, λ 
 pub loop-c-preserved : goal.loop-c-preserved
 loop-c-preserved c =
     
-    
     (omega (arith, c.loop-c-test.true), (simp length-set c.loop-c.invariant.1.0, one_more (InRow c.args.dom.now c.args.i) (λ e. e) c.loop-c.c c.loop-c.set _ (omega (arith, c.loop-c.invariant.1.0, c.loop-c-test.true)) (λ p. p) (λ e q. q) c.loop-c.invariant.1.1))
 
 pub returns : goal.returns

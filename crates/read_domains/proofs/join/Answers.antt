@@ -11,11 +11,10 @@ use borrow.Author.Rules.{rules}
 use Rattle.read_domains.proofs.join.Goals as goal
 
 pub loop-c-init : goal.loop-c-init
-loop-c-init c = (omega arith, joins-start c.args.set c.args.sets.now c.args.l c.args.s c.well-formed.0.1.0.1)
+loop-c-init c = (omega arith, joins-start c.args.set c.args.sets.now c.args.l c.args.s c.well_formed.0.1.0.1)
 
 pub loop-c-preserved : goal.loop-c-preserved
 loop-c-preserved c =
-    
     (omega (arith, c.loop-c-test.true), ⊎_elim (λ w. rw w.3 (joins_set c.loop-c-test.true c.loop-c.invariant.1)) (⊎_elim (λ w. rw w.3 (joins-skip (λ p q. false≢true (sym w.2.false ∙ q)) c.loop-c.invariant.1)) (λ w. rw w.1 (joins-skip (λ p q. false≢true (sym w.0.false ∙ p)) c.loop-c.invariant.1))) c.if-sets-l.branch-raw)
 
 pub returns : goal.returns

@@ -14,7 +14,6 @@ use Rattle.read_domains.proofs.meet.Goals as goal
 pub loop-c-preserved : goal.loop-c-preserved
 loop-c-preserved c =
     
-    
     (omega (arith, c.loop-c-test.true), none_more (λ e. InRow c.args.dom.now c.args.i e × InRow c.args.other.now c.args.i e) c.loop-c.c c.loop-c.invariant.1 (λ p. ⊎_elim (λ w. false≢true (sym w.2.false ∙ p.1)) (λ w. false≢true (sym w.left ∙ p.0)) c.if-dom-i.branch-raw))
 
 pub returns : goal.returns

@@ -9,4 +9,4 @@ use Rattle.read_domains.proofs.narrow_to.Goals as goal
 
 pub returns : goal.returns
 returns c j d low within is same =
-    c.narrow.ensures j d low within is (λ e. in-set (replicate cell_count false) (omega (arith, c.before.requires.1, length-replicate {A = Bool} cell_count false)) (same e))
+    c.narrow.ensures j d low within is (λ e. in-set (replicate cell_count false) (omega (arith, c.requires.1, length-replicate {A = Bool} cell_count false)) (same e))

@@ -8,11 +8,10 @@ use borrow.Author.Rules.{rules}
 use Rattle.read_domains.proofs.put.Goals as goal
 
 pub loop-c-init : goal.loop-c-init
-loop-c-init c = (omega arith, row-put-start c.args.sets.now c.args.r c.args.t3)
+loop-c-init c = (omega arith, row-put-start c.args.sets.now c.args.r c.args.set)
 
 pub loop-c-preserved : goal.loop-c-preserved
 loop-c-preserved c =
-    
     
     (omega (arith, c.loop-c-test.true), row-put-more c.requires.0 c.requires.1 c.loop-c-test.true c.loop-c.invariant.1)
 

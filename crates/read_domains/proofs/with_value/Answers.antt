@@ -7,15 +7,12 @@ use Rattle.read_domains.proofs.with_value.Goals as goal
 
 pub returns-then-not-marks-c : goal.returns-then-not-marks-c
 returns-then-not-marks-c c t n runs q =
-    let s = c.before.before.before.before.before in
-    listed-unmarked t n runs s.args.classes.now s.args.marks.now s.args.only q s.args.c s.args.set c.before.before.if1.true (not-true _ c.if2.true)
+    listed-unmarked t n runs c.args.classes.now c.args.marks.now c.args.only q c.args.c c.args.set c.if-only.true (not-true _ c.if-not-marks-c.true)
 
 pub returns-then-class-lt-ABSENT : goal.returns-then-class-lt-ABSENT
 returns-then-class-lt-ABSENT c t n runs q =
-    let s = c.before.before.before.before.before in
-    listed-set t n runs s.args.classes.now s.args.marks.now s.args.only q s.args.c s.args.set s.well-formed.0.1.0.1 c.before.class-at.ensures c.if3.true
+    listed-set t n runs c.args.classes.now c.args.marks.now c.args.only q c.args.c c.args.set c.well_formed.0.1.0.1 c.class_at-class.ensures c.if-class-lt-ABSENT.true
 
 pub returns-else-class-lt-ABSENT : goal.returns-else-class-lt-ABSENT
 returns-else-class-lt-ABSENT c t n runs q =
-    let s = c.before.before.before.before.before in
-    listed-absent t n runs s.args.classes.now s.args.marks.now s.args.only q s.args.c s.args.set c.before.class-at.ensures c.if3.false
+    listed-absent t n runs c.args.classes.now c.args.marks.now c.args.only q c.args.c c.args.set c.class_at-class.ensures c.if-class-lt-ABSENT.false

@@ -12,26 +12,22 @@ bounds-marks-peer c = omega (arith, c.requires.1.0.other, c.requires.0.few, c.re
 
 pub possible-requires : goal.possible-requires
 possible-requires c =
-    
     ((c.requires.0, (c.requires.1.1.0, (omega (arith, c.requires.1.0.is_run), c.requires.1.0.term))), c.requires.1.1.1)
 
 pub completes-requires : goal.completes-requires
 completes-requires c =
-    
     ((c.requires.0, (c.requires.1.1.0, (omega (arith, c.requires.1.0.is_run), c.requires.1.0.term))), c.requires.1.1.1)
 
 pub returns-then-possible : goal.returns-then-possible
 returns-then-possible c sc d s a from xs vs ws names next kind setting arrays takes =
-    let p = c.before.before.before.before.before.before.before.before.before.before in
-    values-refused p.requires.0 p.requires.1.0 from xs vs ws next kind setting arrays takes c.completes.result c.completes.ensures
+    values-refused c.requires.0 c.requires.1.0 from xs vs ws next kind setting arrays takes c.completes.result c.completes.ensures
 
 pub returns-else-possible : goal.returns-else-possible
 returns-else-possible c sc d s a from xs vs ws names next kind setting arrays takes answer =
-    let p = c.before.before.before.before.before.before.before.before.before in
-    row-refused p.requires.0 p.requires.1.0 from xs vs ws next kind setting arrays c.before.possible.result c.before.possible.ensures c.if3.false
+    row-refused c.requires.0 c.requires.1.0 from xs vs ws next kind setting arrays c.possible.result c.possible.ensures c.if-possible.false
 
 pub returns-else-marks-peer : goal.returns-else-marks-peer
-returns-else-marks-peer c sc d s a from xs vs ws names next kind setting arrays takes answer = let p = c.before.before.before.before.before.before.before in peer-refused p.requires.0 p.requires.1.0 from xs vs ws next kind setting arrays c.if2.false
+returns-else-marks-peer c sc d s a from xs vs ws names next kind setting arrays takes answer = peer-refused c.requires.0 c.requires.1.0 from xs vs ws next kind setting arrays c.if-marks-peer.false
 
 pub returns-else-marks-own : goal.returns-else-marks-own
-returns-else-marks-own c sc d s a from xs vs ws names next kind setting arrays takes answer = let p = c.before.before.before.before.before in own-refused p.requires.0 p.requires.1.0 from xs vs ws next kind setting arrays c.if1.false
+returns-else-marks-own c sc d s a from xs vs ws names next kind setting arrays takes answer = own-refused c.requires.0 c.requires.1.0 from xs vs ws next kind setting arrays c.if-marks-own.false

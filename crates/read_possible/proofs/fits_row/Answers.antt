@@ -14,7 +14,6 @@ loop-w-init c = (omega arith, λ v l. absurd (omega arith))
 
 pub loop-w-preserved : goal.loop-w-preserved
 loop-w-preserved c =
-    
     (omega arith, none_more (CanTake c.args.t.now c.args.scope.rows c.args.scope.runs c.args.classes.now c.args.scope.run c.args.marks.now c.args.r c.args.y) c.loop-w.w c.loop-w.invariant.1 (λ k. false≢true (sym c.if-fits_cell.false ∙ c.fits_cell.ensures k)))
 
 pub returns : goal.returns

@@ -11,22 +11,18 @@ use Rattle.read_possible.proofs.possible.Goals as goal
 
 pub beneath-below-requires : goal.beneath-below-requires
 beneath-below-requires c =
-    
     (shape-sized c.requires.0.0, c.requires.0.1.1.1)
 
 pub loop-r-init : goal.loop-r-init
 loop-r-init c =
-    
     (omega arith, tested-start c.args.t.now c.args.scope.runs c.args.classes.now c.args.marks.now c.args.scope.run)
 
 pub test_row-passes-requires : goal.test_row-passes-requires
 test_row-passes-requires c =
-    
     (c.loop-r.invariant.1, ((c.requires.0.0, (c.requires.0.1.0, (c.requires.0.1.1.0, omega (arith, c.loop-r-test.true)))), c.requires.1))
 
 pub loop-r-preserved : goal.loop-r-preserved
 loop-r-preserved c =
-    
     
     let k = c.loop-r-test.true in
     let few = c.requires.0.0.few in
@@ -34,5 +30,4 @@ loop-r-preserved c =
 
 pub returns : goal.returns
 returns c =
-    
     c.loop-r.invariant.1.each c.args.x (omega (arith, c.requires.0.0.few))

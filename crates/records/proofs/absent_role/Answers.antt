@@ -14,15 +14,13 @@ pub loop-r-init : goal.loop-r-init
 loop-r-init c = (omega arith, absent-all c.args.t.now c.args.roles c.args.base)
 
 pub returns-then-roles-left_of : goal.returns-then-roles-left_of
-returns-then-roles-left_of c = 
-    
+returns-then-roles-left_of c =
     
     sym (ap place_as (c.loop-r.invariant.1 ∙ absent-here c.args.t.now c.args.n c.args.roles c.args.base c.requires.0 c.loop-r.r c.loop-r-test.true
     (sym c.kind_of.ensures.0 ∙ c.if-kind_of-eq-ROLE.true) (omega arith)))
 
 pub loop-r-preserved : goal.loop-r-preserved
-loop-r-preserved c = 
-    
+loop-r-preserved c =
     (
       omega arith,
       c.loop-r.invariant.1 ∙ ⊎_elim
@@ -32,6 +30,5 @@ loop-r-preserved c =
     )
 
 pub returns : goal.returns
-returns c = 
-    
+returns c =
     sym (ap place_as (c.loop-r.invariant.1 ∙ absent_none c.args.t.now c.args.n c.args.roles c.args.base c.requires.0 c.loop-r.r c.loop-r-test.false))

@@ -11,33 +11,24 @@ use borrow.Author.Tests.{not-true, not-false}
 use Rattle.semantics.specs.Runs.{is_agent, atom_at}
 use Rattle.rows.specs.Rows.{rows_of}
 use Rattle.records.specs.laws.Runs.{AgentsFrom, agents-bad, agents-more, agents-all}
+use Rattle.records.proofs.agents_fit.Invariants.{agent}
 use Rattle.records.proofs.agents_fit.Goals as goal
 
--- whether a row is an agent's
-abbrev agent : List ℕ → ℕ → Bool
-agent t r = is_agent (atom_at (rows_of t) r)
-
--- what was found of the byte
-asked : (c : goal.After-is_agent) → 
-    
-    agent c.args.t.now (get_or c.args.s.now (1 + c.loop-i.i) 0) ≡ c.is_agent.result
-asked c = rw (← c.wide.ensures.0) (sym c.is_agent.ensures)
-
 pub returns-then-not-is_agent : goal.returns-then-not-is_agent
-returns-then-not-is_agent c = 
-    
+returns-then-not-is_agent c =
+    let asked : agent c.args.t.now (get_or c.args.s.now (1 + c.loop-i.i) 0) ≡ c.is_agent.result = rw (← c.wide.ensures.0) (sym c.is_agent.ensures) in
     sym (agents-bad (agent c.args.t.now) c.args.roles c.args.s.now c.loop-i.i c.loop-i.invariant.1 c.loop-i-test.true c.requires.1.0
-    (asked c.before ∙ not-true _ c.if-not-is_agent.true))
+    (asked ∙ not-true _ c.if-not-is_agent.true))
 
 pub loop-i-preserved : goal.loop-i-preserved
-loop-i-preserved c = 
+loop-i-preserved c =
+    let asked : agent c.args.t.now (get_or c.args.s.now (1 + c.loop-i.i) 0) ≡ c.is_agent.result = rw (← c.wide.ensures.0) (sym c.is_agent.ensures) in
     (
       omega arith,
       agents-more (agent c.args.t.now) c.args.roles c.args.s.now c.loop-i.i c.loop-i.invariant.1 c.loop-i-test.true c.requires.1.0
-          (asked c.before ∙ not-false _ c.if-not-is_agent.false),
+          (asked ∙ not-false _ c.if-not-is_agent.false),
     )
 
 pub returns : goal.returns
-returns c = 
-    
+returns c =
     sym (agents-all (agent c.args.t.now) c.args.roles c.args.s.now c.loop-i.i c.loop-i.invariant.1 c.loop-i-test.false)

@@ -13,6 +13,10 @@ use Rattle.rows.specs.Rows.{rows_of}
 use Rattle.records.specs.laws.Runs.{AgentsFrom, agents-bad, agents-more, agents-all}
 use Rattle.records.proofs.agents_fit.Given as goal
 
+-- whether a row is an agent's
+abbrev pub agent : List ℕ → ℕ → Bool
+agent t r = is_agent (atom_at (rows_of t) r)
+
 abbrev pub invariant-loop-i : goal.invariant-loop-i
 invariant-loop-i l = (l.i ≤ l.roles) × AgentsFrom (agent l.t) l.roles l.s l.i
 

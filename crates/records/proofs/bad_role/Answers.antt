@@ -16,24 +16,6 @@ use Rattle.records.specs.laws.Records.{records_left, rest-whole, bad-here, bad-l
 use Rattle.records.specs.laws.Roles.{role-bytes, roles-all}
 use Rattle.records.proofs.bad_role.Goals as goal
 
--- the loop's head, how many roles are present, and the function's entry
-abbrev head : goal.After-good_role → goal.At-loop-at
-head c = c.before.before.before.before
-
-abbrev counted : goal.At-loop-at → goal.After-roles_present-roles
-counted l = l.before
-
-abbrev start : goal.At-loop-at → goal.Start
-start l = l.before.before.before.before.before
-
--- what was found of the record
-judged : (c : goal.After-good_role) → let l = head c in
-    let s = start l in
-    good_role (rows_of s.args.t.now) (counted l).roles-present.result l.loop.i (record_at role_length (s.args.base + l.loop.at) (drop l.loop.at s.args.b.now)) ≡ c.good_role.result
-judged c = let l = head c in
-    let s = start l in
-    sym (rw rest-whole at (c.good_role.ensures (rows_of s.args.t.now) (s.args.base + l.loop.at) s.pre.0.count ((counted l).before.clear-rows.ensures without_variables bars-variables)))
-
 pub loop-at-init : goal.loop-at-init
 loop-at-init c = (
   omega arith,
@@ -41,24 +23,24 @@ loop-at-init c = (
 )
 
 pub returns-then-not-good_role : goal.returns-then-not-good_role
-returns-then-not-good_role c = let l = head c.before in
-    let s = start l in
-    sym (ap place_as (l.loop.inv.1.1 ∙ bad-here role_length role-bytes s.args.base s.args.b.now l.loop.at c.loop-at-test.true
-    (good_role (rows_of s.args.t.now) (counted l).roles-present.result) l.loop.i (judged c.before ∙ not-true _ c.if-not-good_role.true)))
+returns-then-not-good_role c =
+    let judged : good_role (rows_of c.args.t.now) c.roles_present-roles.result c.loop-at.i (record_at role_length (c.args.base + c.loop-at.at) (drop c.loop-at.at c.args.b.now)) ≡ c.good_role.result = sym (rw rest-whole at (c.good_role.ensures (rows_of c.args.t.now) (c.args.base + c.loop-at.at) c.requires.0.count (c.clear_rows-clear.ensures without_variables bars-variables))) in
+    sym (ap place_as (c.loop-at.invariant.1.1 ∙ bad-here role_length role-bytes c.args.base c.args.b.now c.loop-at.at c.loop-at-test.true
+    (good_role (rows_of c.args.t.now) c.roles_present-roles.result) c.loop-at.i (judged ∙ not-true _ c.if-not-good_role.true)))
 
 pub loop-at-preserved : goal.loop-at-preserved
-loop-at-preserved c = let l = head c.before.before in
-    let s = start l in (
+loop-at-preserved c =
+    let judged : good_role (rows_of c.args.t.now) c.roles_present-roles.result c.loop-at.i (record_at role_length (c.args.base + c.loop-at.at) (drop c.loop-at.at c.args.b.now)) ≡ c.good_role.result = sym (rw rest-whole at (c.good_role.ensures (rows_of c.args.t.now) (c.args.base + c.loop-at.at) c.requires.0.count (c.clear_rows-clear.ensures without_variables bars-variables))) in
+    (
       omega arith,
       (
         omega arith,
         rw (rw rest-whole at c.role_length-at.ensures.0)
-            (l.loop.inv.1.1 ∙ bad-later role_length role-bytes s.args.base s.args.b.now l.loop.at c.loop-at-test.true
-            (good_role (rows_of s.args.t.now) (counted l).roles-present.result) l.loop.i (judged c.before.before ∙ not-false _ c.if-not-good_role.false)),
+            (c.loop-at.invariant.1.1 ∙ bad-later role_length role-bytes c.args.base c.args.b.now c.loop-at.at c.loop-at-test.true
+            (good_role (rows_of c.args.t.now) c.roles_present-roles.result) c.loop-at.i (judged ∙ not-false _ c.if-not-good_role.false)),
       ),
     )
 
 pub returns : goal.returns
-returns c = 
-    let s = start l in
-    sym (ap place_as (c.loop-at.invariant.1.1 ∙ bad-none role_length s.args.base s.args.b.now c.loop-at.at c.loop-at-test.false (good_role (rows_of s.args.t.now) (counted l).roles-present.result) c.loop-at.i))
+returns c =
+    sym (ap place_as (c.loop-at.invariant.1.1 ∙ bad-none role_length c.args.base c.args.b.now c.loop-at.at c.loop-at-test.false (good_role (rows_of c.args.t.now) c.roles_present-roles.result) c.loop-at.i))

@@ -6,26 +6,26 @@ use borrow.Author.Rules.{rules}
 use Rattle.records.specs.laws.Events.{event-absent, event-peer, event-claim, event-none}
 use Rattle.records.proofs.event_fits.Goals as goal
 
--- a byte of the event
-abbrev byte : goal.Start → ℕ → ℕ
-byte s k = get_or s.args.s.now (s.args.at + k) 0
-
-abbrev kind : goal.Start → ℕ
-kind s = get_or s.args.s.now s.args.at 0
-
 pub returns-then-n-wide : goal.returns-then-n-wide
-returns-then-n-wide c = 
-    λ rows place e. event-absent rows c.args.roles (kind s) (byte s 2) (byte s 3) place c.args.n e (omega arith)
+returns-then-n-wide c =
+    let byte : ℕ → ℕ = λ k. get_or c.args.s.now (c.args.at + k) 0 in
+    let kind : ℕ = get_or c.args.s.now c.args.at 0 in
+    λ rows place e. event-absent rows c.args.roles (kind) (byte 2) (byte 3) place c.args.n e (omega arith)
 
 pub returns-in-2 : goal.returns-in-2
-returns-in-2 c = 
-    λ rows place e. rw c.wide-peer.ensures.0 (event-claim rows c.args.roles (kind s) (byte s 2) (byte s 3) place c.args.n e (omega arith) c.in_default-1.keys1)
+returns-in-2 c =
+    let byte : ℕ → ℕ = λ k. get_or c.args.s.now (c.args.at + k) 0 in
+    let kind : ℕ = get_or c.args.s.now c.args.at 0 in
+    λ rows place e. rw c.wide-peer.ensures.0 (event-claim rows c.args.roles (kind) (byte 2) (byte 3) place c.args.n e (omega arith) c.in-2.keys1)
 
 pub returns-in-0 : goal.returns-in-0
-returns-in-0 c = 
-    
-    λ rows place e. rw c.wide-peer.ensures.0 (event-peer rows c.args.roles (kind s) (byte s 2) (byte s 3) place c.args.n e (omega arith) (omega arith))
+returns-in-0 c =
+    let byte : ℕ → ℕ = λ k. get_or c.args.s.now (c.args.at + k) 0 in
+    let kind : ℕ = get_or c.args.s.now c.args.at 0 in
+    λ rows place e. rw c.wide-peer.ensures.0 (event-peer rows c.args.roles (kind) (byte 2) (byte 3) place c.args.n e (omega arith) (omega arith))
 
 pub returns-in_default : goal.returns-in_default
-returns-in_default c = 
-    λ rows place e. event-none rows c.args.roles (kind s) (byte s 2) (byte s 3) place c.args.n e (omega arith)
+returns-in_default c =
+    let byte : ℕ → ℕ = λ k. get_or c.args.s.now (c.args.at + k) 0 in
+    let kind : ℕ = get_or c.args.s.now c.args.at 0 in
+    λ rows place e. event-none rows c.args.roles (kind) (byte 2) (byte 3) place c.args.n e (omega arith)

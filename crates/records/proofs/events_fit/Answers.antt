@@ -8,41 +8,38 @@ use Rattle.semantics.specs.Roles.{event_count}
 use Rattle.records.specs.laws.Events.{FitsFrom, count-read, fits-none, fits-bad, fits_more, fits_all}
 use Rattle.records.proofs.events_fit.Goals as goal
 
--- the function's entry, and the place of the first event
-abbrev start : goal.After-wide-count → goal.Start
-start c = c.before.before.before.before.before
-
-abbrev first : goal.After-wide-count → ℕ
-first c = 2 + c.wide-first.result
-
--- there are as many events as the record says
-counted : (c : goal.After-wide-count) → c.wide-count.result ≡ event_count (start c).args.s.now
-counted c = count-read (start c).args.s.now c.wide-first.result c.wide-count.result c.wide-first.ensures.0 c.wide-count.ensures.0
-
 pub loop-j-init : goal.loop-j-init
-loop-j-init c = let s = start c in (
+loop-j-init c =
+    let first : ℕ = 2 + c.wide-first.result in
+    let counted : c.wide-count.result ≡ event_count c.args.s.now = count-read c.args.s.now c.wide-first.result c.wide-count.result c.wide-first.ensures.0 c.wide-count.ensures.0 in
+    (
   omega arith,
-  fits-none s.args.s.now s.args.n s.args.roles (first c) c.wide-count.result (ap (λ (k : ℕ). 2 + k) c.wide-first.ensures.0) (counted c),
+  fits-none c.args.s.now c.args.n c.args.roles (first) c.wide-count.result (ap (λ (k : ℕ). 2 + k) c.wide-first.ensures.0) (counted),
 )
 
 pub event_fits-requires : goal.event_fits-requires
-event_fits-requires c = omega (arith, counted c.before.before)
+event_fits-requires c =
+    let counted : c.wide-count.result ≡ event_count c.args.s.now = count-read c.args.s.now c.wide-first.result c.wide-count.result c.wide-first.ensures.0 c.wide-count.ensures.0 in
+    omega (arith, counted)
 
 pub returns-then-not-event_fits : goal.returns-then-not-event_fits
-returns-then-not-event_fits c = 
-    let s = start c.before in
-    fits-bad s.args.s.now s.args.n s.args.roles (first c.before) c.wide-count.result c.loop-j.j c.loop-j.invariant.1 c.loop-j-test.true
-    (omega (arith, counted c.before)) (λ rows place e. sym (not-true _ c.if-not-event_fits.true) ∙ c.event_fits.ensures rows place e)
+returns-then-not-event_fits c =
+    let first : ℕ = 2 + c.wide-first.result in
+    let counted : c.wide-count.result ≡ event_count c.args.s.now = count-read c.args.s.now c.wide-first.result c.wide-count.result c.wide-first.ensures.0 c.wide-count.ensures.0 in
+    fits-bad c.args.s.now c.args.n c.args.roles (first) c.wide-count.result c.loop-j.j c.loop-j.invariant.1 c.loop-j-test.true
+    (omega (arith, counted)) (λ rows place e. sym (not-true _ c.if-not-event_fits.true) ∙ c.event_fits.ensures rows place e)
 
 pub loop-j-preserved : goal.loop-j-preserved
-loop-j-preserved c = 
-    let s = start c.before in (
+loop-j-preserved c =
+    let first : ℕ = 2 + c.wide-first.result in
+    let counted : c.wide-count.result ≡ event_count c.args.s.now = count-read c.args.s.now c.wide-first.result c.wide-count.result c.wide-first.ensures.0 c.wide-count.ensures.0 in
+    (
       omega arith,
-      fits_more s.args.s.now s.args.n s.args.roles (first c.before) c.wide-count.result c.loop-j.j c.loop-j.invariant.1 c.loop-j-test.true
-          (omega (arith, counted c.before)) (λ rows place e. sym (not-false _ c.if-not-event_fits.false) ∙ c.event_fits.ensures rows place e),
+      fits_more c.args.s.now c.args.n c.args.roles (first) c.wide-count.result c.loop-j.j c.loop-j.invariant.1 c.loop-j-test.true
+          (omega (arith, counted)) (λ rows place e. sym (not-false _ c.if-not-event_fits.false) ∙ c.event_fits.ensures rows place e),
     )
 
 pub returns : goal.returns
-returns c = 
-    let s = start c.before in
-    fits_all s.args.s.now s.args.n s.args.roles (first c.before) c.wide-count.result c.loop-j.j c.loop-j.invariant.1 c.loop-j-test.false
+returns c =
+    let first : ℕ = 2 + c.wide-first.result in
+    fits_all c.args.s.now c.args.n c.args.roles (first) c.wide-count.result c.loop-j.j c.loop-j.invariant.1 c.loop-j-test.false

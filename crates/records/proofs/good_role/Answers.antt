@@ -6,13 +6,6 @@ use borrow.Author.Tests.{not-true, not-false}
 use Rattle.records.specs.laws.Roles.{role-short, role-fifth, role-long, role-unknown, role-events}
 use Rattle.records.proofs.good_role.Goals as goal
 
--- the function's entry, and where the first count was read
-abbrev counted : goal.After-wide-2 → goal.After-wide
-counted c = c.before.before
-
-abbrev entry : goal.After-wide-2 → goal.Start
-entry c = (counted c).before.before.before.before.before.before.before
-
 pub returns-then-s-role_length : goal.returns-then-s-role_length
 returns-then-s-role_length c = λ rows start e v. role-short rows c.args.roles c.args.i start c.args.s.now (omega arith)
 
@@ -20,19 +13,22 @@ pub returns-then-i-ge-MOST_ROLES : goal.returns-then-i-ge-MOST_ROLES
 returns-then-i-ge-MOST_ROLES c = λ rows start e v. role-fifth rows c.args.roles c.args.i start c.args.s.now (omega arith) (omega arith)
 
 pub returns-then-wide-gt-MOST_EVENTS : goal.returns-then-wide-gt-MOST_EVENTS
-returns-then-wide-gt-MOST_EVENTS c = 
-    let s = entry d in
-    λ rows start e v. role-long rows s.args.roles s.args.i start s.args.s.now (omega arith) (omega arith) (rw (← (counted d).wide.ensures.0, ← c.wide-2.ensures.0) (omega arith))
+returns-then-wide-gt-MOST_EVENTS c =
+    let entry : tie.Start = c.before.before.before.before.before.before.before in
+    let s = entry in
+    λ rows start e v. role-long rows s.args.roles s.args.i start s.args.s.now (omega arith) (omega arith) (rw (← c.wide.ensures.0, ← c.wide-2.ensures.0) (omega arith))
 
 pub returns-then-not-knowledge_fits : goal.returns-then-not-knowledge_fits
-returns-then-not-knowledge_fits c = 
-    let s = entry d in
-    λ rows start e v. role-unknown rows s.args.roles s.args.i start s.args.s.now (omega arith) (omega arith) (rw (← (counted d).wide.ensures.0, ← c.wide-2.ensures.0) (omega arith))
+returns-then-not-knowledge_fits c =
+    let entry : tie.Start = c.before.before.before.before.before.before.before in
+    let s = entry in
+    λ rows start e v. role-unknown rows s.args.roles s.args.i start s.args.s.now (omega arith) (omega arith) (rw (← c.wide.ensures.0, ← c.wide-2.ensures.0) (omega arith))
     (sym (c.knowledge_fits.ensures rows e v) ∙ not-true _ c.if-not-knowledge_fits.true)
 
 pub returns : goal.returns
-returns c = 
-    let s = entry d in
+returns c =
+    let entry : tie.Start = c.before.before.before.before.before.before.before in
+    let s = entry in
     λ rows start e v. c.events_fit.ensures rows start e
-    ∙ role-events rows s.args.roles s.args.i start s.args.s.now (omega arith) (omega arith) (rw (← (counted d).wide.ensures.0, ← c.wide-2.ensures.0) (omega arith))
+    ∙ role-events rows s.args.roles s.args.i start s.args.s.now (omega arith) (omega arith) (rw (← c.wide.ensures.0, ← c.wide-2.ensures.0) (omega arith))
     (sym (c.knowledge_fits.ensures rows e v) ∙ not-false _ c.if-not-knowledge_fits.false)

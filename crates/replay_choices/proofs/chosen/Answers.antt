@@ -22,11 +22,8 @@ use Rattle.variables.specs.Variables.{Beneath, NextUnset, TellsValue}
 use Rattle.values.specs.laws.Next.{no_more, another, variable-found}
 use Rattle.replay_choices.specs.laws.Values.{ValuesPart, part_none, part-suits, part-long, part-short, part-not, part-more, value-fits, taken-value, no_value, may-carry, part-carry}
 use borrow.Author.Tests.{not-true, not-false}
+use Rattle.replay_choices.proofs.chosen.Invariants.{Parted}
 use Rattle.replay_choices.proofs.chosen.Goals as goal
-
-abbrev Parted : List ℕ → ℕ → ℕ → ℕ → List ℕ → List ℕ → List ℕ → ℕ → ℕ → Type 0
-Parted t runs k row values names more from i =
-    (e : RunEvent) (sc : Scenario) (d : definitions.State) (s : State) (a : Active) → NextMove t runs k e sc d s a → names ≡ s.names → row ≡ e.row → e.kind ≡ 1 → ValuesPart sc d a s.names values from i more
 
 pub beneath-below-requires : goal.beneath-below-requires
 beneath-below-requires c = (shape-sized c.requires.0, c.requires.1.1)
@@ -38,8 +35,7 @@ loop-names-init c =
 
 pub next_unset-x-requires : goal.next_unset-x-requires
 next_unset-x-requires c =
-    
-    let size : length c.args.t1 ≡ cell_count = search rules in
+    let size : length c.args.names ≡ cell_count = search rules in
     (shape-sized c.requires.0, (size, (c.beneath-below.ensures.size, (omega (arith, c.requires.0.few_runs, c.requires.1.0), c.loop-names.invariant.0))))
 
 pub overflow_add-i : goal.overflow_add-i
@@ -47,56 +43,50 @@ overflow_add-i c = record { fits = omega (arith, c.loop-names.invariant.0, c.loo
 
 pub returns-then-values-i : goal.returns-then-values-i
 returns-then-values-i c e sc d s a next same row kind =
-    let p = c.before.before.before.before.before.before.before.before.before in
-    let l = c.before.before.before.before.before in
-    let view = c.before.before.next-unset.ensures _ c.before.before.before.before.before.before.beneath.ensures in
-    let view' : NextUnset (rows_of p.args.t.now) s.names (p.args.k + 1) e.row l.loop.from c.before.before.next-unset.result = rw (← same, ← row) view in
-    part-suits next kind _ l.loop.from l.loop.i l.loop.more (l.loop.invariant.2 e sc d s a next same row kind) (no_more next p.requires.0.count l.loop.from _ view' c.before.if1.true) c.if2.true
+    
+    let view = c.next_unset-x.ensures _ c.beneath-below.ensures in
+    let view' : NextUnset (rows_of c.args.t.now) s.names (c.args.k + 1) e.row c.loop-names.from c.next_unset-x.result = rw (← same, ← row) view in
+    part-suits next kind _ c.loop-names.from c.loop-names.i c.loop-names.more (c.loop-names.invariant.2 e sc d s a next same row kind) (no_more next c.requires.0.count c.loop-names.from _ view' c.if-x-n.true) c.if-values-i.true
 
 pub returns-then-x-n : goal.returns-then-x-n
 returns-then-x-n c e sc d s a next same row kind =
-    let p = c.before.before.before.before.before.before.before.before.before in
-    let l = c.before.before.before.before.before in
-    let view = c.before.before.next-unset.ensures _ c.before.before.before.before.before.before.beneath.ensures in
-    let view' : NextUnset (rows_of p.args.t.now) s.names (p.args.k + 1) e.row l.loop.from c.before.before.next-unset.result = rw (← same, ← row) view in
-    part-long next kind _ l.loop.from l.loop.i l.loop.more (l.loop.invariant.2 e sc d s a next same row kind) (no_more next p.requires.0.count l.loop.from _ view' c.before.if1.true) c.if2.false
+    
+    let view = c.next_unset-x.ensures _ c.beneath-below.ensures in
+    let view' : NextUnset (rows_of c.args.t.now) s.names (c.args.k + 1) e.row c.loop-names.from c.next_unset-x.result = rw (← same, ← row) view in
+    part-long next kind _ c.loop-names.from c.loop-names.i c.loop-names.more (c.loop-names.invariant.2 e sc d s a next same row kind) (no_more next c.requires.0.count c.loop-names.from _ view' c.if-x-n.true) c.if-values-i.false
 
 pub overflow_add-i-in-loop-names : goal.overflow_add-i-in-loop-names
 overflow_add-i-in-loop-names c = record { fits = omega (arith, c.loop-names.invariant.0, c.loop-names.invariant.1, c.requires.0.few) }
 
 pub returns-then-values-i-2 : goal.returns-then-values-i-2
 returns-then-values-i-2 c e sc d s a next same row kind =
-    let p = c.before.before.before.before.before.before.before.before.before in
-    let l = c.before.before.before.before.before in
-    let view = c.before.before.next-unset.ensures _ c.before.before.before.before.before.before.beneath.ensures in
-    let view' : NextUnset (rows_of p.args.t.now) s.names (p.args.k + 1) e.row l.loop.from c.before.before.next-unset.result = rw (← same, ← row) view in
-    let more = another next p.requires.0.count l.loop.from _ view' c.before.if1.false in
-    part-short next kind _ l.loop.from l.loop.i l.loop.more (l.loop.invariant.2 e sc d s a next same row kind) more.first c.if3.true
+    
+    let view = c.next_unset-x.ensures _ c.beneath-below.ensures in
+    let view' : NextUnset (rows_of c.args.t.now) s.names (c.args.k + 1) e.row c.loop-names.from c.next_unset-x.result = rw (← same, ← row) view in
+    let more = another next c.requires.0.count c.loop-names.from _ view' c.if-x-n.false in
+    part-short next kind _ c.loop-names.from c.loop-names.i c.loop-names.more (c.loop-names.invariant.2 e sc d s a next same row kind) more.first c.if-values-i-2.true
 
 pub may_take-requires : goal.may_take-requires
 may_take-requires c =
-    
     let view = c.next_unset-x.ensures _ c.beneath-below.ensures in
     let w = variable-found c.args.t.now c.args.n c.args.runs c.requires.0 _ _ _ _ _ view c.if-x-n.false in
     (c.requires.0, (w.0, w.2))
 
 pub returns-then-not-may_take : goal.returns-then-not-may_take
 returns-then-not-may_take c e sc d s a next same row kind =
-    let p = c.before.before.before.before.before.before.before.before.before.before.before.before.before.before.before in
-    let l = c.before.before.before.before.before.before.before.before.before.before.before in
-    let view = c.before.before.before.before.before.before.before.before.next-unset.ensures _ c.before.before.before.before.before.before.before.before.before.before.before.before.beneath.ensures in
-    let view' : NextUnset (rows_of p.args.t.now) s.names (p.args.k + 1) e.row l.loop.from c.before.before.before.before.before.before.before.before.next-unset.result = rw (← same, ← row) view in
-    let more = another next p.requires.0.count l.loop.from _ view' c.before.before.before.before.before.before.before.if1.false in
-    let may = c.before.may-take.ensures more.y (ap (λ (rs : List Row). atom_at rs c.before.before.before.before.before.before.before.before.next-unset.result) (sym next.rows) ∙ more.is_atom) in
-    let may' : TellsValue sc.rows (length sc.runs) more.y (get_or p.args.values.now l.loop.i 0) (get_or p.args.values.now (l.loop.i + 1) 0) c.before.may-take.result = may-carry next.rows next.count c.before.before.before.before.wide.ensures.0 c.before.before.wide2.ensures.0 may in
-    part-not next kind _ l.loop.from l.loop.i l.loop.more (l.loop.invariant.2 e sc d s a next same row kind) more.first c.before.before.before.before.before.before.if3.false (no_value may' (not-true _ c.if4.true))
+    
+    let view = c.next_unset-x.ensures _ c.beneath-below.ensures in
+    let view' : NextUnset (rows_of c.args.t.now) s.names (c.args.k + 1) e.row c.loop-names.from c.next_unset-x.result = rw (← same, ← row) view in
+    let more = another next c.requires.0.count c.loop-names.from _ view' c.if-x-n.false in
+    let may = c.may_take.ensures more.y (ap (λ (rs : List Row). atom_at rs c.next_unset-x.result) (sym next.rows) ∙ more.is_atom) in
+    let may' : TellsValue sc.rows (length sc.runs) more.y (get_or c.args.values.now c.loop-names.i 0) (get_or c.args.values.now (c.loop-names.i + 1) 0) c.may_take.result = may-carry next.rows next.count c.wide-r.ensures.0 c.wide-w.ensures.0 may in
+    part-not next kind _ c.loop-names.from c.loop-names.i c.loop-names.more (c.loop-names.invariant.2 e sc d s a next same row kind) more.first c.if-values-i-2.false (no_value may' (not-true _ c.if-not-may_take.true))
 
 pub slice_bounds-put-end : goal.slice_bounds-put-end
 slice_bounds-put-end c = sym c.loop-names.invariant.3
 
 pub put-requires : goal.put-requires
 put-requires c =
-    
     let view = c.next_unset-x.ensures _ c.beneath-below.ensures in
     let w = variable-found c.args.t.now c.args.n c.args.runs c.requires.0 _ _ _ _ _ view c.if-x-n.false in
     let may = c.may_take.ensures w.3.0 w.3.1 in
@@ -105,7 +95,6 @@ put-requires c =
 
 pub overflow_add-from : goal.overflow_add-from
 overflow_add-from c =
-    
     let view = c.next_unset-x.ensures _ c.beneath-below.ensures in
     let w = variable-found c.args.t.now c.args.n c.args.runs c.requires.0 _ _ _ _ _ view c.if-x-n.false in
     record { fits = omega (arith, w.0, c.requires.0.few) }
@@ -115,14 +104,12 @@ overflow_add-i-in-loop-names-3 c = record { fits = omega (arith, c.loop-names.in
 
 pub loop-names-smaller : goal.loop-names-smaller
 loop-names-smaller c =
-    
     let view = c.next_unset-x.ensures _ c.beneath-below.ensures in
     let w = variable-found c.args.t.now c.args.n c.args.runs c.requires.0 _ _ _ _ _ view c.if-x-n.false in
     omega (arith, w.0, w.1)
 
 pub loop-names-preserved : goal.loop-names-preserved
 loop-names-preserved c =
-    
     
     let view = c.next_unset-x.ensures _ c.beneath-below.ensures in
     let w = variable-found c.args.t.now c.args.n c.args.runs c.requires.0 _ _ _ _ _ view c.if-x-n.false in (

@@ -24,6 +24,10 @@ use Rattle.replay_choices.specs.laws.Values.{ValuesPart, part_none, part-suits, 
 use borrow.Author.Tests.{not-true, not-false}
 use Rattle.replay_choices.proofs.chosen.Given as goal
 
+abbrev pub Parted : List ℕ → ℕ → ℕ → ℕ → List ℕ → List ℕ → List ℕ → ℕ → ℕ → Type 0
+Parted t runs k row values names more from i =
+    (e : RunEvent) (sc : Scenario) (d : definitions.State) (s : State) (a : Active) → NextMove t runs k e sc d s a → names ≡ s.names → row ≡ e.row → e.kind ≡ 1 → ValuesPart sc d a s.names values from i more
+
 abbrev pub invariant-loop-names : goal.invariant-loop-names
 invariant-loop-names l = (l.from ≤ l.n) × (l.i ≤ 2 * l.from) × Parted l.t l.runs l.k l.row l.values l.names l.more l.from l.i × (length l.more ≡ cell_count)
 

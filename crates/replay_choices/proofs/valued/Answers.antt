@@ -6,10 +6,10 @@ use Rattle.replay_choices.specs.laws.Values.{none-suit, some-suit-not}
 use Rattle.replay_choices.proofs.valued.Goals as goal
 
 pub returns-then-e-eq1 : goal.returns-then-e-eq1
-returns-then-e-eq1 c sc d a next = c.chosen.ensures _ sc d _ a next refl refl c.before.if1.true
+returns-then-e-eq1 c sc d a next = c.chosen.ensures _ sc d _ a next refl refl c.if-e-eq1.true
 
 pub returns-then-values-lt2 : goal.returns-then-values-lt2
-returns-then-values-lt2 c sc d a next = none-suit next c.before.if1.false c.before.before.before.before.before.before.args.values.now c.if2.true
+returns-then-values-lt2 c sc d a next = none-suit next c.if-e-eq1.false c.args.values.now c.if-values-lt2.true
 
 pub returns : goal.returns
-returns c sc d a next = some-suit-not next c.before.if1.false c.before.before.before.before.before.before.args.values.now _ c.if2.false
+returns c sc d a next = some-suit-not next c.if-e-eq1.false c.args.values.now _ c.if-values-lt2.false

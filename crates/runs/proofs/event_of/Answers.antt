@@ -6,45 +6,54 @@ use borrow.Author.Rules.{rules}
 use Rattle.runs.specs.laws.Event.{record-inside, own-inside, bytes_inside, peer-inside, event-read}
 use Rattle.runs.proofs.event_of.Goals as goal
 
--- the event's bytes are inside the file
-bytes : (s : goal.Start) → get_or s.args.t2.firsts s.args.k 0 + 4 * s.args.j + 3 < length s.args.file.now
-bytes s = bytes_inside s.args.file.now s.args.t2 s.args.k s.args.j s.requires
-
 pub overflow_mul-at : goal.overflow_mul-at
-overflow_mul-at c = omega (arith, bytes c.before.before.before)
+overflow_mul-at c =
+    let bytes : get_or c.args.r.firsts c.args.k 0 + 4 * c.args.j + 3 < length c.args.file.now = bytes_inside c.args.file.now c.args.r c.args.k c.args.j c.requires in
+    omega (arith, bytes)
 
 pub overflow_add-at : goal.overflow_add-at
-overflow_add-at c = omega (arith, bytes c.before.before.before)
+overflow_add-at c =
+    let bytes : get_or c.args.r.firsts c.args.k 0 + 4 * c.args.j + 3 < length c.args.file.now = bytes_inside c.args.file.now c.args.r c.args.k c.args.j c.requires in
+    omega (arith, bytes)
 
 pub bounds-file-at : goal.bounds-file-at
-bounds-file-at c = omega (arith, bytes c.before.before.before.before)
+bounds-file-at c =
+    let bytes : get_or c.args.r.firsts c.args.k 0 + 4 * c.args.j + 3 < length c.args.file.now = bytes_inside c.args.file.now c.args.r c.args.k c.args.j c.requires in
+    omega (arith, bytes)
 
 pub bounds-file-start : goal.bounds-file-start
-bounds-file-start c = record-inside c.args.file.now c.args.t2 c.args.k c.args.j c.requires
+bounds-file-start c = record-inside c.args.file.now c.args.r c.args.k c.args.j c.requires
 
 pub agent_of-requires : goal.agent_of-requires
 agent_of-requires c = 
-    own-inside c.args.file.now c.args.t2 c.args.k c.args.j c.requires c.wide-2.ensures.0
+    own-inside c.args.file.now c.args.r c.args.k c.args.j c.requires c.wide-2.ensures.0
 
 pub overflow_add-at-2 : goal.overflow_add-at-2
-overflow_add-at-2 c = omega (arith, bytes c.before.before.before.before.before.before.before.before)
+overflow_add-at-2 c =
+    let bytes : get_or c.args.r.firsts c.args.k 0 + 4 * c.args.j + 3 < length c.args.file.now = bytes_inside c.args.file.now c.args.r c.args.k c.args.j c.requires in
+    omega (arith, bytes)
 
 pub bounds-file-at-2 : goal.bounds-file-at-2
-bounds-file-at-2 c = omega (arith, bytes c.before.before.before.before.before.before.before.before.before)
+bounds-file-at-2 c =
+    let bytes : get_or c.args.r.firsts c.args.k 0 + 4 * c.args.j + 3 < length c.args.file.now = bytes_inside c.args.file.now c.args.r c.args.k c.args.j c.requires in
+    omega (arith, bytes)
 
 pub agent_of-requires-2 : goal.agent_of-requires-2
 agent_of-requires-2 c = 
-    peer-inside c.args.file.now c.args.t2 c.args.k c.args.j c.requires c.wide-3.ensures.0
+    peer-inside c.args.file.now c.args.r c.args.k c.args.j c.requires c.wide-3.ensures.0
 
 pub overflow_add-at-3 : goal.overflow_add-at-3
-overflow_add-at-3 c = omega (arith, bytes c.before.before.before.before.before.before.before.before.before.before.before)
+overflow_add-at-3 c =
+    let bytes : get_or c.args.r.firsts c.args.k 0 + 4 * c.args.j + 3 < length c.args.file.now = bytes_inside c.args.file.now c.args.r c.args.k c.args.j c.requires in
+    omega (arith, bytes)
 
 pub bounds-file-at-3 : goal.bounds-file-at-3
-bounds-file-at-3 c = omega (arith, bytes c.before.before.before.before.before.before.before.before.before.before.before.before)
+bounds-file-at-3 c =
+    let bytes : get_or c.args.r.firsts c.args.k 0 + 4 * c.args.j + 3 < length c.args.file.now = bytes_inside c.args.file.now c.args.r c.args.k c.args.j c.requires in
+    omega (arith, bytes)
 
 pub returns : goal.returns
-returns c = 
-    
+returns c =
     
     
     λ sc run ev at g found listed.

@@ -9,25 +9,20 @@ use borrow.Author.Tests.{not-true, not-false}
 use Rattle.semantics.specs.Runs.{atom_at, is_trusted}
 use Rattle.rows.specs.Rows.{rows_of}
 use Rattle.runs.specs.laws.Trusted.{PassFrom, pass-bad, pass-more, pass_all}
+use Rattle.runs.proofs.trusted_from.Invariants.{trusted}
 use Rattle.runs.proofs.trusted_from.Goals as goal
-
--- whether a row is a trusted agent's
-abbrev trusted : List ℕ → ℕ → Bool
-trusted t r = is_trusted (atom_at (rows_of t) r)
 
 pub loop-i-init : goal.loop-i-init
 loop-i-init c = (omega arith, λ agents at. refl)
 
 pub returns-then-not-is_trusted : goal.returns-then-not-is_trusted
-returns-then-not-is_trusted c = 
-    
+returns-then-not-is_trusted c =
     
     pass-bad (trusted c.args.t.now) c.args.file.now c.args.start c.args.roles c.loop-i.i c.loop-i.invariant.1 c.agent_of.ensures.0 c.loop-i-test.true
     (sym (not-true _ c.if-not-is_trusted.true) ∙ c.is_trusted.ensures)
 
 pub loop-i-preserved : goal.loop-i-preserved
-loop-i-preserved c = 
-    
+loop-i-preserved c =
     (
       omega arith,
       pass-more (trusted c.args.t.now) c.args.file.now c.args.start c.args.roles c.loop-i.i c.loop-i.invariant.1 c.agent_of.ensures.0 c.loop-i-test.true
@@ -35,6 +30,5 @@ loop-i-preserved c =
     )
 
 pub returns : goal.returns
-returns c = 
-    
+returns c =
     pass_all (trusted c.args.t.now) c.args.file.now c.args.start c.args.roles c.loop-i.i c.loop-i.invariant.1 c.loop-i-test.false

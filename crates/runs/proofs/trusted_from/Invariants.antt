@@ -11,6 +11,10 @@ use Rattle.rows.specs.Rows.{rows_of}
 use Rattle.runs.specs.laws.Trusted.{PassFrom, pass-bad, pass-more, pass_all}
 use Rattle.runs.proofs.trusted_from.Given as goal
 
+-- whether a row is a trusted agent's
+abbrev pub trusted : List ℕ → ℕ → Bool
+trusted t r = is_trusted (atom_at (rows_of t) r)
+
 abbrev pub invariant-loop-i : goal.invariant-loop-i
 invariant-loop-i l = (l.i ≤ l.roles) × PassFrom (trusted l.t) l.file l.start l.roles l.i
 

@@ -8,13 +8,11 @@ use Rattle.scenario.proofs.judged.Goals as goal
 
 pub ill_formed-place-requires : goal.ill_formed-place-requires
 ill_formed-place-requires c =
-    
     let file = c.args.file.now in
     (terms-shape file c.Block-of.ensures c.requires.1, (omega arith, roles-good file c.Block-of.ensures c.block_of-roles.ensures c.start_of_lem.ensures.0 (no-bad-role file (rows_in file) c.judged_roles-place.ensures c.enum_told-1.given.1)))
 
 pub judged_runs-requires : goal.judged_runs-requires
 judged_runs-requires c =
-    
     let file = c.args.file.now in
     (c.requires.0, (c.requires.1, no-bad-role file (rows_in file) c.judged_roles-place.ensures c.enum_told-1.given.1))
 

@@ -13,7 +13,6 @@ absent_role-requires c = (terms-sized c.args.file.now c.Block-of.ensures c.requi
 
 pub returns-in-At : goal.returns-in-At
 returns-in-At c =
-    
     let file = c.args.file.now in
     records-refused file (rows_in file)
     (roles-read file c.Block-of.ensures c.block_of-roles.ensures c.start_of_lem.ensures.0 c.bad_role-place.ensures)
@@ -21,7 +20,6 @@ returns-in-At c =
 
 pub returns-in-Nowhere : goal.returns-in-Nowhere
 returns-in-Nowhere c =
-    
     let file = c.args.file.now in
     names-judged file (rows_in file)
     (roles-read file c.Block-of.ensures c.block_of-roles.ensures c.start_of_lem.ensures.0 c.bad_role-place.ensures)

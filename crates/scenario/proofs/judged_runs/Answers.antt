@@ -22,7 +22,6 @@ bad_knowledge-place-requires c = (terms-sized c.args.file.now c.Block-of.ensures
 
 pub parts_of-requires : goal.parts_of-requires
 parts_of-requires c =
-    
     (c.requires.0, (c.requires.1.0, (count-read c.args.file.now c.block_of.ensures c.roles_present-roles.ensures, c.requires.1.1)))
 
 pub returns-in-Nowhere-place : goal.returns-in-Nowhere-place

@@ -14,7 +14,6 @@ run_count-requires c = omega (arith, count-few c.args.file.now c.requires.1.1.0)
 
 pub returns : goal.returns
 returns c =
-    
     let file = c.args.file.now in
     layout-right file (rows_in file) c.requires.1.1.1
     c.budget.ensures.0

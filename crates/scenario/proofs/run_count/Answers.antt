@@ -11,7 +11,6 @@ loop-at-init c = (omega arith, omega arith, counted_none c.args.b.now c.args.rol
 
 pub loop-at-preserved : goal.loop-at-preserved
 loop-at-preserved c =
-    
     (omega arith, omega arith, counted-more c.args.b.now c.args.roles c.loop-at.i c.loop-at.at c.loop-at-test.true c.loop-at.invariant.2)
 
 pub returns : goal.returns

@@ -8,8 +8,8 @@ use Rattle.semantics.specs.Basic.{total}
 use Rattle.search.specs.laws.Events.{total-more}
 use Rattle.search.proofs.event_count.Goals as goal
 
-returns c = let same : c.loop-k.k ≡ c.args.t1.count = omega arith in
-    (c.loop-k.invariant.1.0 ∙ ap (λ (m : ℕ). total (take m c.args.t1.events)) same, omega arith)
+returns c = let same : c.loop-k.k ≡ c.args.r.count = omega arith in
+    (c.loop-k.invariant.1.0 ∙ ap (λ (m : ℕ). total (take m c.args.r.events)) same, omega arith)
 
 pub overflow_add-sum : goal.overflow_add-sum
 overflow_add-sum c = omega (arith, c.requires.1 c.loop-k.k (omega arith))
@@ -18,5 +18,5 @@ pub loop-k-preserved : goal.loop-k-preserved
 loop-k-preserved c =
     let l = c.loop-k in
     
-    let size : length c.args.t1.events ≡ 4 = search rules in
-    (omega arith, (omega (arith, total-more c.args.t1.events l.k (omega arith)), omega (arith, c.requires.1 l.k (omega arith))))
+    let size : length c.args.r.events ≡ 4 = search rules in
+    (omega arith, (omega (arith, total-more c.args.r.events l.k (omega arith)), omega (arith, c.requires.1 l.k (omega arith))))

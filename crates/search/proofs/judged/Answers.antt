@@ -10,7 +10,6 @@ budget-budget-requires c = (opened-framed _ _ c.requires.0.is_opened).size
 
 pub returns-then-budget-eq0 : goal.returns-then-budget-eq0
 returns-then-budget-eq0 c =
-    
     verdict-walked _ _ _ (opened-budget _ _ c.requires.0.is_opened c.budget-budget.ensures.0) (first-cut _ _ c.if-budget-eq0.true c.args.trace.now) c.verdict_of.ensures
 
 pub walk_all-walked-requires : goal.walk_all-walked-requires

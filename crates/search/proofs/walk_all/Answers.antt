@@ -12,9 +12,6 @@ use Rattle.search_same.specs.laws.Start.{state-first, first_finds}
 use Rattle.search.specs.laws.Events.{total_left}
 use Rattle.search.proofs.walk_all.Goals as goal
 
-events-size : (c : goal.After-runs_of-runs) → length c.runs_of-runs.result.events ≡ 4
-events-size c = search rules
-
 pub block_of-t-requires : goal.block_of-t-requires
 block_of-t-requires c = let p = c.requires.0 in (opened-framed _ _ p.is_opened, omega arith)
 
@@ -47,7 +44,6 @@ event_count-requires c =
 
 pub walk-requires : goal.walk-requires
 walk-requires c =
-    
     let p = c.requires.0 in
     let runs = c.runs_of-runs.ensures in
     let given = given-layout _ _ p.is_opened p.layout runs c.Block-of.ensures in
@@ -58,9 +54,10 @@ walk-requires c =
 
 pub returns : goal.returns
 returns c =
+    let events-size : length c.runs_of-runs.result.events ≡ 4 = search rules in
     let p = c.requires.0 in
     let runs = c.runs_of-runs.ensures in
     let given = given-layout _ _ p.is_opened p.layout runs c.Block-of.ensures in
     let state = c.initial-s.ensures _ given (opened-knowledge _ _ p.is_opened c.block_of.ensures) in
-    let depth = c.event_count.ensures.0 ∙ total_left _ _ _ runs (events-size c.before.before.before.before.before.before.before.before.before.before.before.before.before.before.before.before) in
+    let depth = c.event_count.ensures.0 ∙ total_left _ _ _ runs (events-size) in
     first_finds _ p.is_opened given state refl depth c.walk.ensures.0

@@ -8,6 +8,5 @@ use Rattle.search_breaks.proofs.with_value.Goals as goal
 
 pub returns : goal.returns
 returns c vs are =
-    let s = c.before.before.before in
-    let size : length s.args.values.bytes ≡ 16 = search rules in
-    values-more vs s.args.values s.args.r s.args.w refl (omega (arith, s.requires.0, size)) are
+    let size : length c.args.values.bytes ≡ 16 = search rules in
+    values-more vs c.args.values c.args.r c.args.w refl (omega (arith, c.requires.0, size)) are

@@ -25,11 +25,9 @@ returns-in_default c = sym (before-kept _ c.args.at c.args.turn c.args.found (un
 
 pub write_step-requires : goal.write_step-requires
 write_step-requires c =
-    
     (omega (arith, c.requires.inside (ap is_broken c.enum_told-1.given.1)), (c.requires.few, omega (arith, c.requires.low)))
 
 pub returns : goal.returns
 returns c =
-    
     let broken = ap is_broken c.enum_told-1.given.1 in
     c.write_step.ensures ∙ sym (before-written c.args.trace.now c.args.at c.args.turn c.args.found broken)

@@ -21,4 +21,4 @@ pub loop-k-preserved : goal.loop-k-preserved
 loop-k-preserved c = (omega arith, filled_more c.loop-k.invariant.1 c.fill_names.ensures)
 
 pub returns : goal.returns
-returns c = filled-all c.args.t1 c.args.t2 c.args.names.now c.args.depth c.loop-k-test.false c.loop-k.invariant.1
+returns c = filled-all c.args.variables c.args.done c.args.names.now c.args.depth c.loop-k-test.false c.loop-k.invariant.1

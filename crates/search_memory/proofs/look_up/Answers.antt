@@ -8,7 +8,6 @@ use Rattle.search_memory.proofs.look_up.Goals as goal
 pub returns-then-holds_key : goal.returns-then-holds_key
 returns-then-holds_key c =
     
-    
     slot-found (omega (arith, c.loop-way-test.true, c.first_slot-first.ensures)) (c.holds_key.ensures c.if-holds_key.true) c.count_at.ensures.0 c.count_at.ensures.1
 
 pub returns : goal.returns

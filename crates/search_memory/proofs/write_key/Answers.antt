@@ -13,6 +13,5 @@ loop-i-preserved c = let low = c.loop-i-test.true in (omega (arith, low), writte
 
 pub returns : goal.returns
 returns c =
-    
     let end : c.loop-i.i ≡ 38 = omega (arith, c.loop-i.invariant.0, c.loop-i-test.false) in
     rw end at c.loop-i.invariant.1

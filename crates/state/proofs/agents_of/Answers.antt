@@ -6,21 +6,18 @@ use Rattle.state.specs.laws.Start.{agents-none, agents-part, agents-inside}
 use Rattle.state.proofs.agents_of.Goals as goal
 
 pub returns-then-u-eq0 : goal.returns-then-u-eq0
-returns-then-u-eq0 c sc runs good = let s = c.before.before in agents-none sc good s.args.file.now s.args.r runs s.args.u c.before.if1.true _ refl
+returns-then-u-eq0 c sc runs good = agents-none sc good c.args.file.now c.args.r runs c.args.u c.if-u-eq0.true _ refl
 
 pub overflow_add-first : goal.overflow_add-first
 overflow_add-first c =
-    
     let l = agents-inside c.args.file.now c.requires.0 c.args.r c.requires.1.0 c.args.u c.if-u-eq0.false c.requires.1.1.0 in
     record { fits = omega (arith, l, c.requires.1.1.1) }
 
 pub overflow_add-end : goal.overflow_add-end
 overflow_add-end c =
-    
     let l = agents-inside c.args.file.now c.requires.0 c.args.r c.requires.1.0 c.args.u c.if-u-eq0.false c.requires.1.1.0 in
     record { fits = omega (arith, l, c.requires.1.1.1) }
 
 pub returns : goal.returns
 returns c sc runs good =
-    let s = c.before.before.before.before in
-    agents-part sc good s.args.file.now s.args.r runs s.args.u c.before.before.before.if1.false s.requires.1.1.0 _ refl
+    agents-part sc good c.args.file.now c.args.r runs c.args.u c.if-u-eq0.false c.requires.1.1.0 _ refl

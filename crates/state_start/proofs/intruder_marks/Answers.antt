@@ -13,7 +13,6 @@ loop-r-init c = (omega arith, intruders-none c.args.t.now c.args.n)
 pub loop-r-preserved : goal.loop-r-preserved
 loop-r-preserved c =
     
-    
     let kind = c.kind_of.ensures.0 in (
       omega arith,
       ⊎_elim
@@ -24,5 +23,4 @@ loop-r-preserved c =
 
 pub returns : goal.returns
 returns c =
-    
     intruders-all c.args.t.now c.args.n c.loop-r.r c.loop-r.marks c.loop-r-test.false c.loop-r.invariant.1

@@ -8,32 +8,26 @@ use Rattle.state_start.proofs.name_of.Goals as goal
 
 pub returns-then-kind-lt-ROLE : goal.returns-then-kind-lt-ROLE
 returns-then-kind-lt-ROLE c =
-    
     name-itself c.args.t.now c.args.n c.requires.0 c.args.r c.requires.1.0 c.args.u c.args.agents.now c.kind_of-kind.ensures.0 c.if-kind-lt-ROLE.true
 
 pub returns-then-u-eq0 : goal.returns-then-u-eq0
 returns-then-u-eq0 c =
-    
     name-without-run c.args.t.now c.args.n c.requires.0 c.args.r c.requires.1.0 c.args.u c.args.agents.now c.kind_of-kind.ensures.0 c.if-kind-lt-ROLE.false c.if-u-eq0.true
 
 pub returns-then-i-agents : goal.returns-then-i-agents
 returns-then-i-agents c =
-    
     let kind = c.kind_of-kind.ensures.0 in
     let left = c.left_of-i.ensures.0 in
     name-agent c.args.t.now c.args.n c.requires.0 c.args.r c.requires.1.0 c.args.u c.args.agents.now c.if-u-eq0.false c.requires.1.1.1 kind c.if-kind-eq-ROLE.true left c.if-i-agents.true c.wide.ensures.0
 
 pub returns-then-kind-eq-ROLE : goal.returns-then-kind-eq-ROLE
 returns-then-kind-eq-ROLE c =
-    
     name-no-agent c.args.t.now c.args.n c.requires.0 c.args.r c.requires.1.0 c.args.u c.args.agents.now c.if-u-eq0.false c.kind_of-kind.ensures.0 c.if-kind-eq-ROLE.true c.left_of-i.ensures.0 c.if-i-agents.false
 
 pub returns-then-kind-eq-LOCAL : goal.returns-then-kind-eq-LOCAL
 returns-then-kind-eq-LOCAL c =
-    
     rw c.cell.ensures.0 (name-local c.args.t.now c.args.n c.requires.0 c.args.r c.requires.1.0 c.args.u c.args.agents.now c.if-u-eq0.false c.kind_of-kind.ensures.0 c.if-kind-eq-LOCAL.true c.requires.1.1.0)
 
 pub returns : goal.returns
 returns c =
-    
     name-none c.args.t.now c.args.n c.requires.0 c.args.r c.requires.1.0 c.args.u c.args.agents.now c.kind_of-kind.ensures.0 c.if-kind-lt-ROLE.false c.if-kind-eq-ROLE.false c.if-kind-eq-LOCAL.false

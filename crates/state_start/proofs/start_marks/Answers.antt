@@ -13,7 +13,6 @@ loop-i-init c = (omega arith, c.intruder_marks-marks.ensures)
 
 pub bounds-marks-wide : goal.bounds-marks-wide
 bounds-marks-wide c =
-    
     let l = c.requires.1 _ (at_mem c.args.list.now c.loop-i.i c.loop-i-test.true) in
     let few = c.requires.0.few in
     let size = c.loop-i.invariant.1.size in
@@ -21,7 +20,6 @@ bounds-marks-wide c =
 
 pub loop-i-preserved : goal.loop-i-preserved
 loop-i-preserved c =
-    
     let i = c.loop-i.i in
     let low = c.loop-i-test.true in
     let l = c.requires.1 _ (at_mem c.args.list.now i low) in
@@ -29,5 +27,4 @@ loop-i-preserved c =
 
 pub returns : goal.returns
 returns c =
-    
     listed-all c.args.t.now c.args.n c.args.list.now c.loop-i.i c.loop-i.marks c.loop-i-test.false c.loop-i.invariant.1

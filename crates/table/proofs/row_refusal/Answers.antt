@@ -10,25 +10,21 @@ pub returns-then-i-ge-MOST_ROWS : goal.returns-then-i-ge-MOST_ROWS
 returns-then-i-ge-MOST_ROWS c = refusal-many c.args.t.now c.args.i (omega arith) c.requires.1.0 (omega arith)
 
 pub returns-then-with_variable-gt-MOST_VARIABLES : goal.returns-then-with_variable-gt-MOST_VARIABLES
-returns-then-with_variable-gt-MOST_VARIABLES c = 
-    
+returns-then-with_variable-gt-MOST_VARIABLES c =
     refusal-variables c.args.t.now c.args.i (omega arith) c.requires.1.0 c.args.variables c.with_variable.result c.requires.1.1.0 c.with_variable.ensures (omega arith)
 
 pub returns-then-repeats : goal.returns-then-repeats
-returns-then-repeats c = 
-    
+returns-then-repeats c =
     
     refusal-other c.args.t.now c.args.i (omega arith) c.requires.1.0 c.args.variables c.with_variable.result c.requires.1.1.0 c.with_variable.ensures
     (omega arith) (omega arith) (sym c.fits_row.ensures ∙ c.if-fits_row.true) true (sym c.repeats.ensures ∙ c.if-repeats.true)
 
 pub returns-then-fits_row : goal.returns-then-fits_row
-returns-then-fits_row c = 
-    
+returns-then-fits_row c =
     
     refusal-other c.args.t.now c.args.i (omega arith) c.requires.1.0 c.args.variables c.with_variable.result c.requires.1.1.0 c.with_variable.ensures
     (omega arith) (omega arith) (sym c.fits_row.ensures ∙ c.if-fits_row.true) false (sym c.repeats.ensures ∙ c.if-repeats.false)
 
 pub returns : goal.returns
-returns c = 
-    
+returns c =
     refusal-unfit c.args.t.now c.args.i (omega arith) c.requires.1.0 (sym c.fits_row.ensures ∙ c.if-fits_row.false)

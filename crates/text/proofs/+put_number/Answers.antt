@@ -15,16 +15,16 @@ one_more : (n : ℕ) → 10 ≤ n → length (decimal n) ≡ length (decimal (n 
 one_more n l = ap length (decimal-large n l) ∙ length-append (decimal (n / 10)) (digit (n % 10) ∷ [])
 
 pub push-requires : goal.push-requires
-push-requires t c = omega (arith, c.requires.1, ap length (decimal-small c.args.n c.if-n-lt10.true))
+push-requires t c = omega (arith, c.requires, ap length (decimal-small c.args.n c.if-n-lt10.true))
 
 pub returns-then-n-lt10 : goal.returns-then-n-lt10
 returns-then-n-lt10 t c = adds-as (sym (decimal-small c.args.n c.if-n-lt10.true)) c.push.ensures
 
 pub put_number-requires : goal.put_number-requires
-put_number-requires t c = (omega (arith, c.requires.0, c.if-n-lt10.false), omega (arith, c.requires.1, one_more c.args.n c.if-n-lt10.false))
+put_number-requires t c = (omega (arith, c.if-n-lt10.false), omega (arith, c.requires, one_more c.args.n c.if-n-lt10.false))
 
 pub push-requires-2 : goal.push-requires-2
-push-requires-2 t c = omega (arith, c.requires.1, c.put_number.ensures.size, one_more c.args.n c.if-n-lt10.false)
+push-requires-2 t c = omega (arith, c.requires, c.put_number.ensures.size, one_more c.args.n c.if-n-lt10.false)
 
 pub returns : goal.returns
 returns t c = adds-as (sym (decimal-large c.args.n c.if-n-lt10.false)) (adds_on c.put_number.ensures c.push-2.ensures)

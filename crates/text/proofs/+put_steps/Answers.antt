@@ -31,36 +31,32 @@ module _ {bytes : List ℕ} {ms : List Move} (f : FirstStep bytes ms) {count : �
   after-length = length-take (length bytes - (2 + 2 * count)) (drop (2 + 2 * count) bytes) ∙ omega (arith, length-drop (2 + 2 * count) bytes)
 
 pub returns-then-trace-eq0 : goal.returns-then-trace-eq0
-returns-then-trace-eq0 t c ms e = adds-as (steps-none ms _ e c.if1.true) (adds_none _)
+returns-then-trace-eq0 t c ms e = adds-as (steps-none ms _ e c.if-trace-eq0.true) (adds_none _)
 
 pub bounds-trace-1 : goal.bounds-trace-1
 bounds-trace-1 t c =
-    
-    let f = first-step c.requires.1.0.0 _ c.requires.1.0.1 (omega (arith, c.if-trace-eq0.false)) in
+    let f = first-step c.requires.0.0 _ c.requires.0.1 (omega (arith, c.if-trace-eq0.false)) in
     omega (arith, f.size)
 
 pub put_step-more-requires : goal.put_step-more-requires
 put_step-more-requires t c =
-    
-    let f = first-step c.requires.1.0.0 _ c.requires.1.0.1 (omega (arith, c.if-trace-eq0.false)) in
+    let f = first-step c.requires.0.0 _ c.requires.0.1 (omega (arith, c.if-trace-eq0.false)) in
     let e = c.wide.ensures.0 in
-    (c.wide-2.ensures.1, omega (arith, f.size, e, values_length f e, c.requires.1.1))
+    (c.wide-2.ensures.1, omega (arith, f.size, e, values_length f e, c.requires.1))
 
 pub slice_bounds-put_steps-count : goal.slice_bounds-put_steps-count
 slice_bounds-put_steps-count t c =
-    
-    let f = first-step c.requires.1.0.0 _ c.requires.1.0.1 (omega (arith, c.if-trace-eq0.false)) in
+    let f = first-step c.requires.0.0 _ c.requires.0.1 (omega (arith, c.if-trace-eq0.false)) in
     omega (arith, f.size, c.wide.ensures.0)
 
 pub put_steps-requires : goal.put_steps-requires
 put_steps-requires t c =
-    
-    let f = first-step c.requires.1.0.0 _ c.requires.1.0.1 (omega (arith, c.if-trace-eq0.false)) in
+    let f = first-step c.requires.0.0 _ c.requires.0.1 (omega (arith, c.if-trace-eq0.false)) in
     let e = c.wide.ensures.0 in
-    (omega (arith, c.requires.0, f.size, e, after-length f e), ((f.others, after_first f e), omega (arith, c.put_step-more.ensures.0, values_length f e, after-length f e, f.size, e, c.requires.1.1)))
+    (omega (arith, f.size, e, after-length f e), ((f.others, after_first f e), omega (arith, c.put_step-more.ensures.0, values_length f e, after-length f e, f.size, e, c.requires.1)))
 
 pub returns : goal.returns
 returns t c ms h =
-    let f = first-step ms _ h (omega (arith, c.before.before.before.before.before.before.before.before.if1.false)) in
-    let e = c.before.before.before.before.before.before.wide.ensures.0 in
-    adds-as f.texts (adds_on (c.before.before.put_step.ensures.1 f.move (c.before.before.before.before.wide2.ensures.0 ∙ f.run) (first-values f e)) (c.put-steps.ensures f.others (after_first f e)))
+    let f = first-step ms _ h (omega (arith, c.if-trace-eq0.false)) in
+    let e = c.wide.ensures.0 in
+    adds-as f.texts (adds_on (c.put_step-more.ensures.1 f.move (c.wide-2.ensures.0 ∙ f.run) (first-values f e)) (c.put_steps.ensures f.others (after_first f e)))

@@ -25,22 +25,19 @@ returns-then-values-lt2 t c = (omega arith, λ vs e. adds-as (values-none vs _ e
 
 pub put_with-run-requires : goal.put_with-run-requires
 put_with-run-requires t c =
-    
-    omega (arith, c.put_with-row.ensures.0.size, decimal-few 2 c.wide.result (omega (arith, c.wide.ensures.1)), c.requires.1, c.if-values-lt2.false)
+    omega (arith, c.put_with-row.ensures.0.size, decimal-few 2 c.wide.result (omega (arith, c.wide.ensures.1)), c.requires, c.if-values-lt2.false)
 
 pub put_values-requires : goal.put_values-requires
 put_values-requires t c =
     
     
-    
     let row = decimal-few 2 c.wide.result (omega (arith, c.wide.ensures.1)) in
     let run = decimal-few 2 c.wide-2.result (omega (arith, c.wide-2.ensures.1)) in
     let size = rest-length c.args.values.now in
-    (omega (arith, c.requires.0, size, c.if-values-lt2.false), omega (arith, c.put_with-row.ensures.0.size, c.put_with-run.ensures.0.size, size, c.requires.1, c.if-values-lt2.false))
+    (omega (arith, size, c.if-values-lt2.false), omega (arith, c.put_with-row.ensures.0.size, c.put_with-run.ensures.0.size, size, c.requires, c.if-values-lt2.false))
 
 pub returns : goal.returns
 returns t c =
-    
     
     
     let row = decimal-few 2 c.wide.result (omega (arith, c.wide.ensures.1)) in

@@ -20,15 +20,15 @@ broken-requires c =
     ((found.moves, found.trace), omega (arith, found.short, p.1.small))
 
 pub returns-in-Refused : goal.returns-in-Refused
-returns-in-Refused c a shown = holds_as (text-refused a (sym c.before.before.answer.given.1 ∙ shown.is_answer)) c.refused.ensures
+returns-in-Refused c a shown = holds_as (text-refused a (sym c.answer-1.given.1 ∙ shown.is_answer)) c.refused.ensures
 
 pub returns-in-Broken : goal.returns-in-Broken
 returns-in-Broken c a shown =
-    let f = text-broken a shown.buffer (sym c.before.before.before.answer2.given.1 ∙ shown.is_answer) shown.is_written in
+    let f = text-broken a shown.buffer (sym c.answer-in-Broken-1.given.1 ∙ shown.is_answer) shown.is_written in
     holds_as f.text (c.broken.ensures f.moves f.trace)
 
 pub returns-in-Held : goal.returns-in-Held
-returns-in-Held c a shown = holds_as (text-held a (sym c.before.before.before.before.before.answer3.given.1 ∙ shown.is_answer)) (adds-all c.before.before.before.empty.ensures (adds_on c.before.put.ensures c.put-line.ensures.0))
+returns-in-Held c a shown = holds_as (text-held a (sym c.answer-in-Held-1.given.1 ∙ shown.is_answer)) (adds-all c.empty.ensures (adds_on c.put.ensures c.put_line.ensures.0))
 
 pub returns-in-Stopped : goal.returns-in-Stopped
-returns-in-Stopped c a shown = holds_as (text-stopped a (sym c.before.before.before.before.before.answer4.given.1 ∙ shown.is_answer)) (adds-all c.before.before.before.empty2.ensures (adds_on c.before.put2.ensures c.put-line2.ensures.0))
+returns-in-Stopped c a shown = holds_as (text-stopped a (sym c.answer-in-Stopped-1.given.1 ∙ shown.is_answer)) (adds-all c.empty-in-Stopped.ensures (adds_on c.put-in-Stopped.ensures c.put_line-in-Stopped.ensures.0))

@@ -15,12 +15,10 @@ push-requires c =
 pub put_steps-requires : goal.put_steps-requires
 put_steps-requires c =
     
-    
     (c.requires.0, omega (arith, c.push.ensures.size, c.put_with.ensures.1, c.put_with-run.ensures.1, c.put_with-place.ensures.1, c.empty.ensures, c.requires.1))
 
 pub returns : goal.returns
 unfolding broken_text
 returns c ms e =
-    let w = c.before.before in
-    adds-all w.before.before.before.before.before.before.empty.ensures
-    (adds_on w.before.before.before.before.put-with.ensures.0 (adds_on w.before.before.put-with2.ensures.0 (adds_on w.put-with3.ensures.0 (adds_on c.before.push.ensures (c.put-steps.ensures ms e)))))
+    adds-all c.empty.ensures
+    (adds_on c.put_with-place.ensures.0 (adds_on c.put_with-run.ensures.0 (adds_on c.put_with.ensures.0 (adds_on c.push.ensures (c.put_steps.ensures ms e)))))

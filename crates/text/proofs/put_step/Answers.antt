@@ -13,13 +13,11 @@ put_values-requires c = omega (arith, c.put_with.ensures.0.size, decimal-few 2 c
 
 pub push-requires : goal.push-requires
 push-requires c =
-    
     omega (arith, c.put_with.ensures.0.size, decimal-few 2 c.args.run (omega (arith, c.requires.0)), c.requires.1, c.put_values.ensures.0)
 
 pub returns : goal.returns
 unfolding step_text
 returns c =
-    
     (
       omega (arith, c.put_with.ensures.0.size, decimal-few 2 c.args.run (omega (arith, c.requires.0)), c.put_values.ensures.0, c.push.ensures.size),
       λ m e v.

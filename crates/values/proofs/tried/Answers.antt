@@ -5,7 +5,6 @@ use Rattle.values.proofs.tried.Goals as goal
 
 pub with_names-requires : goal.with_names-requires
 with_names-requires c =
-    
     (c.requires.0.0, (c.requires.0.1.0, (omega (arith, c.copy-2.auto, c.requires.1.0.1), omega (arith, c.put.auto, c.copy.auto, c.requires.1.0.0))))
 
 pub returns : goal.returns

@@ -16,7 +16,6 @@ loop-r-init c = (omega arith, closed-start (rows_of c.args.t.now) c.args.x (tabl
 pub loop-r-preserved : goal.loop-r-preserved
 loop-r-preserved c =
     
-    
     let next : c.loop-r.r ≡ c.loop-r.r - 1 + 1 = omega arith in
     (omega arith, c.mark_parts.ensures c.args.x (rw next at c.loop-r.invariant.1))
 

@@ -20,5 +20,4 @@ bounds-below-second_of c = second-small c.args.t.now c.args.n 0 c.requires.0 c.a
 
 pub returns : goal.returns
 returns c =
-    
     closed_parts c.args.t.now c.args.n c.requires.0 c.args.r c.requires.1 c.args.below.now (not-false _ c.if-not-below-r.false) (omega arith) c.left_of.ensures.0 c.second_of.ensures.0

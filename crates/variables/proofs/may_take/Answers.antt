@@ -6,18 +6,15 @@ use Rattle.variables.proofs.may_take.Goals as goal
 
 pub returns-then-n-r : goal.returns-then-n-r
 returns-then-n-r c =
-    
     λ a e. may-absent c.args.t.now c.args.n c.args.runs c.requires.0 c.args.x c.requires.1.0 c.requires.1.1 c.args.r c.args.w e c.if-n-r.true
 
 pub returns-then-w-first : goal.returns-then-w-first
 returns-then-w-first c =
-    
     λ a e. may-below c.args.t.now c.args.n c.args.runs c.requires.0 c.args.x c.requires.1.0 c.requires.1.1 c.args.r c.args.w e
     (first_read c.args.t.now c.args.n c.args.runs c.requires.0 c.args.x c.requires.1.0 c.args.r c.kind_of-kind.ensures.0 c.first_run-first.ensures.0) c.if-w-first.true
 
 pub returns : goal.returns
 returns c =
-    
     
     
     λ a e. may-counted c.args.t.now c.args.n c.args.runs c.requires.0 c.args.x c.requires.1.0 c.requires.1.1 c.args.r c.args.w e c.if-n-r.false

@@ -17,7 +17,6 @@ returns-then-run-first c =
     
     
     
-    
     let first = first_read c.args.t.now c.args.n c.args.runs c.requires.0 c.args.x c.requires.1.0 c.loop-y.y c.kind_of-kind.ensures.0 c.first_run-first.ensures.0 in
     let count = count-read c.args.t.now c.args.n c.args.runs c.requires.0 c.args.x c.requires.1.0 c.loop-y.y c.kind_of-kind.ensures.0 c.is_fresh-fresh.ensures c.run_count.ensures.0 in
     next_here c.args.t.now c.args.n c.args.runs c.requires.0 c.args.x c.requires.1.0 c.args.r c.args.w c.loop-y.y c.loop-y.v c.loop-y.invariant.1 c.loop-y-test.true first count c.higher-run.ensures c.if-run-first.true
@@ -30,13 +29,11 @@ loop-y-preserved c =
     
     
     
-    
     let first = first_read c.args.t.now c.args.n c.args.runs c.requires.0 c.args.x c.requires.1.0 c.loop-y.y c.kind_of-kind.ensures.0 c.first_run-first.ensures.0 in
     let count = count-read c.args.t.now c.args.n c.args.runs c.requires.0 c.args.x c.requires.1.0 c.loop-y.y c.kind_of-kind.ensures.0 c.is_fresh-fresh.ensures c.run_count.ensures.0 in
     (omega (arith, c.loop-y-test.true), ahead_more c.args.t.now c.args.n c.args.runs c.requires.0 c.args.x c.requires.1.0 c.args.r c.args.w c.loop-y.y c.loop-y.v c.loop-y.invariant.1 c.loop-y-test.true first count c.higher-run.ensures c.if-run-first.false)
 
 pub returns : goal.returns
 returns c =
-    
     
     next-none c.args.t.now c.args.n c.args.runs c.requires.0 c.args.x c.requires.1.0 c.args.r c.args.w c.loop-y.y c.loop-y.v c.loop-y.invariant.1 c.loop-y-test.false

@@ -14,7 +14,6 @@ loop-x-init c = (omega arith, gathered_none c.args.t.now c.args.n c.args.set.now
 pub bounds-found-count : goal.bounds-found-count
 bounds-found-count c =
     
-    
     (place-left c.args.t.now c.args.n c.requires c.loop-x.invariant.1.few c.loop-x-test.true (sym c.kind_of.ensures.0 ∙ c.if-kind_of-eq-VARIABLE.true)).1
 
 pub offset_bounds-found-count : goal.offset_bounds-found-count
@@ -25,7 +24,6 @@ overflow_add-count c = let place = array-write-found c in omega arith
 
 pub loop-x-preserved : goal.loop-x-preserved
 loop-x-preserved c =
-    
     
     let low = c.loop-x-test.true in
     let g = c.loop-x.invariant.1 in

@@ -9,14 +9,13 @@ use borrow.Author.Rules.{rules}
 use Rattle.variables.proofs.without_value.Goals as goal
 
 pub loop-x-init : goal.loop-x-init
-loop-x-init c = (omega arith, cleared-none c.args.set c.args.values.now c.args.u c.well-formed.0.1.0.1)
+loop-x-init c = (omega arith, cleared-none c.args.set c.args.values.now c.args.u c.well_formed.0.1.0.1)
 
 pub loop-x-preserved : goal.loop-x-preserved
 loop-x-preserved c =
-    
     
     let e = class-read c.args.values.now c.requires.0 c.cell.ensures.0 c.cell.ensures.1 in
     (omega arith, ⊎_elim (λ w. rw w.1 (cleared-gone c.loop-x.invariant.1 c.loop-x-test.true (λ a. w.0.true (e ∙ a)))) (λ w. rw w.1 (cleared-kept c.loop-x.invariant.1 (sym e ∙ w.0.false))) c.if-values-cell-ne-ABSENT.branch-raw)
 
 pub returns : goal.returns
-returns c x l = c.before.loop.invariant.1.done x (omega (arith, c.loop-test.false))
+returns c x l = c.loop-x.invariant.1.done x (omega (arith, c.loop-x-test.false))

@@ -15,26 +15,22 @@ loop-u-init c = (omega arith, refl, λ sc given. given-none given)
 
 pub agents_of-agents-requires : goal.agents_of-agents-requires
 agents_of-agents-requires c =
-    
     let given = c.requires.1.0 in
     (c.requires.0, (given.runs, (c.loop-u-test.true, given.size)))
 
 pub entered-more-requires : goal.entered-more-requires
 entered-more-requires c =
-    
     let given = c.requires.1.0 in
     (shape-sized given.shape, (omega (arith, given.runs.few, c.loop-u-test.true), given-agents given (c.agents_of-agents.ensures c.requires.0 given.runs given.good)))
 
 pub refill-requires : goal.refill-requires
 refill-requires c =
     
-    
     let given = c.requires.1.0 in
     (given.shape, (c.loop-u.invariant.1, (c.entered-more.ensures.size, c.loop-u-test.true)))
 
 pub loop-u-preserved : goal.loop-u-preserved
 loop-u-preserved c =
-    
     
     let agents = c.agents_of-agents in
     let entered = c.entered-more in
@@ -45,7 +41,6 @@ loop-u-preserved c =
 
 pub start_marks-requires : goal.start_marks-requires
 start_marks-requires c =
-    
     let given = c.requires.1.0 in
     (shape-sized given.shape, given-listed given _ c.requires.1.1)
 
@@ -54,5 +49,4 @@ settle-marks-requires c = (c.requires.1.0.shape, c.loop-u.invariant.1)
 
 pub returns : goal.returns
 returns c sc given e =
-    let l = c.before.before.before.before in
-    given-start given _ e l.loop.names l.loop.classes c.before.before.start-marks.result c.settle.result c.before.before.before.loop-test.false (l.loop.invariant.2 sc given) c.before.before.start-marks.ensures c.settle.ensures
+    given-start given _ e c.loop-u.names c.loop-u.classes c.start_marks.result c.settle-marks.result c.loop-u-test.false (c.loop-u.invariant.2 sc given) c.start_marks.ensures c.settle-marks.ensures
