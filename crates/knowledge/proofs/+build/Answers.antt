@@ -21,8 +21,8 @@ build-requires t c =
 pub loop-y-init : goal.loop-y-init
 loop-y-init t c =
     (
-      ⊎_elim (λ w. omega (arith, w.6)) (λ w. omega (arith, w.2)) c.if-r-gt16.branch-raw,
-      (⊎_elim (λ w. ap length w.5 ∙ w.2.kept.0 ∙ c.requires.0) (λ w. ap length w.1 ∙ c.requires.0) c.if-r-gt16.branch-raw, stays),
+      ⊎_elim (λ w. omega (arith, w.y-is)) (λ w. omega (arith, w.y-is)) c.if-r-gt16.branch-raw,
+      (⊎_elim (λ w. ap length w.marks-is ∙ w.build.kept.0 ∙ c.requires.0) (λ w. ap length w.1 ∙ c.requires.0) c.if-r-gt16.branch-raw, stays),
     )
 
 pub build_row-requires : goal.build_row-requires
@@ -30,7 +30,7 @@ build_row-requires t c =
     (c.loop-y.invariant.1.0, (c.requires.1.0, (c.requires.1.1.0, omega (arith, c.requires.1.1.1, c.loop-y-test.true))))
 
 pub loop-y-preserved : goal.loop-y-preserved
-loop-y-preserved t c = (omega (arith, c.loop-y-test.true), (c.build_row.auto.0 ∙ c.loop-y.invariant.1.0, reaches-on c.loop-y.invariant.1.1 c.build_row.ensures))
+loop-y-preserved t c = (omega (arith, c.loop-y-test.true), (c.build_row.auto.marks ∙ c.loop-y.invariant.1.0, reaches-on c.loop-y.invariant.1.1 c.build_row.ensures))
 
 pub returns : goal.returns
-returns t c = reaches-on (⊎_elim (λ w. reaches_same w.2.ensures w.5) (λ w. reaches_same stays w.1) c.if-r-gt16.branch-raw) c.loop-y.invariant.1.1
+returns t c = reaches-on (⊎_elim (λ w. reaches_same w.build.ensures w.marks-is) (λ w. reaches_same stays w.marks-is) c.if-r-gt16.branch-raw) c.loop-y.invariant.1.1

@@ -16,8 +16,8 @@ pub loop-r-preserved : goal.loop-r-preserved
 loop-r-preserved c =
     (
       omega arith,
-      ⊎_elim (λ w. filled-set _ _ _ _ c.loop-r.invariant.1 (omega (arith, c.loop-r-test.true), omega (arith, c.loop-u-test.true)) (marked c.args.start.now refl w.0.true c.cell.ensures.0) w.1.ensures w.2.true w.3)
-          (⊎_elim (λ w. filled-skip _ _ _ _ c.loop-r.invariant.1 (λ d l. omega (arith, w.1.ensures, w.2.false)) w.3)
+      ⊎_elim (λ w. filled-set _ _ _ _ c.loop-r.invariant.1 (omega (arith, c.loop-r-test.true), omega (arith, c.loop-u-test.true)) (marked c.args.start.now refl w.if-start-cell.true c.cell.ensures.0) w.class_at-class.ensures w.if-class-lt-ABSENT.true w.marks-is)
+          (⊎_elim (λ w. filled-skip _ _ _ _ c.loop-r.invariant.1 (λ d l. omega (arith, w.class_at-class.ensures, w.if-class-lt-ABSENT.false)) w.3)
           (λ w. filled-skip _ _ _ _ c.loop-r.invariant.1 (λ d l. unmarked c.args.start.now refl w.0.false c.cell.ensures.0 d) w.1))
           c.if-start-cell.branch-raw,
     )

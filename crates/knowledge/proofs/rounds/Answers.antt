@@ -14,7 +14,7 @@ pub rounds-init : goal.rounds-init
 rounds-init c = (search rules, stays)
 
 pub loop-x-init : goal.loop-x-init
-loop-x-init c = (omega arith, (refl, (c.build.auto.0 ∙ c.rounds.invariant.0, λ y l. absurd (omega arith))))
+loop-x-init c = (omega arith, (refl, (c.build.auto.marks ∙ c.rounds.invariant.0, λ y l. absurd (omega arith))))
 
 pub loop-x-preserved : goal.loop-x-preserved
 loop-x-preserved c = (omega arith, (c.loop-x.invariant.1.0, (c.loop-x.invariant.1.1.0, rows_more c.row_gain-gained.ensures c.loop-x.invariant.1.1.1 (omega (arith, c.if-gained-lt-ABSENT.false)))))

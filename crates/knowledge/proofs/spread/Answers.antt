@@ -15,8 +15,8 @@ pub loop-r-preserved : goal.loop-r-preserved
 loop-r-preserved c =
     (
       omega arith,
-      ⊎_elim (λ w. filled-set _ _ _ _ c.loop-r.invariant.1 (omega (arith, c.loop-r-test.true), omega (arith, c.loop-w-test.true)) (marked c.args.marks.now c.is_marked.ensures w.0.true c.class_at.ensures) w.1.ensures.0 w.1.ensures.1 w.2)
-          (λ w. filled-skip _ _ _ _ c.loop-r.invariant.1 (λ d l. unmarked c.args.marks.now c.is_marked.ensures w.0.false c.class_at.ensures d) w.1)
+      ⊎_elim (λ w. filled-set _ _ _ _ c.loop-r.invariant.1 (omega (arith, c.loop-r-test.true), omega (arith, c.loop-w-test.true)) (marked c.args.marks.now c.is_marked.ensures w.if-is_marked.true c.class_at.ensures) w.cell-c.ensures.0 w.cell-c.ensures.1 w.out-is)
+          (λ w. filled-skip _ _ _ _ c.loop-r.invariant.1 (λ d l. unmarked c.args.marks.now c.is_marked.ensures w.if-is_marked.false c.class_at.ensures d) w.out-is)
           c.if-is_marked.branch-raw,
     )
 

@@ -63,7 +63,7 @@ loop-c-smaller t c = omega (arith, c.loop-c-test.true)
 pub loop-c-preserved : goal.loop-c-preserved
 loop-c-preserved t c =
     
-    (omega (arith, c.loop-c-test.true), ⊎_elim (λ w. tried-more c.requires.scene c.settled-less.result (omega (arith, c.if-vars-i.false)) c.loop-c-test.true w.1.result w.1.ensures w.2.ensures w.3.false c.loop-c.invariant.1) (λ w. tried-absent c.requires.scene c.settled-less.result (omega (arith, c.if-vars-i.false)) w.left c.loop-c.invariant.1) c.if-less-i.branch-raw)
+    (omega (arith, c.loop-c-test.true), ⊎_elim (λ w. tried-more c.requires.scene c.settled-less.result (omega (arith, c.if-vars-i.false)) c.loop-c-test.true w.narrow_to-only.result w.narrow_to-only.ensures w.completable.ensures w.if-completable.false c.loop-c.invariant.1) (λ w. tried-absent c.requires.scene c.settled-less.result (omega (arith, c.if-vars-i.false)) w.left c.loop-c.invariant.1) c.if-less-i.branch-raw)
 
 pub returns : goal.returns
 returns t c =

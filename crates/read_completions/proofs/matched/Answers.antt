@@ -24,7 +24,7 @@ loop-c-smaller c = omega (arith, c.loop-c-test.true)
 pub loop-c-preserved : goal.loop-c-preserved
 loop-c-preserved c =
     let l = c.loop-c in
-    (omega (arith, c.loop-c-test.true), ⊎_elim (λ w. rw w.3 (matched-more c.requires.0 c.args.dom.now c.args.i c.args.r c.requires.1.0 l.invariant.1 w.1.ensures w.2.ensures)) (λ w. rw w.1 (matched-unmarked c.requires.0 c.args.dom.now c.args.i c.args.r l.set w.0.false l.invariant.1)) c.if-marks-c.branch-raw)
+    (omega (arith, c.loop-c-test.true), ⊎_elim (λ w. rw w.set-is (matched-more c.requires.0 c.args.dom.now c.args.i c.args.r c.requires.1.0 l.invariant.1 w.needs_at-needs.ensures w.admit-more.ensures)) (λ w. rw w.set-is (matched-unmarked c.requires.0 c.args.dom.now c.args.i c.args.r l.set w.if-marks-c.false l.invariant.1)) c.if-marks-c.branch-raw)
 
 pub returns : goal.returns
 returns c =

@@ -28,7 +28,7 @@ loop-i-smaller c = omega (arith, c.loop-i-test.true)
 pub loop-i-preserved : goal.loop-i-preserved
 loop-i-preserved c =
     let l = c.loop-i in
-    (omega (arith, c.loop-i-test.true), ⊎_elim (λ w. rw w.4 (kept_more c.requires.scene c.args.dom c.loop-i-test.true l.less w.2.result w.3.result l.invariant.1 w.2.ensures w.3.ensures)) (λ w. rw w.1 l.invariant.1) c.if-is_open.branch-raw)
+    (omega (arith, c.loop-i-test.true), ⊎_elim (λ w. rw w.less-is (kept_more c.requires.scene c.args.dom c.loop-i-test.true l.less w.set_of-set.result w.narrow-next.result l.invariant.1 w.set_of-set.ensures w.narrow-next.ensures)) (λ w. rw w.less-is l.invariant.1) c.if-is_open.branch-raw)
 
 pub returns : goal.returns
 returns c = c.loop-i.invariant.1

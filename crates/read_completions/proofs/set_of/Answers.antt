@@ -33,7 +33,7 @@ loop-r-smaller c = omega (arith, c.loop-r-test.true)
 pub loop-r-preserved : goal.loop-r-preserved
 loop-r-preserved c =
     let l = c.loop-r in
-    (omega (arith, c.loop-r-test.true), ⊎_elim (λ w. rw w.6 (rows_more c.requires.0.scene c.args.dom.now l.invariant.1 w.2.ensures w.4.ensures)) (λ w. rw w.1 l.invariant.1) c.if-below-r.branch-raw)
+    (omega (arith, c.loop-r-test.true), ⊎_elim (λ w. rw w.sets-is (rows_more c.requires.0.scene c.args.dom.now l.invariant.1 w.set_at-set.ensures w.put.ensures)) (λ w. rw w.sets-is l.invariant.1) c.if-below-r.branch-raw)
 
 pub slice_bounds-join-end : goal.slice_bounds-join-end
 slice_bounds-join-end c = sym c.loop-r.invariant.1.size

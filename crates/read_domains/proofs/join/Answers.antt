@@ -15,7 +15,7 @@ loop-c-init c = (omega arith, joins-start c.args.set c.args.sets.now c.args.l c.
 
 pub loop-c-preserved : goal.loop-c-preserved
 loop-c-preserved c =
-    (omega (arith, c.loop-c-test.true), ⊎_elim (λ w. rw w.3 (joins_set c.loop-c-test.true c.loop-c.invariant.1)) (⊎_elim (λ w. rw w.3 (joins-skip (λ p q. false≢true (sym w.2.false ∙ q)) c.loop-c.invariant.1)) (λ w. rw w.1 (joins-skip (λ p q. false≢true (sym w.0.false ∙ p)) c.loop-c.invariant.1))) c.if-sets-l.branch-raw)
+    (omega (arith, c.loop-c-test.true), ⊎_elim (λ w. rw w.more-is (joins_set c.loop-c-test.true c.loop-c.invariant.1)) (⊎_elim (λ w. rw w.more-is (joins-skip (λ p q. false≢true (sym w.if-sets-s.false ∙ q)) c.loop-c.invariant.1)) (λ w. rw w.more-is (joins-skip (λ p q. false≢true (sym w.if-sets-l.false ∙ p)) c.loop-c.invariant.1))) c.if-sets-l.branch-raw)
 
 pub returns : goal.returns
 returns c = joins-all c.loop-c-test.false c.loop-c.invariant.1

@@ -13,4 +13,4 @@ use Rattle.read_domains.proofs.narrow.Goals as goal
 pub loop-c-preserved : goal.loop-c-preserved
 loop-c-preserved c =
     
-    (omega (arith, c.loop-c-test.true), ⊎_elim (λ w. rw w.1 (narrows-set c.args.dom c.args.i c.args.set c.loop-c.less c.loop-c.c c.loop-c-test.true (not-true _ w.0.true) c.loop-c.invariant.1)) (λ w. rw w.1 c.loop-c.invariant.1) c.if-not-set-c.branch-raw)
+    (omega (arith, c.loop-c-test.true), ⊎_elim (λ w. rw w.less-is (narrows-set c.args.dom c.args.i c.args.set c.loop-c.less c.loop-c.c c.loop-c-test.true (not-true _ w.if-not-set-c.true) c.loop-c.invariant.1)) (λ w. rw w.1 c.loop-c.invariant.1) c.if-not-set-c.branch-raw)

@@ -13,7 +13,7 @@ use Rattle.read_domains.proofs.size.Goals as goal
 
 pub loop-c-preserved : goal.loop-c-preserved
 loop-c-preserved c =
-    (omega (arith, c.loop-c-test.true), ⊎_elim (λ w. (omega arith, λ e k p. omega arith)) (λ w. rw w.1 (omega arith, below_more _ _ c.loop-c.invariant.1.1 (λ p. absurd (false≢true (sym w.0.false ∙ p))))) c.if-dom-i.branch-raw)
+    (omega (arith, c.loop-c-test.true), ⊎_elim (λ w. (omega arith, λ e k p. omega arith)) (λ w. rw w.count-is (omega arith, below_more _ _ c.loop-c.invariant.1.1 (λ p. absurd (false≢true (sym w.if-dom-i.false ∙ p))))) c.if-dom-i.branch-raw)
 
 pub returns : goal.returns
 returns c = (omega (arith, c.loop-c.invariant.0), λ e l. c.loop-c.invariant.1.1 e (omega (arith, c.loop-c-test.false)))

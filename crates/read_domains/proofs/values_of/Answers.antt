@@ -17,7 +17,7 @@ loop-c-smaller c = omega (arith, c.loop-c-test.true)
 pub loop-c-preserved : goal.loop-c-preserved
 loop-c-preserved c =
     
-    (omega (arith, c.loop-c-test.true), ⊎_elim (λ w. rw w.2 (listed_more c.args.t.now c.args.scope.rows c.args.scope.runs c.args.classes.now c.args.marks.now c.args.only c.args.q c.loop-c.invariant.1 (w.1.ensures c.args.t.now c.args.scope.rows c.args.scope.runs c.args.q))) (λ w. rw w.1 (listed_more c.args.t.now c.args.scope.rows c.args.scope.runs c.args.classes.now c.args.marks.now c.args.only c.args.q c.loop-c.invariant.1 (listed-other c.args.t.now c.args.scope.rows c.args.scope.runs c.args.classes.now c.args.marks.now c.args.only c.args.q c.loop-c.c c.loop-c.set c.requires.0.0 c.may_take.ensures w.0.false))) c.if-may_take.branch-raw)
+    (omega (arith, c.loop-c-test.true), ⊎_elim (λ w. rw w.set-is (listed_more c.args.t.now c.args.scope.rows c.args.scope.runs c.args.classes.now c.args.marks.now c.args.only c.args.q c.loop-c.invariant.1 (w.with_value-more.ensures c.args.t.now c.args.scope.rows c.args.scope.runs c.args.q))) (λ w. rw w.set-is (listed_more c.args.t.now c.args.scope.rows c.args.scope.runs c.args.classes.now c.args.marks.now c.args.only c.args.q c.loop-c.invariant.1 (listed-other c.args.t.now c.args.scope.rows c.args.scope.runs c.args.classes.now c.args.marks.now c.args.only c.args.q c.loop-c.c c.loop-c.set c.requires.0.0 c.may_take.ensures w.if-may_take.false))) c.if-may_take.branch-raw)
 
 pub returns : goal.returns
 returns c =

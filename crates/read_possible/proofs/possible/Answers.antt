@@ -26,7 +26,7 @@ loop-r-preserved c =
     
     let k = c.loop-r-test.true in
     let few = c.requires.0.0.few in
-    (omega arith, ⊎_elim (λ w. rw w.3 (tested-set (omega arith) c.loop-r.invariant.1 w.2.ensures)) (λ w. rw w.1 c.loop-r.invariant.1) c.if-below-r.branch-raw)
+    (omega arith, ⊎_elim (λ w. rw w.can-is (tested-set (omega arith) c.loop-r.invariant.1 w.test_row-passes.ensures)) (λ w. rw w.can-is c.loop-r.invariant.1) c.if-below-r.branch-raw)
 
 pub returns : goal.returns
 returns c =

@@ -24,7 +24,7 @@ loop-r-preserved c =
     (
       omega arith,
       c.loop-r.invariant.1 ∙ ⊎_elim
-          (λ w. absent-present c.args.t.now c.args.n c.args.roles c.args.base c.requires.0 c.loop-r.r c.loop-r-test.true (rw (← w.1.ensures.0) w.2.false))
+          (λ w. absent-present c.args.t.now c.args.n c.args.roles c.args.base c.requires.0 c.loop-r.r c.loop-r-test.true (rw (← w.left_of.ensures.0) w.if-roles-left_of.false))
           (λ w. absent-other c.args.t.now c.args.n c.args.roles c.args.base c.requires.0 c.loop-r.r c.loop-r-test.true (rw (← c.kind_of.ensures.0) w.left))
           c.if-kind_of-eq-ROLE.branch-raw,
     )

@@ -8,4 +8,4 @@ use Rattle.search_memory.proofs.slot_for.Goals as goal
 pub loop-way-preserved : goal.loop-way-preserved
 loop-way-preserved c =
     let way = c.loop-way-test.true in
-    (omega (arith, way), ⊎_elim (λ w. omega (arith, w.1, way, c.first_slot-first.ensures)) (λ w. omega (arith, w.1, c.loop-way.invariant.1)) c.if-count-least.branch-raw)
+    (omega (arith, way), ⊎_elim (λ w. omega (arith, w.slot-is, way, c.first_slot-first.ensures)) (λ w. omega (arith, w.slot-is, c.loop-way.invariant.1)) c.if-count-least.branch-raw)

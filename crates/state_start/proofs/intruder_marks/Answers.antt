@@ -16,8 +16,8 @@ loop-r-preserved c =
     let kind = c.kind_of.ensures.0 in (
       omega arith,
       ⊎_elim
-          (λ w. intruders-set c.args.t.now c.args.n c.loop-r.r c.loop-r.marks c.loop-r-test.true c.requires.few c.loop-r.invariant.1 (sym kind ∙ w.0.true) w.1)
-          (λ w. intruders-skip c.args.t.now c.args.n c.loop-r.r c.loop-r.marks c.loop-r-test.true c.requires.few c.loop-r.invariant.1 (λ e. w.0.false (kind ∙ e)) w.1)
+          (λ w. intruders-set c.args.t.now c.args.n c.loop-r.r c.loop-r.marks c.loop-r-test.true c.requires.few c.loop-r.invariant.1 (sym kind ∙ w.if-kind_of-eq-INTRUDER.true) w.marks-is)
+          (λ w. intruders-skip c.args.t.now c.args.n c.loop-r.r c.loop-r.marks c.loop-r-test.true c.requires.few c.loop-r.invariant.1 (λ e. w.if-kind_of-eq-INTRUDER.false (kind ∙ e)) w.marks-is)
           c.if-kind_of-eq-INTRUDER.branch-raw,
     )
 

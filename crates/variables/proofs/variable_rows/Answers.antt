@@ -28,7 +28,7 @@ loop-x-preserved c =
     let low = c.loop-x-test.true in
     let g = c.loop-x.invariant.1 in
     let other = gathered-other c.args.t.now c.args.n c.requires c.args.set.now g in
-    (omega arith, ⊎_elim (λ w. rw (w.3, w.4) (gathered-variable c.args.t.now c.args.n c.requires c.args.set.now g low (sym w.1.ensures.0 ∙ w.2.true) w.0.true)) (⊎_elim (λ w. rw (w.3, w.4) (other (λ e i. w.2.false (w.1.ensures.0 ∙ e)))) (λ w. rw (w.1, w.2) (other (λ e i. false≢true (sym w.0.false ∙ i))))) c.if-set-x.branch-raw)
+    (omega arith, ⊎_elim (λ w. rw (w.found-is, w.count-is) (gathered-variable c.args.t.now c.args.n c.requires c.args.set.now g low (sym w.kind_of.ensures.0 ∙ w.if-kind_of-eq-VARIABLE.true) w.if-set-x.true)) (⊎_elim (λ w. rw (w.found-is, w.4) (other (λ e i. w.2.false (w.1.ensures.0 ∙ e)))) (λ w. rw (w.1, w.2) (other (λ e i. false≢true (sym w.0.false ∙ i))))) c.if-set-x.branch-raw)
 
 pub returns : goal.returns
 returns c = gathered-all c.args.t.now c.args.n c.requires c.args.set.now c.loop-x.invariant.1 c.loop-x-test.false

@@ -15,7 +15,7 @@ pub loop-x-preserved : goal.loop-x-preserved
 loop-x-preserved c =
     
     let e = class-read c.args.values.now c.requires.0 c.cell.ensures.0 c.cell.ensures.1 in
-    (omega arith, ⊎_elim (λ w. rw w.1 (cleared-gone c.loop-x.invariant.1 c.loop-x-test.true (λ a. w.0.true (e ∙ a)))) (λ w. rw w.1 (cleared-kept c.loop-x.invariant.1 (sym e ∙ w.0.false))) c.if-values-cell-ne-ABSENT.branch-raw)
+    (omega arith, ⊎_elim (λ w. rw w.less-is (cleared-gone c.loop-x.invariant.1 c.loop-x-test.true (λ a. w.if-values-cell-ne-ABSENT.true (e ∙ a)))) (λ w. rw w.less-is (cleared-kept c.loop-x.invariant.1 (sym e ∙ w.if-values-cell-ne-ABSENT.false))) c.if-values-cell-ne-ABSENT.branch-raw)
 
 pub returns : goal.returns
 returns c x l = c.loop-x.invariant.1.done x (omega (arith, c.loop-x-test.false))

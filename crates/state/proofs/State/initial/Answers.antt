@@ -35,8 +35,8 @@ loop-u-preserved c =
     let agents = c.agents_of-agents in
     let entered = c.entered-more in
     let refill = c.refill in
-    let begun : (sc : Scenario) (given : Given c.args.file.now c.args.t.now c.args.n c.args.r sc) → Begun given (c.loop-u.u + 1) entered.result refill.new.0 = λ sc given.
-    given-more given c.loop-u.u _ c.loop-u.names entered.result c.loop-u.classes refill.new.0 (c.loop-u.invariant.2 sc given) entered.ensures (agents.ensures sc given.runs given.good) refill.ensures in
+    let begun : (sc : Scenario) (given : Given c.args.file.now c.args.t.now c.args.n c.args.r sc) → Begun given (c.loop-u.u + 1) entered.result refill.new.classes = λ sc given.
+    given-more given c.loop-u.u _ c.loop-u.names entered.result c.loop-u.classes refill.new.classes (c.loop-u.invariant.2 sc given) entered.ensures (agents.ensures sc given.runs given.good) refill.ensures in
     (omega (arith, c.loop-u-test.true), (begun c.requires.0 c.requires.1.0).classed.size, begun)
 
 pub start_marks-requires : goal.start_marks-requires
