@@ -1,7 +1,7 @@
 // The text of the verdict on a scenario file by a list, and a program's way from standard input to that text.
 #![tactic(auto)]
 
-ghost use Rattle.std.specs.Prelude.{List, ℕ, ◌≤◌, length};
+ghost use Rattle.std.specs.Prelude.{List, ℕ, ◌≤◌, length, IfOk};
 ghost use Rattle.semantics.specs.Verdict.{searched_in};
 ghost use Rattle.search_runs.specs.Runs.{list_as};
 ghost use Rattle.text.specs.Text.{verdict_text, HoldsText};
@@ -10,6 +10,7 @@ ghost use Rattle.report.specs.Prints.{Prints};
 use answers::Trace;
 use frame::File;
 use search_runs::Listing;
+use std::io::{self, Read};
 use text::Text;
 
 // What Search answers to a scenario file by a list, as text.
@@ -21,27 +22,33 @@ pub fn verdict_text(file: &[u8], list: Listing) -> Text
     text::answer_text(answer, &trace)
 }
 
+// Reads until the buffer is full or the input ends. Answers how many bytes it put at the buffer's front.
+fn read_full<R: Read>(reader: &mut R, buffer: &mut [u8]) -> io::Result<usize>
+    ensures { IfOk result (λ n. n ≤ length buffer.new) }
+{
+    let mut done = 0;
+    while done < buffer.len() {
+        let n = reader.read(&mut buffer[done..])?;
+        if n == 0 {
+            break;
+        }
+        done += n;
+    }
+    Ok(done)
+}
+
 // Reads a scenario file on standard input and prints the verdict on it. It answers what it prints: the text of the verdict on some file, or nothing. That this file is what was read, and that the
-// text is what is written, no contract can say.
-pub fn print_verdict(list: Listing) -> Text
-    ensures { Prints (list_as list) result }
+// text is what is written, no contract can say. Of a read that failed nothing is printed: the error is answered, and also that of a write that failed.
+pub fn print_verdict<R: Input + Print>(rt: &R, list: Listing) -> io::Result<Text>
+    ensures { IfOk result (Prints (list_as list)) }
 {
     // one byte more than a file may have, so that a longer one is refused and not cut
     let mut file = [0; File::MOST_BYTES + 1];
-    let n = io::read_full(0, &mut file);
-    // a read that failed is no end of the file: nothing is printed of it
-    let mut more = [0; 1];
-    if n <= File::MOST_BYTES {
-        if libc::read(0, &mut more) != 0 {
-            return Text {
-                bytes: [0; 1024],
-                len: 0,
-            };
-        }
-    }
+    let mut reader = rt.reader();
+    let n = read_full(&mut reader, &mut file)?;
     let text = verdict_text(&file[..n], list);
     let bytes = text.bytes;
     let len = text.len;
-    io::write_all(1, &bytes[..len]);
-    text
+    rt.write_all(&bytes[..len])?;
+    Ok(text)
 }

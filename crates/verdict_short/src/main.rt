@@ -2,7 +2,9 @@
 #![tactic(auto)]
 
 use search_runs::Listing;
+use std::io;
 
-fn main() {
-    report::print_verdict(Listing::Short);
+fn main(rt: HostRuntime) -> io::Result<()> {
+    report::print_verdict(&rt, Listing::Short)?;
+    Ok(())
 }

@@ -1,0 +1,10 @@
+-- `tejorva_derive` is the number of Derive's answer to a table, a list and a target. Assumes nothing.
+use borrow.Author.Rules.{rules}
+use mathlib.Core.Path.{ap, ◌∙◌}
+use Rattle.semantics.specs.Derive.{derived}
+use Rattle.packing.specs.Packing.{packed_deriving, packed-derived}
+use Rattle.tejorva.proofs.tejorva_derive.Goals as goal
+
+pub returns : goal.returns
+returns c =
+    c.derived.ensures ∙ ap packed_deriving c.derive.ensures ∙ packed-derived (derived c.args.table.now c.args.list.now c.args.target)

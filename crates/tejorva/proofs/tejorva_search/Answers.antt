@@ -1,0 +1,11 @@
+-- `tejorva_search` is the number of Search's answer to a file and a buffer. Assumes nothing.
+use borrow.Author.Rules.{rules}
+use mathlib.Core.Path.{ap, ◌∙◌}
+use Rattle.semantics.specs.Verdict.{searched}
+use Rattle.packing.specs.Packing.{packed_searching, packed-searched}
+use Rattle.tejorva.proofs.tejorva_search.Goals as goal
+
+pub returns : goal.returns
+returns c =
+    let w = c.search.ensures in
+    (c.verdict.ensures ∙ ap packed_searching w.0 ∙ packed-searched (searched c.args.file.now c.args.trace.now), w.1)

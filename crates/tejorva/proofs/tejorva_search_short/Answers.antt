@@ -1,0 +1,12 @@
+-- `tejorva_search_short` is the number of Search's answer by the short list to a file and a buffer. Assumes nothing.
+use borrow.Author.Rules.{rules}
+use mathlib.Core.Path.{ap, ◌∙◌}
+use Rattle.semantics.specs.Moves.{short}
+use Rattle.semantics.specs.Verdict.{searched_in}
+use Rattle.packing.specs.Packing.{packed_searching, packed-searched}
+use Rattle.tejorva.proofs.tejorva_search_short.Goals as goal
+
+pub returns : goal.returns
+returns c =
+    let w = c.search_short.ensures in
+    (c.verdict.ensures ∙ ap packed_searching w.0 ∙ packed-searched (searched_in short c.args.file.now c.args.trace.now), w.1)
