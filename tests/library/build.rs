@@ -1,4 +1,4 @@
-//! Links the proved library, which `rt staticlib tejorva` has written.
+//! Links the proved library, which `tools/build` has written.
 use std::path::Path;
 
 fn main() {
