@@ -22,7 +22,7 @@ returns-then-depth-eq0 t c k within d = refl
 
 pub tied-i-requires : goal.tied-i-requires
 tied-i-requires t c =
-    (c.requires.scene.shape, (c.requires.scene.classed, (c.requires.scene.run, c.requires.scene.low)))
+    record { shape = c.requires.scene.shape; classes_len = (c.requires.scene.classed, (c.requires.scene.run, c.requires.scene.low)) }
 
 pub returns-then-vars-i : goal.returns-then-vars-i
 returns-then-vars-i t c k within d = refl
@@ -63,7 +63,7 @@ loop-c-smaller t c = omega (arith, c.loop-c-test.true)
 pub loop-c-preserved : goal.loop-c-preserved
 loop-c-preserved t c =
     
-    (omega (arith, c.loop-c-test.true), ⊎_elim (λ w. tried-more c.requires.scene c.settled-less.result (omega (arith, c.if-vars-i.false)) c.loop-c-test.true w.narrow_to-only.result w.narrow_to-only.ensures w.completable.ensures w.if-completable.false c.loop-c.invariant.1) (λ w. tried-absent c.requires.scene c.settled-less.result (omega (arith, c.if-vars-i.false)) w.left c.loop-c.invariant.1) c.if-less-i.branch-raw)
+    (omega (arith, c.loop-c-test.true), ⊎_elim (λ w. tried-more c.requires.scene c.settled-less.result (omega (arith, c.if-vars-i.false)) c.loop-c-test.true w.narrow_to-only.result w.narrow_to-only.ensures w.completable.ensures w.if-completable.false c.loop-c.invariant.1) (λ w. tried-absent c.requires.scene c.settled-less.result (omega (arith, c.if-vars-i.false)) w.if-less-i.false c.loop-c.invariant.1) c.if-less-i.branch-raw)
 
 pub returns : goal.returns
 returns t c =

@@ -7,7 +7,7 @@ use Rattle.read_completions.proofs.tied.Goals as goal
 
 pub sizes-counts-requires : goal.sizes-counts-requires
 sizes-counts-requires c =
-    c.requires.1.1.1.few
+    c.requires.classes_len.1.1.few
 
 pub class_at-requires : goal.class_at-requires
 class_at-requires c =
@@ -15,11 +15,11 @@ class_at-requires c =
 
 pub beneath-requires : goal.beneath-requires
 beneath-requires c =
-    (shape-sized c.requires.0, c.loop-r-test.true)
+    (shape-sized c.requires.shape, c.loop-r-test.true)
 
 pub smallest-best-requires : goal.smallest-best-requires
 smallest-best-requires c =
-    (c.requires.1.1.1.few, λ j l. omega (arith, c.requires.1.1.1.row j l, c.requires.0.few))
+    (c.requires.classes_len.1.1.few, λ j l. omega (arith, c.requires.classes_len.1.1.row j l, c.requires.shape.few))
 
 pub loop-r-smaller : goal.loop-r-smaller
 loop-r-smaller c = omega (arith, c.loop-r-test.true)

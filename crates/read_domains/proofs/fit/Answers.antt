@@ -2,7 +2,6 @@
 -- The measure is how many variables are left. Assumes nothing.
 use Prim.Native.Nat.{◌-◌, ◌≤◌}
 use mathlib.Core.Path.{sym, ◌∙◌}
-use borrow.Author.Tests.{not-true}
 use native.Mathlib.Omega.{arith}
 use borrow.Author.Rules.{rules}
 use Rattle.read_domains.proofs.fit.Goals as goal
@@ -15,4 +14,4 @@ bounds-need-q c = c.requires.1 c.loop-j.j c.loop-j-test.true
 
 pub returns-then-not-dom-j : goal.returns-then-not-dom-j
 returns-then-not-dom-j c = λ fit.
-    sym (not-true _ c.if-not-dom-j.true) ∙ fit c.loop-j.j c.loop-j-test.true c.if-class-lt-ABSENT.true
+    sym c.if-not-dom-j.true ∙ fit c.loop-j.j c.loop-j-test.true c.if-class-lt-ABSENT.true

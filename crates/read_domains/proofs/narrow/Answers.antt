@@ -2,7 +2,6 @@
 -- The measure is how many classes are left. Assumes nothing.
 use Prim.Native.Nat.{◌-◌, ◌≤◌}
 use mathlib.Core.Logic.{⊎_elim}
-use borrow.Author.Tests.{not-true}
 use Rattle.read_domains.specs.Domains.{Narrows}
 use Rattle.read_domains.specs.laws.Sets.{narrows-set}
 use Rattle.cells.specs.Cells.{cell_count}
@@ -13,4 +12,4 @@ use Rattle.read_domains.proofs.narrow.Goals as goal
 pub loop-c-preserved : goal.loop-c-preserved
 loop-c-preserved c =
     
-    (omega (arith, c.loop-c-test.true), ⊎_elim (λ w. rw w.less-is (narrows-set c.args.dom c.args.i c.args.set c.loop-c.less c.loop-c.c c.loop-c-test.true (not-true _ w.if-not-set-c.true) c.loop-c.invariant.1)) (λ w. rw w.1 c.loop-c.invariant.1) c.if-not-set-c.branch-raw)
+    (omega (arith, c.loop-c-test.true), ⊎_elim (λ w. rw w.less-is (narrows-set c.args.dom c.args.i c.args.set c.loop-c.less c.loop-c.c c.loop-c-test.true w.if-not-set-c.true c.loop-c.invariant.1)) (λ w. rw w.less-is c.loop-c.invariant.1) c.if-not-set-c.branch-raw)

@@ -18,7 +18,7 @@ returns-then-fits_row c = λ z w i e k. refl
 
 pub loop-y-preserved : goal.loop-y-preserved
 loop-y-preserved c =
-    (omega (arith, c.loop-y-test.true), none_more (TakesIn c.args.t.now c.args.scope.rows c.args.scope.runs c.args.classes.now c.args.scope.run c.args.marks.now c.args.r) c.loop-y.y c.loop-y.invariant.1 (⊎_elim (λ w k. false≢true (sym w.if-fits_row.false ∙ w.fits_row.ensures k.0 k.1 k.3)) (λ w k. w.left (c.kind_of.ensures.0 ∙ k.2 ∙ sym c.kind_of-kind.ensures.0)) c.if-kind_of-kind.branch-raw))
+    (omega (arith, c.loop-y-test.true), none_more (TakesIn c.args.t.now c.args.scope.rows c.args.scope.runs c.args.classes.now c.args.scope.run c.args.marks.now c.args.r) c.loop-y.y c.loop-y.invariant.1 (⊎_elim (λ w k. false≢true (sym w.if-fits_row.false ∙ w.fits_row.ensures k.0 k.1 k.3)) (λ w k. w.if-kind_of-kind.false (c.kind_of.ensures.0 ∙ k.2 ∙ sym c.kind_of-kind.ensures.0)) c.if-kind_of-kind.branch-raw))
 
 pub returns : goal.returns
 returns c = λ y w i e k. absurd (c.loop-y.invariant.1 y (omega (arith, i.0, c.loop-y-test.false)) (w, i.1, e, k))

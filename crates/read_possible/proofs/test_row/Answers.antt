@@ -28,4 +28,4 @@ pub returns : goal.returns
 returns c =
     let k = c.kind_of-kind.ensures.0 in
     let h = c.if-kind-lt-FIRST_MADE.false in
-    possible-other c.args.t.now c.args.scope.rows c.args.scope.runs c.requires.1.0.0 c.args.classes.now c.args.marks.now c.args.scope.run c.args.r c.requires.1.0.1.1.0 c.requires.1.0.1.1.1 c.args.can.now c.requires.0 (omega arith) (λ e. c.if-kind-eq-PAIR.false (k ∙ e)) (⊎_elim (λ w e. both_read c.args.t.now c.args.r c.args.can.now w.left_of-then-kind-eq-ENCRYPTED.ensures.0 w.second_of-then-kind-eq-ENCRYPTED.ensures.0 w.both-then-kind-eq-ENCRYPTED.ensures w.if-both.false) (λ w e. absurd (w.left (k ∙ e))) c.if-kind-eq-ENCRYPTED.branch-raw) c.fits_mark.ensures
+    possible-other c.args.t.now c.args.scope.rows c.args.scope.runs c.requires.1.0.0 c.args.classes.now c.args.marks.now c.args.scope.run c.args.r c.requires.1.0.1.1.0 c.requires.1.0.1.1.1 c.args.can.now c.requires.0 (omega arith) (λ e. c.if-kind-eq-PAIR.false (k ∙ e)) (⊎_elim (λ w e. both_read c.args.t.now c.args.r c.args.can.now w.left_of-then-kind-eq-ENCRYPTED.ensures.0 w.second_of-then-kind-eq-ENCRYPTED.ensures.0 w.both-then-kind-eq-ENCRYPTED.ensures w.if-both.false) (λ w e. absurd (w.if-kind-eq-ENCRYPTED.false (k ∙ e))) c.if-kind-eq-ENCRYPTED.branch-raw) c.fits_mark.ensures

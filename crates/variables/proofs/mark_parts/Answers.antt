@@ -1,5 +1,4 @@
 -- `variables::mark_parts` meets its contract: a marked row that is no atom marks its parts, and any other row marks nothing. Assumes nothing.
-use borrow.Author.Tests.{not-true, not-false}
 use Rattle.cells.specs.laws.Cells.{left-small, second-small}
 use Rattle.variables.specs.laws.Beneath.{closed-unmarked, closed-atom, closed_parts}
 use native.Mathlib.Omega.{arith}
@@ -7,7 +6,7 @@ use borrow.Author.Rules.{rules}
 use Rattle.variables.proofs.mark_parts.Goals as goal
 
 pub returns-then-not-below-r : goal.returns-then-not-below-r
-returns-then-not-below-r c = closed-unmarked c.args.t.now c.args.n c.requires.0 c.args.r c.requires.1 c.args.below.now (not-true _ c.if-not-below-r.true)
+returns-then-not-below-r c = closed-unmarked c.args.t.now c.args.n c.requires.0 c.args.r c.requires.1 c.args.below.now c.if-not-below-r.true
 
 pub returns-then-kind_of-lt-FIRST_MADE : goal.returns-then-kind_of-lt-FIRST_MADE
 returns-then-kind_of-lt-FIRST_MADE c = closed-atom c.args.t.now c.args.n c.requires.0 c.args.r c.requires.1 c.args.below.now (rw c.kind_of.ensures.0 at c.if-kind_of-lt-FIRST_MADE.true)
@@ -20,4 +19,4 @@ bounds-below-second_of c = second-small c.args.t.now c.args.n 0 c.requires.0 c.a
 
 pub returns : goal.returns
 returns c =
-    closed_parts c.args.t.now c.args.n c.requires.0 c.args.r c.requires.1 c.args.below.now (not-false _ c.if-not-below-r.false) (omega arith) c.left_of.ensures.0 c.second_of.ensures.0
+    closed_parts c.args.t.now c.args.n c.requires.0 c.args.r c.requires.1 c.args.below.now c.if-not-below-r.false (omega arith) c.left_of.ensures.0 c.second_of.ensures.0

@@ -29,7 +29,7 @@ loop-y-preserved c =
             (λ w. passed-set c.args.t.now c.args.n c.requires.0 c.args.names.now c.args.u c.args.below.now c.args.from c.loop-y.y low c.loop-y.invariant.1.1 (class-read c.args.names.now c.requires.1.0 w.cell.ensures.0 w.cell.ensures.1) w.if-names-cell-eq-ABSENT.false)
             (⊎_elim
             (λ w. passed-other c.args.t.now c.args.n c.requires.0 c.args.names.now c.args.u c.args.below.now c.args.from c.loop-y.y low c.loop-y.invariant.1.1 (λ e. w.if-kind_of-eq-VARIABLE.false (w.kind_of.ensures.0 ∙ e)))
-            (λ w. passed-outside c.args.t.now c.args.n c.requires.0 c.args.names.now c.args.u c.args.below.now c.args.from c.loop-y.y low c.loop-y.invariant.1.1 w.left))
+            (λ w. passed-outside c.args.t.now c.args.n c.requires.0 c.args.names.now c.args.u c.args.below.now c.args.from c.loop-y.y low c.loop-y.invariant.1.1 w.if-below-y.false))
             c.if-below-y.branch-raw,
       ),
     )
