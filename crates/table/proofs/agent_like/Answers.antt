@@ -16,7 +16,7 @@ pub returns-in-6 : goal.returns-in-6
 returns-in-6 c =
     let right : ℕ = get_or c.args.t.now (3 * c.args.a + 2) 0 in
     let here : agent_like (get_elem? (rows_below c.args.t.now c.args.i) c.args.a) ≡ agent_kind c.kind_of-kind.result (right) = below-agent c.args.t.now c.args.i c.requires.0 c.requires.1 c.args.a c.if-i-a.false c.kind_of-kind.ensures.0 in
-    sym (here ∙ rw (c.in-6.keys2, c.right_of.ensures.0))
+    sym (here ∙ rw (c.in-6.is, c.right_of.ensures.0))
 
 pub returns-in_default : goal.returns-in_default
 returns-in_default c =
@@ -35,7 +35,7 @@ pub returns-in-1 : goal.returns-in-1
 returns-in-1 c =
     let right : ℕ = get_or c.args.t.now (3 * c.args.a + 2) 0 in
     let here : agent_like (get_elem? (rows_below c.args.t.now c.args.i) c.args.a) ≡ agent_kind c.kind_of-kind.result (right) = below-agent c.args.t.now c.args.i c.requires.0 c.requires.1 c.args.a c.if-i-a.false c.kind_of-kind.ensures.0 in
-    sym (here ∙ rw c.in-1.keys1)
+    sym (here ∙ rw c.in-1.is)
 
 pub returns-in-1-2 : goal.returns-in-1-2
 returns-in-1-2 c =
