@@ -30,20 +30,17 @@ broken_in_run-found-requires c =
 pub returns-in-Broken : goal.returns-in-Broken
 returns-in-Broken c sc d s' given is same own =
     
-    
     state-broken c.args.file.now c.args.t.now c.args.n c.args.r c.args.marks c.args.done c.loop-k.k c.loop-k.invariant.1 c.loop-k-test.true
-    c.broken_in_run-found.result c.broken_in_run-found.ensures _ c.enum_told-1.given.1 sc d (lent given is same own)
+    c.broken_in_run-found.result c.broken_in_run-found.ensures _ c.in-Broken.is sc d (lent given is same own)
 
 pub loop-k-preserved : goal.loop-k-preserved
 loop-k-preserved c =
-    
     (
       omega (arith, c.loop-k-test.true),
       none-next c.args.file.now c.args.t.now c.args.n c.args.r c.args.marks c.args.done c.loop-k.k c.loop-k.invariant.1 c.loop-k-test.true
-          c.broken_in_run-found.result c.broken_in_run-found.ensures c.enum_told-in_default-1.given.1,
+          c.broken_in_run-found.result c.broken_in_run-found.ensures (let h = c.in_default in ?),
     )
 
 pub returns : goal.returns
 returns c sc d s' given is same own =
-    
     state-none c.args.file.now c.args.t.now c.args.n c.args.r c.args.marks c.args.done c.loop-k.k c.loop-k.invariant.1 c.loop-k-test.false sc d (lent given is same own)

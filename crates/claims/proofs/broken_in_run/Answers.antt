@@ -22,18 +22,15 @@ claims_derivable-requires c =
 
 pub returns-then-claims_derivable : goal.returns-then-claims_derivable
 returns-then-claims_derivable c sc d run p at same made =
-    
     run-broken at (sym c.if-all_trusted.true ∙ c.all_trusted.ensures sc run same at.runs at.good at.is_run) c.loop-j.j c.loop-j.invariant.1 made c.loop-j-test.true
     (rw c.if-claims_derivable.true at c.claims_derivable.ensures)
 
 pub loop-j-preserved : goal.loop-j-preserved
 loop-j-preserved c =
-    
     (omega arith, none_more c.args.file.now c.args.r c.args.marks.now c.args.k c.loop-j.j c.loop-j.invariant.1 (rw c.if-claims_derivable.false at c.claims_derivable.ensures))
 
 pub returns-after-loop-j : goal.returns-after-loop-j
 returns-after-loop-j c sc d run p at same made =
-    
     run_none at (sym c.if-all_trusted.true ∙ c.all_trusted.ensures sc run same at.runs at.good at.is_run) c.loop-j.j c.loop-j.invariant.1 made c.loop-j-test.false
 
 pub returns-else-all_trusted : goal.returns-else-all_trusted

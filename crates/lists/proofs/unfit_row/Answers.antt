@@ -5,7 +5,6 @@ use mathlib.Core.Path.{◌≡◌, sym, ap, ◌∙◌}
 use mathlib.Core.Bool.{Bool}
 use lib.ListN.{length}
 use borrow.Author.Rules.{rules}
-use borrow.Author.Tests.{not-true, not-false}
 use Rattle.rows.specs.Rows.{place_as}
 use Rattle.semantics.specs.Basic.{unfit_from}
 use Rattle.lists.specs.Lists.{has_value}
@@ -32,7 +31,7 @@ pub returns-then-not-clear-r : goal.returns-then-not-clear-r
 returns-then-not-clear-r c =
     let marked : ℕ → Bool = has_value c.args.n c.args.clear.now in
     sym (ap place_as (c.loop-i.invariant.1 ∙ unfit-here (marked) c.args.base c.args.b.now c.loop-i.least c.loop-i.i (omega arith) c.wide-r.result c.wide-r.ensures.0 c.if-r-least.false
-    (marked-not c.args.n c.args.clear.now c.wide-r.result (not-true _ c.if-not-clear-r.true))))
+    (marked-not c.args.n c.args.clear.now c.wide-r.result c.if-not-clear-r.true)))
 
 pub loop-i-preserved : goal.loop-i-preserved
 loop-i-preserved c =
@@ -40,7 +39,7 @@ loop-i-preserved c =
     (
       omega arith,
       c.loop-i.invariant.1 ∙ unfit-later (marked) c.args.base c.args.b.now c.loop-i.least c.loop-i.i (omega arith) c.wide-r.result c.wide-r.ensures.0 c.if-r-least.false
-          (marked-is c.args.n c.args.clear.now c.wide-r.result c.if-n-r.false (not-false _ c.if-not-clear-r.false)),
+          (marked-is c.args.n c.args.clear.now c.wide-r.result c.if-n-r.false c.if-not-clear-r.false),
     )
 
 pub returns : goal.returns

@@ -12,4 +12,4 @@ learn-term-requires c = (c.requires.0, (c.requires.1.1, (c.requires.1.0.term, om
 
 pub returns : goal.returns
 returns c m d' allowed =
-    marks-sent m d' allowed c.if-e-ne-SEND.false c.learn-term.result c.learn-receiver.result c.learn.result c.learn-term.ensures.1 c.learn-receiver.ensures.1 c.learn.ensures.1
+    marks-sent m d' allowed c.if-e-ne-SEND.false c.learn-term.result c.learn-receiver.result c.learn.result c.learn-term.ensures.learns_cell c.learn-receiver.ensures.learns_cell c.learn.ensures.learns_cell

@@ -15,7 +15,6 @@ loop-r-init c = (omega arith, absent-all c.args.t.now c.args.roles c.args.base)
 
 pub returns-then-roles-left_of : goal.returns-then-roles-left_of
 returns-then-roles-left_of c =
-    
     sym (ap place_as (c.loop-r.invariant.1 ∙ absent-here c.args.t.now c.args.n c.args.roles c.args.base c.requires.0 c.loop-r.r c.loop-r-test.true
     (sym c.kind_of.ensures.0 ∙ c.if-kind_of-eq-ROLE.true) (omega arith)))
 
@@ -25,7 +24,7 @@ loop-r-preserved c =
       omega arith,
       c.loop-r.invariant.1 ∙ ⊎_elim
           (λ w. absent-present c.args.t.now c.args.n c.args.roles c.args.base c.requires.0 c.loop-r.r c.loop-r-test.true (rw (← w.left_of.ensures.0) w.if-roles-left_of.false))
-          (λ w. absent-other c.args.t.now c.args.n c.args.roles c.args.base c.requires.0 c.loop-r.r c.loop-r-test.true (rw (← c.kind_of.ensures.0) w.left))
+          (λ w. absent-other c.args.t.now c.args.n c.args.roles c.args.base c.requires.0 c.loop-r.r c.loop-r-test.true (rw (← c.kind_of.ensures.0) w.if-kind_of-eq-ROLE.false))
           c.if-kind_of-eq-ROLE.branch-raw,
     )
 

@@ -7,7 +7,6 @@ use mathlib.Core.Bool.{Bool}
 use mathlib.Core.List.{List}
 use lib.ListN.{get_or}
 use borrow.Author.Rules.{rules}
-use borrow.Author.Tests.{not-true, not-false}
 use Rattle.semantics.specs.Runs.{is_agent, atom_at}
 use Rattle.rows.specs.Rows.{rows_of}
 use Rattle.records.specs.laws.Runs.{AgentsFrom, agents-bad, agents-more, agents-all}
@@ -18,7 +17,7 @@ pub returns-then-not-is_agent : goal.returns-then-not-is_agent
 returns-then-not-is_agent c =
     let asked : agent c.args.t.now (get_or c.args.s.now (1 + c.loop-i.i) 0) ≡ c.is_agent.result = rw (← c.wide.ensures.0) (sym c.is_agent.ensures) in
     sym (agents-bad (agent c.args.t.now) c.args.roles c.args.s.now c.loop-i.i c.loop-i.invariant.1 c.loop-i-test.true c.requires.1.0
-    (asked ∙ not-true _ c.if-not-is_agent.true))
+    (asked ∙ c.if-not-is_agent.true))
 
 pub loop-i-preserved : goal.loop-i-preserved
 loop-i-preserved c =
@@ -26,7 +25,7 @@ loop-i-preserved c =
     (
       omega arith,
       agents-more (agent c.args.t.now) c.args.roles c.args.s.now c.loop-i.i c.loop-i.invariant.1 c.loop-i-test.true c.requires.1.0
-          (asked ∙ not-false _ c.if-not-is_agent.false),
+          (asked ∙ c.if-not-is_agent.false),
     )
 
 pub returns : goal.returns

@@ -7,7 +7,6 @@ use mathlib.Core.Bool.{Bool}
 use mathlib.Core.List.{List}
 use lib.ListN.{get_or}
 use borrow.Author.Rules.{rules}
-use borrow.Author.Tests.{not-true, not-false}
 use Rattle.semantics.specs.Runs.{is_agent, atom_at}
 use Rattle.rows.specs.Rows.{rows_of}
 use Rattle.records.specs.laws.Runs.{AgentsFrom, agents-bad, agents-more, agents-all}

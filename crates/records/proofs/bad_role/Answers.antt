@@ -5,7 +5,6 @@ use native.Mathlib.Omega.{arith}
 use mathlib.Core.Path.{◌≡◌, sym, ap, ◌∙◌}
 use lib.ListN.{length, drop}
 use borrow.Author.Rules.{rules}
-use borrow.Author.Tests.{not-true, not-false}
 use Rattle.semantics.specs.Value.{without_variables}
 use Rattle.semantics.specs.Frame.{first_bad}
 use Rattle.semantics.specs.Roles.{role_length, role_records, good_role, bad_role}
@@ -26,7 +25,7 @@ pub returns-then-not-good_role : goal.returns-then-not-good_role
 returns-then-not-good_role c =
     let judged : good_role (rows_of c.args.t.now) c.roles_present-roles.result c.loop-at.i (record_at role_length (c.args.base + c.loop-at.at) (drop c.loop-at.at c.args.b.now)) ≡ c.good_role.result = sym (rw rest-whole at (c.good_role.ensures (rows_of c.args.t.now) (c.args.base + c.loop-at.at) c.requires.0.count (c.clear_rows-clear.ensures without_variables bars-variables))) in
     sym (ap place_as (c.loop-at.invariant.1.1 ∙ bad-here role_length role-bytes c.args.base c.args.b.now c.loop-at.at c.loop-at-test.true
-    (good_role (rows_of c.args.t.now) c.roles_present-roles.result) c.loop-at.i (judged ∙ not-true _ c.if-not-good_role.true)))
+    (good_role (rows_of c.args.t.now) c.roles_present-roles.result) c.loop-at.i (judged ∙ c.if-not-good_role.true)))
 
 pub loop-at-preserved : goal.loop-at-preserved
 loop-at-preserved c =
@@ -37,7 +36,7 @@ loop-at-preserved c =
         omega arith,
         rw (rw rest-whole at c.role_length-at.ensures.0)
             (c.loop-at.invariant.1.1 ∙ bad-later role_length role-bytes c.args.base c.args.b.now c.loop-at.at c.loop-at-test.true
-            (good_role (rows_of c.args.t.now) c.roles_present-roles.result) c.loop-at.i (judged ∙ not-false _ c.if-not-good_role.false)),
+            (good_role (rows_of c.args.t.now) c.roles_present-roles.result) c.loop-at.i (judged ∙ c.if-not-good_role.false)),
       ),
     )
 

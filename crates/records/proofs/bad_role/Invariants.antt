@@ -5,7 +5,6 @@ use native.Mathlib.Omega.{arith}
 use mathlib.Core.Path.{◌≡◌, sym, ap, ◌∙◌}
 use lib.ListN.{length, drop}
 use borrow.Author.Rules.{rules}
-use borrow.Author.Tests.{not-true, not-false}
 use Rattle.semantics.specs.Value.{without_variables}
 use Rattle.semantics.specs.Frame.{first_bad}
 use Rattle.semantics.specs.Roles.{role_length, role_records, good_role, bad_role}

@@ -5,7 +5,6 @@ use native.Mathlib.Omega.{arith}
 use mathlib.Core.Path.{◌≡◌, sym, ap, ◌∙◌}
 use lib.ListN.{length, drop}
 use borrow.Author.Rules.{rules}
-use borrow.Author.Tests.{not-true, not-false}
 use Rattle.semantics.specs.Frame.{first_bad}
 use Rattle.semantics.specs.Runs.{run_length, run_records, good_run, bad_run}
 use Rattle.rows.specs.Rows.{rows_of, place_as}
@@ -21,7 +20,7 @@ pub returns-then-not-good_run : goal.returns-then-not-good_run
 returns-then-not-good_run c =
     let judged : good_run (rows_of c.args.t.now) c.args.roles c.loop-start.i (record_at (run_length c.args.roles) (c.args.base + c.loop-start.start) (drop c.loop-start.start c.args.b.now)) ≡ c.good_run.result = sym (rw rest-whole at (c.good_run.ensures (c.args.base + c.loop-start.start))) in
     sym (ap place_as (c.loop-start.invariant.1.1 ∙ bad-here (run_length c.args.roles) (run-bytes c.args.roles) c.args.base c.args.b.now c.loop-start.start
-    c.loop-start-test.true (good_run (rows_of c.args.t.now) c.args.roles) c.loop-start.i (judged ∙ not-true _ c.if-not-good_run.true)))
+    c.loop-start-test.true (good_run (rows_of c.args.t.now) c.args.roles) c.loop-start.i (judged ∙ c.if-not-good_run.true)))
 
 pub loop-start-preserved : goal.loop-start-preserved
 loop-start-preserved c =
@@ -31,7 +30,7 @@ loop-start-preserved c =
       (
         omega arith,
         rw z (c.loop-start.invariant.1.1 ∙ bad-later (run_length c.args.roles) (run-bytes c.args.roles) c.args.base c.args.b.now c.loop-start.start
-            c.loop-start-test.true (good_run (rows_of c.args.t.now) c.args.roles) c.loop-start.i (judged ∙ not-false _ c.if-not-good_run.false)),
+            c.loop-start-test.true (good_run (rows_of c.args.t.now) c.args.roles) c.loop-start.i (judged ∙ c.if-not-good_run.false)),
       ),
     )
 

@@ -5,7 +5,6 @@ use native.Mathlib.Omega.{arith}
 use mathlib.Core.Path.{◌≡◌, sym, ap, ◌∙◌}
 use lib.ListN.{length, drop}
 use borrow.Author.Rules.{rules}
-use borrow.Author.Tests.{not-true, not-false}
 use Rattle.semantics.specs.Frame.{first_bad}
 use Rattle.semantics.specs.Runs.{run_length, run_records, good_run, bad_run}
 use Rattle.rows.specs.Rows.{rows_of, place_as}

@@ -16,7 +16,7 @@ pub returns-in-2 : goal.returns-in-2
 returns-in-2 c =
     let byte : ℕ → ℕ = λ k. get_or c.args.s.now (c.args.at + k) 0 in
     let kind : ℕ = get_or c.args.s.now c.args.at 0 in
-    λ rows place e. rw c.wide-peer.ensures.0 (event-claim rows c.args.roles (kind) (byte 2) (byte 3) place c.args.n e (omega arith) c.in-2.keys1)
+    λ rows place e. rw c.wide-peer.ensures.0 (event-claim rows c.args.roles (kind) (byte 2) (byte 3) place c.args.n e (omega arith) c.in-2.is)
 
 pub returns-in-0 : goal.returns-in-0
 returns-in-0 c =

@@ -3,7 +3,6 @@ use Prim.Native.Nat.{ℕ, ◌+◌, ◌-◌, ◌≤◌}
 use native.Mathlib.Omega.{arith}
 use mathlib.Core.Path.{◌≡◌, sym, ap, ◌∙◌}
 use borrow.Author.Rules.{rules}
-use borrow.Author.Tests.{not-true, not-false}
 use Rattle.semantics.specs.Roles.{event_count}
 use Rattle.records.specs.laws.Events.{FitsFrom, count-read, fits-none, fits-bad, fits_more, fits_all}
 use Rattle.records.proofs.events_fit.Goals as goal
@@ -27,7 +26,7 @@ returns-then-not-event_fits c =
     let first : ℕ = 2 + c.wide-first.result in
     let counted : c.wide-count.result ≡ event_count c.args.s.now = count-read c.args.s.now c.wide-first.result c.wide-count.result c.wide-first.ensures.0 c.wide-count.ensures.0 in
     fits-bad c.args.s.now c.args.n c.args.roles (first) c.wide-count.result c.loop-j.j c.loop-j.invariant.1 c.loop-j-test.true
-    (omega (arith, counted)) (λ rows place e. sym (not-true _ c.if-not-event_fits.true) ∙ c.event_fits.ensures rows place e)
+    (omega (arith, counted)) (λ rows place e. sym c.if-not-event_fits.true ∙ c.event_fits.ensures rows place e)
 
 pub loop-j-preserved : goal.loop-j-preserved
 loop-j-preserved c =
@@ -36,7 +35,7 @@ loop-j-preserved c =
     (
       omega arith,
       fits_more c.args.s.now c.args.n c.args.roles (first) c.wide-count.result c.loop-j.j c.loop-j.invariant.1 c.loop-j-test.true
-          (omega (arith, counted)) (λ rows place e. sym (not-false _ c.if-not-event_fits.false) ∙ c.event_fits.ensures rows place e),
+          (omega (arith, counted)) (λ rows place e. sym c.if-not-event_fits.false ∙ c.event_fits.ensures rows place e),
     )
 
 pub returns : goal.returns

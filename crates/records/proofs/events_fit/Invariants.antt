@@ -3,7 +3,6 @@ use Prim.Native.Nat.{ℕ, ◌+◌, ◌-◌, ◌≤◌}
 use native.Mathlib.Omega.{arith}
 use mathlib.Core.Path.{◌≡◌, sym, ap, ◌∙◌}
 use borrow.Author.Rules.{rules}
-use borrow.Author.Tests.{not-true, not-false}
 use Rattle.semantics.specs.Roles.{event_count}
 use Rattle.records.specs.laws.Events.{FitsFrom, count-read, fits-none, fits-bad, fits_more, fits_all}
 use Rattle.records.proofs.events_fit.Given as goal

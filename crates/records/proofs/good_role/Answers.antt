@@ -2,7 +2,6 @@
 use native.Mathlib.Omega.{arith}
 use mathlib.Core.Path.{sym, ◌∙◌}
 use borrow.Author.Rules.{rules}
-use borrow.Author.Tests.{not-true, not-false}
 use Rattle.records.specs.laws.Roles.{role-short, role-fifth, role-long, role-unknown, role-events}
 use Rattle.records.proofs.good_role.Goals as goal
 
@@ -14,21 +13,15 @@ returns-then-i-ge-MOST_ROLES c = λ rows start e v. role-fifth rows c.args.roles
 
 pub returns-then-wide-gt-MOST_EVENTS : goal.returns-then-wide-gt-MOST_EVENTS
 returns-then-wide-gt-MOST_EVENTS c =
-    let entry : tie.Start = c.before.before.before.before.before.before.before in
-    let s = entry in
-    λ rows start e v. role-long rows s.args.roles s.args.i start s.args.s.now (omega arith) (omega arith) (rw (← c.wide.ensures.0, ← c.wide-2.ensures.0) (omega arith))
+    λ rows start e v. role-long rows c.args.roles c.args.i start c.args.s.now (omega arith) (omega arith) (rw (← c.wide.ensures.0, ← c.wide-2.ensures.0) (omega arith))
 
 pub returns-then-not-knowledge_fits : goal.returns-then-not-knowledge_fits
 returns-then-not-knowledge_fits c =
-    let entry : tie.Start = c.before.before.before.before.before.before.before in
-    let s = entry in
-    λ rows start e v. role-unknown rows s.args.roles s.args.i start s.args.s.now (omega arith) (omega arith) (rw (← c.wide.ensures.0, ← c.wide-2.ensures.0) (omega arith))
-    (sym (c.knowledge_fits.ensures rows e v) ∙ not-true _ c.if-not-knowledge_fits.true)
+    λ rows start e v. role-unknown rows c.args.roles c.args.i start c.args.s.now (omega arith) (omega arith) (rw (← c.wide.ensures.0, ← c.wide-2.ensures.0) (omega arith))
+    (sym (c.knowledge_fits.ensures rows e v) ∙ c.if-not-knowledge_fits.true)
 
 pub returns : goal.returns
 returns c =
-    let entry : tie.Start = c.before.before.before.before.before.before.before in
-    let s = entry in
     λ rows start e v. c.events_fit.ensures rows start e
-    ∙ role-events rows s.args.roles s.args.i start s.args.s.now (omega arith) (omega arith) (rw (← c.wide.ensures.0, ← c.wide-2.ensures.0) (omega arith))
-    (sym (c.knowledge_fits.ensures rows e v) ∙ not-false _ c.if-not-knowledge_fits.false)
+    ∙ role-events rows c.args.roles c.args.i start c.args.s.now (omega arith) (omega arith) (rw (← c.wide.ensures.0, ← c.wide-2.ensures.0) (omega arith))
+    (sym (c.knowledge_fits.ensures rows e v) ∙ c.if-not-knowledge_fits.false)

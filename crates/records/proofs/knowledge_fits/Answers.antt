@@ -6,10 +6,10 @@ use Rattle.records.proofs.knowledge_fits.Goals as goal
 
 pub returns-in-At : goal.returns-in-At
 returns-in-At c =
-    λ rows e v. sym (ap nowhere c.enum_told-1.given.1)
+    λ rows e v. sym (ap nowhere c.in-At.is)
     ∙ knowledge-fits c.args.s.now c.args.n c.args.clear.now c.wide-end.result c.wide-end.ensures.0 c.unfit_row-unfit.ensures rows e v
 
 pub returns-in-Nowhere : goal.returns-in-Nowhere
 returns-in-Nowhere c =
-    λ rows e v. sym (ap nowhere c.enum_told-in-Nowhere-1.given.1)
+    λ rows e v. sym (ap nowhere c.in-Nowhere.is)
     ∙ knowledge-fits c.args.s.now c.args.n c.args.clear.now c.wide-end.result c.wide-end.ensures.0 c.unfit_row-unfit.ensures rows e v

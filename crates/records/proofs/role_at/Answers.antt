@@ -17,12 +17,13 @@ loop-j-init c =
 
 pub loop-j-preserved : goal.loop-j-preserved
 loop-j-preserved c =
-    
     let next = begins-next role_length role-bytes c.args.b.now c.loop-j.j c.loop-j.at c.loop-j.invariant.1.1 c.loop-j.invariant.1.0 (rw rest-whole at c.role_length-at.ensures.0) in
     (omega arith, (role-within c.args.b.now c.args.i c.requires (c.loop-j.j + 1) (c.loop-j.at + c.role_length-at.result) (omega arith) next, next))
 
 pub returns : goal.returns
 returns c =
-    
     let e : c.loop-j.j ≡ c.args.i = omega arith in
-    (c.loop-j.invariant.1.0, role-record c.args.b.now c.args.i c.loop-j.at (rw e at c.loop-j.invariant.1.1) c.loop-j.invariant.1.0)
+    record {
+      upper_bound = c.loop-j.invariant.1.0;
+      role_at = role-record c.args.b.now c.args.i c.loop-j.at (rw e at c.loop-j.invariant.1.1) c.loop-j.invariant.1.0;
+    }

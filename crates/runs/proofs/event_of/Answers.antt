@@ -55,7 +55,6 @@ bounds-file-at-3 c =
 pub returns : goal.returns
 returns c =
     
-    
     λ sc run ev at g found listed.
     event-read c.args.file.now sc run _ _ _ (at.each c.args.k run found) g c.args.k found c.args.j ev listed
     c.wide.ensures.0 c.wide-2.ensures.0 c.agent_of.ensures.0 c.wide-3.ensures.0 c.agent_of-2.ensures.0 c.wide-4.ensures.0

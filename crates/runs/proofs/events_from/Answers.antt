@@ -16,13 +16,13 @@ bounds-file-start c = start-inside c.args.file.now c.args.start c.requires
 
 pub role_at-at-requires : goal.role_at-at-requires
 role_at-at-requires c = 
-    role-recorded c.args.file.now c.args.start c.Block-of.ensures c.wide.ensures.0 c.requires
+    role-recorded c.args.file.now c.args.start c.block_of-b.ensures c.wide.ensures.0 c.requires
 
 pub bounds-b-first : goal.bounds-b-first
 bounds-b-first c =
-    omega (arith, first_read c.args.file.now c.args.start c.Block-of.ensures c.wide.ensures.0 c.role_at-at.ensures c.wide-2.ensures.0 c.requires)
+    omega (arith, first_read c.args.file.now c.args.start c.block_of-b.ensures c.wide.ensures.0 (c.role_at-at.ensures.upper_bound, c.role_at-at.ensures.role_at) c.wide-2.ensures.0 c.requires)
 
 pub returns : goal.returns
 returns c =
-    events-read c.args.file.now c.args.start c.Block-of.ensures c.wide.ensures.0 c.role_at-at.ensures c.wide-2.ensures.0
-    c.start_of_lem.ensures.0 c.wide-3.ensures.0
+    events-read c.args.file.now c.args.start c.block_of-b.ensures c.wide.ensures.0 (c.role_at-at.ensures.upper_bound, c.role_at-at.ensures.role_at) c.wide-2.ensures.0
+    c.start_of-base.ensures.0 c.wide-3.ensures.0

@@ -5,7 +5,6 @@ use mathlib.Core.Path.{refl, sym, ◌∙◌}
 use mathlib.Core.Bool.{Bool}
 use mathlib.Core.List.{List}
 use borrow.Author.Rules.{rules}
-use borrow.Author.Tests.{not-true, not-false}
 use Rattle.semantics.specs.Runs.{atom_at, is_trusted}
 use Rattle.rows.specs.Rows.{rows_of}
 use Rattle.runs.specs.laws.Trusted.{PassFrom, pass-bad, pass-more, pass_all}
@@ -17,16 +16,15 @@ loop-i-init c = (omega arith, λ agents at. refl)
 
 pub returns-then-not-is_trusted : goal.returns-then-not-is_trusted
 returns-then-not-is_trusted c =
-    
     pass-bad (trusted c.args.t.now) c.args.file.now c.args.start c.args.roles c.loop-i.i c.loop-i.invariant.1 c.agent_of.ensures.0 c.loop-i-test.true
-    (sym (not-true _ c.if-not-is_trusted.true) ∙ c.is_trusted.ensures)
+    (sym c.if-not-is_trusted.true ∙ c.is_trusted.ensures)
 
 pub loop-i-preserved : goal.loop-i-preserved
 loop-i-preserved c =
     (
       omega arith,
       pass-more (trusted c.args.t.now) c.args.file.now c.args.start c.args.roles c.loop-i.i c.loop-i.invariant.1 c.agent_of.ensures.0 c.loop-i-test.true
-          (sym (not-false _ c.if-not-is_trusted.false) ∙ c.is_trusted.ensures),
+          (sym c.if-not-is_trusted.false ∙ c.is_trusted.ensures),
     )
 
 pub returns : goal.returns

@@ -5,7 +5,6 @@ use mathlib.Core.Path.{refl, sym, ◌∙◌}
 use mathlib.Core.Bool.{Bool}
 use mathlib.Core.List.{List}
 use borrow.Author.Rules.{rules}
-use borrow.Author.Tests.{not-true, not-false}
 use Rattle.semantics.specs.Runs.{atom_at, is_trusted}
 use Rattle.rows.specs.Rows.{rows_of}
 use Rattle.runs.specs.laws.Trusted.{PassFrom, pass-bad, pass-more, pass_all}

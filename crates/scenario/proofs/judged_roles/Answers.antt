@@ -6,22 +6,22 @@ use Rattle.scenario.specs.laws.Blocks.{rows_in, terms-sized, roles-read, count-r
 use Rattle.scenario.proofs.judged_roles.Goals as goal
 
 pub bad_role-place-requires : goal.bad_role-place-requires
-bad_role-place-requires c = (terms-sized c.args.file.now c.Block-of.ensures c.requires.1, omega arith)
+bad_role-place-requires c = (terms-sized c.args.file.now c.block_of-terms.ensures c.requires.1, omega arith)
 
 pub absent_role-requires : goal.absent_role-requires
-absent_role-requires c = (terms-sized c.args.file.now c.Block-of.ensures c.requires.1, omega arith)
+absent_role-requires c = (terms-sized c.args.file.now c.block_of-terms.ensures c.requires.1, omega arith)
 
 pub returns-in-At : goal.returns-in-At
 returns-in-At c =
     let file = c.args.file.now in
     records-refused file (rows_in file)
-    (roles-read file c.Block-of.ensures c.block_of-roles.ensures c.start_of_lem.ensures.0 c.bad_role-place.ensures)
-    c.place-1.given.1
+    (roles-read file c.block_of-terms.ensures c.block_of-roles.ensures c.start_of-base.ensures.0 c.bad_role-place.ensures)
+    c.in-At.is
 
 pub returns-in-Nowhere : goal.returns-in-Nowhere
 returns-in-Nowhere c =
     let file = c.args.file.now in
     names-judged file (rows_in file)
-    (roles-read file c.Block-of.ensures c.block_of-roles.ensures c.start_of_lem.ensures.0 c.bad_role-place.ensures)
-    c.enum_told-1.given.1
-    (names-read file c.Block-of.ensures c.start_of-first.ensures.0 (count-read file c.block_of-roles.ensures c.roles_present-count.ensures) c.absent_role.ensures)
+    (roles-read file c.block_of-terms.ensures c.block_of-roles.ensures c.start_of-base.ensures.0 c.bad_role-place.ensures)
+    c.in-Nowhere.is
+    (names-read file c.block_of-terms.ensures c.start_of-first.ensures.0 (count-read file c.block_of-roles.ensures c.roles_present-count.ensures) c.absent_role.ensures)

@@ -6,6 +6,8 @@ use Rattle.scenario.specs.laws.Blocks.{rows_in, terms-sized, count-read, count-f
 use Rattle.scenario.proofs.judged_runs.Goals as goal
 
 -- what refuses with 8 or 9, the first that holds
+ruleset refusals = (runs-refused, known-refused, runs-read, known_read, count-read)
+
 pub returns-in-At : goal.returns-in-At
 returns-in-At c = search refusals
 
@@ -15,10 +17,10 @@ returns-in-At-place c = search refusals
 pub bad_run-place-requires : goal.bad_run-place-requires
 bad_run-place-requires c =
     let file = c.args.file.now in
-    (terms-sized file c.Block-of.ensures c.requires.1.0, (omega arith, count-few file (count-read file c.block_of.ensures c.roles_present-roles.ensures)))
+    (terms-sized file c.block_of-terms.ensures c.requires.1.0, (omega arith, count-few file (count-read file c.block_of.ensures c.roles_present-roles.ensures)))
 
 pub bad_knowledge-place-requires : goal.bad_knowledge-place-requires
-bad_knowledge-place-requires c = (terms-sized c.args.file.now c.Block-of.ensures c.requires.1.0, omega arith)
+bad_knowledge-place-requires c = (terms-sized c.args.file.now c.block_of-terms.ensures c.requires.1.0, omega arith)
 
 pub parts_of-requires : goal.parts_of-requires
 parts_of-requires c =
@@ -28,8 +30,8 @@ pub returns-in-Nowhere-place : goal.returns-in-Nowhere-place
 returns-in-Nowhere-place c =
     let file = c.args.file.now in
     all-accepted file (rows_in file)
-    (runs-read file c.Block-of.ensures c.block_of-runs.ensures c.start_of_lem.ensures.0 (count-read file c.block_of.ensures c.roles_present-roles.ensures) c.bad_run-place.ensures)
-    c.enum_told-1.given.1
-    (known_read file c.Block-of.ensures c.block_of-knowledge.ensures c.start_of-in-Nowhere.ensures.0 c.bad_knowledge-place.ensures)
-    c.enum_told-in-Nowhere-place-1.given.1
+    (runs-read file c.block_of-terms.ensures c.block_of-runs.ensures c.start_of.ensures.0 (count-read file c.block_of.ensures c.roles_present-roles.ensures) c.bad_run-place.ensures)
+    c.in-Nowhere.is
+    (known_read file c.block_of-terms.ensures c.block_of-knowledge.ensures c.start_of-in-Nowhere.ensures.0 c.bad_knowledge-place.ensures)
+    c.in-Nowhere-place.is
     c.parts_of.ensures

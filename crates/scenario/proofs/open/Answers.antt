@@ -8,25 +8,25 @@ use mathlib.Core.Path.{sym, ◌∙◌}
 use Rattle.scenario.proofs.open.Goals as goal
 
 pub block_of-terms-requires : goal.block_of-terms-requires
-block_of-terms-requires c = (framing-framed c.args.file.now (sym c.check-framing.ensures ∙ c.enum_told-1.given.1), omega arith)
+block_of-terms-requires c = (framing-framed c.args.file.now (sym c.check-framing.ensures ∙ c.in-Passed.is), omega arith)
 
 pub start_of-requires : goal.start_of-requires
-start_of-requires c = (framing-framed c.args.file.now (sym c.check-framing.ensures ∙ c.enum_told-1.given.1), omega arith)
+start_of-requires c = (framing-framed c.args.file.now (sym c.check-framing.ensures ∙ c.in-Passed.is), omega arith)
 
 pub judged-requires : goal.judged-requires
 judged-requires c =
     let file = c.args.file.now in
-    (framing-framed file (sym c.check-framing.ensures ∙ c.enum_told-1.given.1), terms-shape file c.check-framing.ensures c.enum_told-1.given.1 (table-read file c.Block-of.ensures c.start_of_lem.ensures.0 c.check-table.ensures) c.table-in-Rows-1.given.1)
+    (framing-framed file (sym c.check-framing.ensures ∙ c.in-Passed.is), terms-shape file c.check-framing.ensures c.in-Passed.is (table-read file c.block_of-terms.ensures c.start_of.ensures.0 c.check-table.ensures) c.in-Rows.is)
 
 pub returns-in-Refused : goal.returns-in-Refused
-returns-in-Refused c = frame_refused c.args.file.now c.check-framing.ensures c.framing-1.given.1
+returns-in-Refused c = frame_refused c.args.file.now c.check-framing.ensures c.in-Refused.is
 
 pub returns-in-Refused-table : goal.returns-in-Refused-table
 returns-in-Refused-table c =
     let file = c.args.file.now in
-    table-refused file c.check-framing.ensures c.enum_told-1.given.1 (table-read file c.Block-of.ensures c.start_of_lem.ensures.0 c.check-table.ensures) c.table-1.given.1
+    table-refused file c.check-framing.ensures c.in-Passed.is (table-read file c.block_of-terms.ensures c.start_of.ensures.0 c.check-table.ensures) c.in-Refused-table.is
 
 pub returns-in-Rows : goal.returns-in-Rows
 returns-in-Rows c =
     let file = c.args.file.now in
-    opened_rows file c.check-framing.ensures c.enum_told-1.given.1 (table-read file c.Block-of.ensures c.start_of_lem.ensures.0 c.check-table.ensures) c.table-in-Rows-1.given.1 c.judged.ensures
+    opened_rows file c.check-framing.ensures c.in-Passed.is (table-read file c.block_of-terms.ensures c.start_of.ensures.0 c.check-table.ensures) c.in-Rows.is c.judged.ensures

@@ -17,11 +17,11 @@ returns c =
     let file = c.args.file.now in
     layout-right file (rows_in file) c.requires.1.1.1
     c.budget.ensures.0
-    c.start_of_lem.ensures.0
+    c.start_of.ensures.0
     c.requires.1.0.count
     c.start_of-2.ensures.0
     c.requires.1.1.0
     c.start_of-3.ensures.0
-    (run-count-read file c.Block-of.ensures c.requires.1.1.0 c.run_count.ensures)
+    (run-count-read file c.block_of-runs.ensures c.requires.1.1.0 c.run_count.ensures)
     c.start_of-4.ensures.0
     (ap (λ (bytes : List ℕ). length bytes) c.block_of-knowledge.ensures)

@@ -18,6 +18,11 @@ overflow_add-end c =
     let l = agents-inside c.args.file.now c.requires.0 c.args.r c.requires.1.0 c.args.u c.if-u-eq0.false c.requires.1.1.0 in
     record { fits = omega (arith, l, c.requires.1.1.1) }
 
+pub slice_bounds-result-end-2 : goal.slice_bounds-result-end-2
+slice_bounds-result-end-2 c =
+    let l = agents-inside c.args.file.now c.requires.0 c.args.r c.requires.1.0 c.args.u c.if-u-eq0.false c.requires.1.1.0 in
+    omega (arith, l, c.requires.1.1.1)
+
 pub returns : goal.returns
 returns c sc runs good =
     agents-part sc good c.args.file.now c.args.r runs c.args.u c.if-u-eq0.false c.requires.1.1.0 _ refl

@@ -15,11 +15,9 @@ loop-r-init c =
 
 pub loop-r-preserved : goal.loop-r-preserved
 loop-r-preserved c =
-    
     let inv = c.loop-r.invariant in
     (omega arith, entered-more (rows_of c.args.t.now) c.args.u c.args.agents.now c.args.names c.loop-r.more c.loop-r.r c.name_of-name.result (omega (arith, c.requires.0.few, c.loop-r-test.true)) c.cell.ensures.0 c.cell.ensures.1 inv.1 c.name_of-name.ensures)
 
 pub returns : goal.returns
 returns c =
-    
     entered_all (rows_of c.args.t.now) c.args.u c.args.agents.now c.args.names c.loop-r.more (omega (arith, c.requires.0.count, c.loop-r-test.false)) c.loop-r.invariant.1

@@ -12,7 +12,6 @@ loop-r-init c = (omega arith, intruders-none c.args.t.now c.args.n)
 
 pub loop-r-preserved : goal.loop-r-preserved
 loop-r-preserved c =
-    
     let kind = c.kind_of.ensures.0 in (
       omega arith,
       ⊎_elim
