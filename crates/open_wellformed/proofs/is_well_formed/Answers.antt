@@ -24,11 +24,11 @@ is_readable-requires c =
 pub returns-then-kind-eq-READ : goal.returns-then-kind-eq-READ
 returns-then-kind-eq-READ c =
     was_read c.args.t.now c.args.n c.requires.0 c.args.marks c.args.own c.args.kind c.args.peer c.args.x c.name_known.ensures (c.if-not-name_known.false)
-    (⊎_elim (λ w. peer-found (rows_of c.args.t.now) c.args.marks c.args.kind c.args.peer w.2.ensures (w.3.false)) (λ w. inl w.left) c.if-kind-ne-CLAIM.branch-raw)
+    (⊎_elim (λ w. peer-found (rows_of c.args.t.now) c.args.marks c.args.kind c.args.peer w.name_known-then-kind-ne-CLAIM.ensures w.if-not-name_known-2.false) (λ w. inl w.if-kind-ne-CLAIM.false) c.if-kind-ne-CLAIM.branch-raw)
     c.if-kind-eq-READ.true (answer-reads c.args.t.now c.args.n c.requires.0 c.args.marks c.args.x c.is_readable.result c.is_readable.ensures.0)
 
 pub returns : goal.returns
 returns c =
     was-other c.args.t.now c.args.n c.requires.0 c.args.marks c.args.own c.args.kind c.args.peer c.args.x c.name_known.ensures (c.if-not-name_known.false)
-    (⊎_elim (λ w. peer-found (rows_of c.args.t.now) c.args.marks c.args.kind c.args.peer w.2.ensures (w.3.false)) (λ w. inl w.left) c.if-kind-ne-CLAIM.branch-raw)
+    (⊎_elim (λ w. peer-found (rows_of c.args.t.now) c.args.marks c.args.kind c.args.peer w.name_known-then-kind-ne-CLAIM.ensures w.if-not-name_known-2.false) (λ w. inl w.if-kind-ne-CLAIM.false) c.if-kind-ne-CLAIM.branch-raw)
     c.if-kind-eq-READ.false refl
