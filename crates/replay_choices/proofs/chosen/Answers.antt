@@ -122,6 +122,6 @@ loop-names-preserved c =
           let may' : TellsValue sc.rows (length sc.runs) more.y (get_or c.args.values.now c.loop-names.i 0) (get_or c.args.values.now (c.loop-names.i + 1) 0) c.may_take.result = may-carry next.rows next.count c.wide-r.ensures.0 c.wide-w.ensures.0 may in
           let value = taken-value may' (c.if-not-may_take.false) in
           let part = part-more next kind _ c.loop-names.from c.loop-names.i c.loop-names.more (c.loop-names.invariant.2 e sc d s a next same row kind) _ more.y more.low more.from_on more.is_atom more.is_variable more.unset more.first c.if-values-i-2.false value.0 value.1.1 in
-          part-carry _ _ _ _ _ c.loop-names.more c.put.new.0 c.put.ensures c.wide-r.ensures.0 c.wide-w.ensures.0 part,
-      omega (arith, c.put.auto, c.loop-names.invariant.3),
+          part-carry _ _ _ _ _ c.loop-names.more c.put.new.names c.put.ensures c.wide-r.ensures.0 c.wide-w.ensures.0 part,
+      omega (arith, c.put.auto.names, c.loop-names.invariant.3),
     )
