@@ -22,7 +22,7 @@ pub loop-y-init : goal.loop-y-init
 loop-y-init t c =
     (
       ⊎_elim (λ w. omega (arith, w.y-is)) (λ w. omega (arith, w.y-is)) c.if-r-gt16.branch-raw,
-      (⊎_elim (λ w. ap length w.marks-is ∙ w.build.kept.0 ∙ c.requires.0) (λ w. ap length w.1 ∙ c.requires.0) c.if-r-gt16.branch-raw, stays),
+      (⊎_elim (λ w. ap length w.marks-is ∙ w.build.auto.marks ∙ c.requires.0) (λ w. ap length w.marks-is ∙ c.requires.0) c.if-r-gt16.branch-raw, stays),
     )
 
 pub build_row-requires : goal.build_row-requires

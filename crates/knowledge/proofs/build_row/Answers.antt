@@ -30,9 +30,9 @@ loop-u-preserved c = (
   omega arith,
   ⊎_elim
       (λ w. (
-        ap length w.9 ∙ simp length-set c.loop-u.invariant.1.0,
-        reaches_whole c.loop-u.invariant.1.1 (c.requires.1.1.1, c.loop-u-test.true) c.kind_of.ensures.0 c.if-kind_of-lt-PAIR.false c.left_of-l.ensures.0 c.right_of-s.ensures.0 c.class_at-class.ensures w.0.true w.2.ensures w.3.ensures w.4.true w.6.ensures w.7.ensures w.8.true w.9,
+        ap length w.marks-is ∙ simp length-set c.loop-u.invariant.1.0,
+        reaches_whole c.loop-u.invariant.1.1 (c.requires.1.1.1, c.loop-u-test.true) c.kind_of.ensures.0 c.if-kind_of-lt-PAIR.false c.left_of-l.ensures.0 c.right_of-s.ensures.0 c.class_at-class.ensures w.if-class-lt-ABSENT.true w.class_at.ensures w.is_marked.ensures w.if-is_marked.true w.class_at-then-is_marked.ensures w.is_marked-then-is_marked.ensures w.if-is_marked-2.true w.marks-is,
       ))
-      (⊎_elim (λ w. rw w.9 c.loop-u.invariant.1) (⊎_elim (λ w. rw w.5 c.loop-u.invariant.1) (λ w. rw w.1 c.loop-u.invariant.1)))
+      (⊎_elim (λ w. rw w.marks-is c.loop-u.invariant.1) (⊎_elim (λ w. rw w.marks-is c.loop-u.invariant.1) (λ w. rw w.marks-is c.loop-u.invariant.1)))
       c.if-class-lt-ABSENT.branch-raw,
 )

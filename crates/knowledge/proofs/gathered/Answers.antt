@@ -17,8 +17,8 @@ loop-r-preserved c =
     (
       omega arith,
       ⊎_elim (λ w. filled-set _ _ _ _ c.loop-r.invariant.1 (omega (arith, c.loop-r-test.true), omega (arith, c.loop-u-test.true)) (marked c.args.start.now refl w.if-start-cell.true c.cell.ensures.0) w.class_at-class.ensures w.if-class-lt-ABSENT.true w.marks-is)
-          (⊎_elim (λ w. filled-skip _ _ _ _ c.loop-r.invariant.1 (λ d l. omega (arith, w.class_at-class.ensures, w.if-class-lt-ABSENT.false)) w.3)
-          (λ w. filled-skip _ _ _ _ c.loop-r.invariant.1 (λ d l. unmarked c.args.start.now refl w.0.false c.cell.ensures.0 d) w.1))
+          (⊎_elim (λ w. filled-skip _ _ _ _ c.loop-r.invariant.1 (λ d l. omega (arith, w.class_at-class.ensures, w.if-class-lt-ABSENT.false)) w.marks-is)
+          (λ w. filled-skip _ _ _ _ c.loop-r.invariant.1 (λ d l. unmarked c.args.start.now refl w.if-start-cell.false c.cell.ensures.0 d) w.marks-is))
           c.if-start-cell.branch-raw,
     )
 

@@ -1,33 +1,37 @@
 -- `learn` gives exact marks with one more value known. Assumes nothing.
 use native.Mathlib.Omega.{arith}
+use Prim.Native.Nat.{ℕ, ◌<◌, ◌≤◌}
 use mathlib.Core.Path.{◌≡◌}
 use mathlib.Core.Bool.{Bool}
 use mathlib.Core.List.{List}
 use borrow.Author.Rules.{rules}
 use lib.ListN.{length}
-use Rattle.rows.specs.Rows.{rows_of}
+use Rattle.rows.specs.Rows.{rows_of, Shape}
 use Rattle.cells.specs.Cells.{cell_of, Within}
 use Rattle.knowledge.specs.Marks.{Learnt, LearnsCell, was_marked, is_worked}
 use Rattle.knowledge.specs.laws.Learn.{learnt-exact}
 use Rattle.knowledge.proofs.learn.Goals as goal
 
 -- with it the marks are exact
-exact : (c : goal.After-cell-c) (more : List Bool) → Found more
-    → LearnsCell (rows_of c.args.t.now) c.args.runs c.args.classes.now c.args.r c.args.u c.args.marks more
-exact c more learnt =
-    let at = c.cell-c.ensures in
-    let within : Within (rows_of c.args.t.now) c.args.runs c.args.r c.args.u = record { row = omega (arith, c.requires.0.count, c.requires.1.1.0); run = c.requires.1.1.1 } in
-    let size : length c.args.marks ≡ 480 = search rules in
-    learnt-exact (rows_of c.args.t.now) (omega (arith, c.requires.0.few, c.requires.0.count)) c.args.runs c.args.r c.args.u within c.args.classes.now c.args.marks size (omega (arith, at.0, at.1)) learnt
+exact : (bytes : List ℕ) (n runs : ℕ) (classes : List ℕ) (r u at : ℕ) (marks more : List Bool)
+    → Shape bytes n runs → r < n → u ≤ runs → at ≡ cell_of r u → at < 480 → length marks ≡ 480
+    → Learnt (rows_of bytes) runs classes r u marks more → LearnsCell (rows_of bytes) runs classes r u marks more
+exact bytes n runs classes r u at marks more shape below run at-is low size learnt =
+    let within : Within (rows_of bytes) runs r u = record { row = omega (arith, shape.count, below); run = run } in
+    learnt-exact (rows_of bytes) (omega (arith, shape.few, shape.count)) runs r u within classes marks size (omega (arith, at-is, low)) learnt
 
 pub returns-then-marks-c : goal.returns-then-marks-c
 returns-then-marks-c c =
-    let Found : List Bool → Type 0 = λ more. Learnt (rows_of c.args.t.now) c.args.runs c.args.classes.now c.args.r c.args.u c.args.marks more in
-    let learnt : Found c.args.marks = was_marked (rw (← c.cell-c.ensures.0) c.if-marks-c.true) in
-    (learnt, exact c.before _ learnt)
+    let found : Learnt (rows_of c.args.t.now) c.args.runs c.args.classes.now c.args.r c.args.u c.args.marks c.args.marks = was_marked (rw (← c.cell-c.ensures.0) c.if-marks-c.true) in
+    record {
+      learnt = found;
+      learns_cell = exact c.args.t.now c.args.n c.args.runs c.args.classes.now c.args.r c.args.u c.cell-c.result c.args.marks c.args.marks c.requires.0 c.requires.1.1.0 c.requires.1.1.1 c.cell-c.ensures.0 c.cell-c.ensures.1 (search rules) found;
+    }
 
 pub returns : goal.returns
 returns c =
-    let Found : List Bool → Type 0 = λ more. Learnt (rows_of c.args.t.now) c.args.runs c.args.classes.now c.args.r c.args.u c.args.marks more in
-    let learnt : Found c.settle.result = is_worked {more = c.settle.result} (rw (← c.cell-c.ensures.0) c.settle.ensures) in
-    (learnt, exact c.before.before _ learnt)
+    let found : Learnt (rows_of c.args.t.now) c.args.runs c.args.classes.now c.args.r c.args.u c.args.marks c.settle.result = is_worked {more = c.settle.result} (rw (← c.cell-c.ensures.0) c.settle.ensures) in
+    record {
+      learnt = found;
+      learns_cell = exact c.args.t.now c.args.n c.args.runs c.args.classes.now c.args.r c.args.u c.cell-c.result c.args.marks c.settle.result c.requires.0 c.requires.1.1.0 c.requires.1.1.1 c.cell-c.ensures.0 c.cell-c.ensures.1 (search rules) found;
+    }

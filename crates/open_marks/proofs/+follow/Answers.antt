@@ -23,7 +23,7 @@ shape_of-more-then-notes-x-eq1 t c =
 
 pub shape_of-way-then-notes-x-eq1 : goal.shape_of-way-then-notes-x-eq1
 shape_of-way-then-notes-x-eq1 t c =
-    c.follow.auto.way.0 ∙ simp length-set
+    c.follow.auto.way ∙ simp length-set
 
 pub bounds-more-l : goal.bounds-more-l
 bounds-more-l t c =
@@ -41,7 +41,7 @@ shape_of-more-then-notes-x-eq2 t c =
 
 pub shape_of-way-then-notes-x-eq2 : goal.shape_of-way-then-notes-x-eq2
 shape_of-way-then-notes-x-eq2 t c =
-    c.follow-then-notes-x-eq2.auto.way.0 ∙ simp length-set
+    c.follow-then-notes-x-eq2.auto.way ∙ simp length-set
 
 pub follow-requires-then-notes-x-ne3 : goal.follow-requires-then-notes-x-ne3
 follow-requires-then-notes-x-ne3 t c =
@@ -54,4 +54,4 @@ shape_of-more-then-notes-x-ne3 t c =
 
 pub shape_of-way-then-notes-x-ne3 : goal.shape_of-way-then-notes-x-ne3
 shape_of-way-then-notes-x-ne3 t c =
-    c.follow-then-notes-x-ne3.auto.way.0 ∙ simp length-set
+    c.follow-then-notes-x-ne3.auto.way ∙ simp length-set

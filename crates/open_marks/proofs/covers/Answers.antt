@@ -19,7 +19,7 @@ loop-x-preserved c =
     (
       omega arith,
       stands-more c.args.marks.now c.args.notes.now c.args.slot c.loop-x.x c.loop-x.invariant.1
-          (⊎_elim (λ w m. not-false _ w.if-not-marks-x.false) (λ w m. absurd (w.left m)) c.if-notes-slot-eq1.branch-raw),
+          (⊎_elim (λ w m. w.if-not-marks-x.false) (λ w m. absurd (w.if-notes-slot-eq1.false m)) c.if-notes-slot-eq1.branch-raw),
     )
 
 pub returns : goal.returns

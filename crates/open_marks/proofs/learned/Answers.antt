@@ -11,4 +11,4 @@ learn-requires c = (c.requires.0, (c.requires.1.0.size, (c.requires.1.1, omega a
 pub returns : goal.returns
 returns c =
     let learn = c.learn.ensures in
-    (learns-role c.args.t.now c.args.n c.requires.0 c.args.classes.now c.args.x c.args.marks c.learn.result c.requires.1.0 learn.1, gains-learnt c.args.t.now c.args.n c.requires.0 c.args.classes.now c.args.x c.args.marks c.learn.result c.requires.1.0 learn.0)
+    (learns-role c.args.t.now c.args.n c.requires.0 c.args.classes.now c.args.x c.args.marks c.learn.result c.requires.1.0 learn.learns_cell, gains-learnt c.args.t.now c.args.n c.requires.0 c.args.classes.now c.args.x c.args.marks c.learn.result c.requires.1.0 learn.learnt)

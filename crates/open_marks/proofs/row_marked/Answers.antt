@@ -17,7 +17,7 @@ loop-x-preserved c =
     (
       omega arith,
       none_more (MarkedAs c.args.t.now c.args.marks.now c.args.kind c.args.left) c.loop-x.x c.loop-x.invariant.1
-          (⊎_elim (λ w m. w.if-left_of-left.false (w.left_of.ensures.0 ∙ m.2)) (⊎_elim (λ w m. w.if-kind_of-kind.false (w.kind_of.ensures.0 ∙ m.1)) (λ w m. false≢true (sym w.left ∙ m.0))) c.if-marks-x.branch-raw),
+          (⊎_elim (λ w m. w.if-left_of-left.false (w.left_of.ensures.0 ∙ m.2)) (⊎_elim (λ w m. w.if-kind_of-kind.false (w.kind_of.ensures.0 ∙ m.1)) (λ w m. false≢true (sym w.if-marks-x.false ∙ m.0))) c.if-marks-x.branch-raw),
     )
 
 pub returns : goal.returns

@@ -20,12 +20,12 @@ ill_formed_role-place-requires c =
 pub overflow_add-result-in-At : goal.overflow_add-result-in-At
 overflow_add-result-in-At c =
     let found : IllRole (rows_of c.args.t.now) c.loop-at.i (drop c.loop-at.at c.args.b.now) c.ill_formed_role-place.result = rw rest-whole at c.ill_formed_role-place.ensures in
-    omega (arith, event-near (found) c.place-1.given.1)
+    omega (arith, event-near (found) c.in-At.is)
 
 pub returns-in-At : goal.returns-in-At
 returns-in-At c =
     let found : IllRole (rows_of c.args.t.now) c.loop-at.i (drop c.loop-at.at c.args.b.now) c.ill_formed_role-place.result = rw rest-whole at c.ill_formed_role-place.ensures in
-    block-ill (rows_of c.args.t.now) c.args.base c.args.b.now c.loop-at.i c.loop-at.at c.loop-at.invariant.1.1 c.loop-at-test.true (found) c.place-1.given.1
+    block-ill (rows_of c.args.t.now) c.args.base c.args.b.now c.loop-at.i c.loop-at.at c.loop-at.invariant.1.1 c.loop-at-test.true (found) c.in-At.is
 
 pub loop-at-preserved : goal.loop-at-preserved
 loop-at-preserved c =
@@ -34,7 +34,7 @@ loop-at-preserved c =
       omega arith,
       (
         omega arith,
-        block_more (rows_of c.args.t.now) c.args.base c.args.b.now c.loop-at.i c.loop-at.at c.loop-at.invariant.1.1 c.loop-at-test.true (found) c.enum_told-1.given.1
+        block_more (rows_of c.args.t.now) c.args.base c.args.b.now c.loop-at.i c.loop-at.at c.loop-at.invariant.1.1 c.loop-at-test.true (found) c.in-Nowhere.is
             (rw rest-whole at c.role_length-at.ensures.0),
       ),
     )

@@ -67,7 +67,7 @@ returns-then-not-is_well_formed c =
     let is-event : IsEvent (rows_of c.args.t.now) c.args.s.now (first + 4 * c.loop-j.j) = events-are c.args.s.now (first) c.wide-events.result c.requires.1.1 (first-is) (counted) c.loop-j.j c.loop-j-test.true in
     role-ill c.args.t.now c.args.n c.requires.0 c.args.own c.args.s.now (first) c.wide-events.result (whole) c.loop-j.j c.loop-j.marks c.loop-j.invariant.1
     c.loop-j-test.true c.wide-event.ensures.0 c.wide-peer.ensures.0 c.wide-x.ensures.0 (is-event)
-    c.is_well_formed.ensures (not-true _ c.if-not-is_well_formed.true) (omega arith)
+    c.is_well_formed.ensures (c.if-not-is_well_formed.true) (omega arith)
 
 pub event_learned-more-requires : goal.event_learned-more-requires
 event_learned-more-requires c =
@@ -88,7 +88,7 @@ loop-j-preserved c =
       omega (arith, c.loop-j-test.true),
       role-more c.args.t.now c.args.n c.requires.0 c.args.own c.args.s.now (first) c.wide-events.result (whole) c.loop-j.j c.loop-j.marks c.loop-j.invariant.1
           c.loop-j-test.true c.wide-event.ensures.0 c.wide-peer.ensures.0 c.wide-x.ensures.0 (is-event)
-          c.is_well_formed.ensures (not-false _ c.if-not-is_well_formed.false) c.event_learned-more.result c.event_learned-more.ensures,
+          c.is_well_formed.ensures (c.if-not-is_well_formed.false) c.event_learned-more.result c.event_learned-more.ensures,
     )
 
 pub returns : goal.returns

@@ -11,11 +11,11 @@ use Rattle.open_wellformed.proofs.is_well_formed.Goals as goal
 
 pub returns-then-not-name_known : goal.returns-then-not-name_known
 returns-then-not-name_known c =
-    own-unknown c.args.t.now c.args.n c.requires.0 c.args.marks c.args.own c.args.kind c.args.peer c.args.x c.name_known.ensures (not-true _ c.if-not-name_known.true)
+    own-unknown c.args.t.now c.args.n c.requires.0 c.args.marks c.args.own c.args.kind c.args.peer c.args.x c.name_known.ensures (c.if-not-name_known.true)
 
 pub returns-then-not-name_known-2 : goal.returns-then-not-name_known-2
 returns-then-not-name_known-2 c =
-    peer-unknown c.args.t.now c.args.n c.requires.0 c.args.marks c.args.own c.args.kind c.args.peer c.args.x c.name_known.ensures (not-false _ c.if-not-name_known.false) c.if-kind-ne-CLAIM.true c.name_known-then-kind-ne-CLAIM.ensures (not-true _ c.if-not-name_known-2.true)
+    peer-unknown c.args.t.now c.args.n c.requires.0 c.args.marks c.args.own c.args.kind c.args.peer c.args.x c.name_known.ensures (c.if-not-name_known.false) c.if-kind-ne-CLAIM.true c.name_known-then-kind-ne-CLAIM.ensures (c.if-not-name_known-2.true)
 
 pub is_readable-requires : goal.is_readable-requires
 is_readable-requires c =
@@ -23,12 +23,12 @@ is_readable-requires c =
 
 pub returns-then-kind-eq-READ : goal.returns-then-kind-eq-READ
 returns-then-kind-eq-READ c =
-    was_read c.args.t.now c.args.n c.requires.0 c.args.marks c.args.own c.args.kind c.args.peer c.args.x c.name_known.ensures (not-false _ c.if-not-name_known.false)
-    (⊎_elim (λ w. peer-found (rows_of c.args.t.now) c.args.marks c.args.kind c.args.peer w.2.ensures (not-false _ w.3.false)) (λ w. inl w.left) c.if-kind-ne-CLAIM.branch-raw)
+    was_read c.args.t.now c.args.n c.requires.0 c.args.marks c.args.own c.args.kind c.args.peer c.args.x c.name_known.ensures (c.if-not-name_known.false)
+    (⊎_elim (λ w. peer-found (rows_of c.args.t.now) c.args.marks c.args.kind c.args.peer w.name_known-then-kind-ne-CLAIM.ensures w.if-not-name_known-2.false) (λ w. inl w.if-kind-ne-CLAIM.false) c.if-kind-ne-CLAIM.branch-raw)
     c.if-kind-eq-READ.true (answer-reads c.args.t.now c.args.n c.requires.0 c.args.marks c.args.x c.is_readable.result c.is_readable.ensures.0)
 
 pub returns : goal.returns
 returns c =
-    was-other c.args.t.now c.args.n c.requires.0 c.args.marks c.args.own c.args.kind c.args.peer c.args.x c.name_known.ensures (not-false _ c.if-not-name_known.false)
-    (⊎_elim (λ w. peer-found (rows_of c.args.t.now) c.args.marks c.args.kind c.args.peer w.2.ensures (not-false _ w.3.false)) (λ w. inl w.left) c.if-kind-ne-CLAIM.branch-raw)
+    was-other c.args.t.now c.args.n c.requires.0 c.args.marks c.args.own c.args.kind c.args.peer c.args.x c.name_known.ensures (c.if-not-name_known.false)
+    (⊎_elim (λ w. peer-found (rows_of c.args.t.now) c.args.marks c.args.kind c.args.peer w.name_known-then-kind-ne-CLAIM.ensures w.if-not-name_known-2.false) (λ w. inl w.if-kind-ne-CLAIM.false) c.if-kind-ne-CLAIM.branch-raw)
     c.if-kind-eq-READ.false refl

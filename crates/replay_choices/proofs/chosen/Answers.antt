@@ -80,7 +80,7 @@ returns-then-not-may_take c e sc d s a next same row kind =
     let more = another next c.requires.0.count c.loop-names.from _ view' c.if-x-n.false in
     let may = c.may_take.ensures more.y (ap (λ (rs : List Row). atom_at rs c.next_unset-x.result) (sym next.rows) ∙ more.is_atom) in
     let may' : TellsValue sc.rows (length sc.runs) more.y (get_or c.args.values.now c.loop-names.i 0) (get_or c.args.values.now (c.loop-names.i + 1) 0) c.may_take.result = may-carry next.rows next.count c.wide-r.ensures.0 c.wide-w.ensures.0 may in
-    part-not next kind _ c.loop-names.from c.loop-names.i c.loop-names.more (c.loop-names.invariant.2 e sc d s a next same row kind) more.first c.if-values-i-2.false (no_value may' (not-true _ c.if-not-may_take.true))
+    part-not next kind _ c.loop-names.from c.loop-names.i c.loop-names.more (c.loop-names.invariant.2 e sc d s a next same row kind) more.first c.if-values-i-2.false (no_value may' (c.if-not-may_take.true))
 
 pub slice_bounds-put-end : goal.slice_bounds-put-end
 slice_bounds-put-end c = sym c.loop-names.invariant.3
@@ -90,7 +90,7 @@ put-requires c =
     let view = c.next_unset-x.ensures _ c.beneath-below.ensures in
     let w = variable-found c.args.t.now c.args.n c.args.runs c.requires.0 _ _ _ _ _ view c.if-x-n.false in
     let may = c.may_take.ensures w.3.0 w.3.1 in
-    let fits = value-fits (omega (arith, c.requires.0.count, c.requires.0.few)) c.requires.0.few_runs may (not-false _ c.if-not-may_take.false) in
+    let fits = value-fits (omega (arith, c.requires.0.count, c.requires.0.few)) c.requires.0.few_runs may (c.if-not-may_take.false) in
     (c.loop-names.invariant.3, (omega (arith, w.0, c.requires.0.few), (omega (arith, c.requires.1.0, c.requires.0.few_runs), (fits.0, fits.1))))
 
 pub overflow_add-from : goal.overflow_add-from
@@ -120,8 +120,8 @@ loop-names-preserved c =
           let more = another next c.requires.0.count c.loop-names.from _ view' c.if-x-n.false in
           let may = c.may_take.ensures more.y (ap (λ (rs : List Row). atom_at rs c.next_unset-x.result) (sym next.rows) ∙ more.is_atom) in
           let may' : TellsValue sc.rows (length sc.runs) more.y (get_or c.args.values.now c.loop-names.i 0) (get_or c.args.values.now (c.loop-names.i + 1) 0) c.may_take.result = may-carry next.rows next.count c.wide-r.ensures.0 c.wide-w.ensures.0 may in
-          let value = taken-value may' (not-false _ c.if-not-may_take.false) in
+          let value = taken-value may' (c.if-not-may_take.false) in
           let part = part-more next kind _ c.loop-names.from c.loop-names.i c.loop-names.more (c.loop-names.invariant.2 e sc d s a next same row kind) _ more.y more.low more.from_on more.is_atom more.is_variable more.unset more.first c.if-values-i-2.false value.0 value.1.1 in
-          part-carry _ _ _ _ _ c.loop-names.more c.put.new.0 c.put.ensures c.wide-r.ensures.0 c.wide-w.ensures.0 part,
-      omega (arith, c.put.auto, c.loop-names.invariant.3),
+          part-carry _ _ _ _ _ c.loop-names.more c.put.new.names c.put.ensures c.wide-r.ensures.0 c.wide-w.ensures.0 part,
+      omega (arith, c.put.auto.names, c.loop-names.invariant.3),
     )

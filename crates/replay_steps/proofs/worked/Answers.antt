@@ -6,7 +6,7 @@ use Rattle.replay_steps.specs.Steps.{Worked, for_read, for_other}
 use Rattle.replay_steps.proofs.worked.Goals as goal
 
 pub returns-then-kind-eq-READ : goal.returns-then-kind-eq-READ
-returns-then-kind-eq-READ c = let w = c.with_names.ensures in for_read c.if-kind-eq-READ.true w.0 w.1
+returns-then-kind-eq-READ c = let w = c.with_names.ensures in for_read c.if-kind-eq-READ.true w.refilled w.settled
 
 pub returns : goal.returns
 returns c = for_other c.if-kind-eq-READ.false refl refl
