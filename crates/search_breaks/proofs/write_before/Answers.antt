@@ -21,13 +21,13 @@ unbroken (Clean m) k = refl
 unbroken Cut k = refl
 
 pub returns-in_default : goal.returns-in_default
-returns-in_default c = sym (before-kept _ c.args.at c.args.turn c.args.found (unbroken c.args.found c.in_default.keys2))
+returns-in_default c = sym (before-kept _ c.args.at c.args.turn c.args.found (let h = c.in_default.not-Broken in ?))
 
 pub write_step-requires : goal.write_step-requires
 write_step-requires c =
-    (omega (arith, c.requires.inside (ap is_broken c.enum_told-1.given.1)), (c.requires.few, omega (arith, c.requires.low)))
+    (omega (arith, c.requires.inside (ap is_broken c.in-Broken.is)), (c.requires.few, omega (arith, c.requires.low)))
 
 pub returns : goal.returns
 returns c =
-    let broken = ap is_broken c.enum_told-1.given.1 in
+    let broken = ap is_broken c.in-Broken.is in
     c.write_step.ensures ∙ sym (before-written c.args.trace.now c.args.at c.args.turn c.args.found broken)
