@@ -5,7 +5,7 @@ use Rattle.packing.specs.Packing.{packed_opening}
 use Rattle.packing.proofs.opened.Goals as goal
 
 pub returns-in-Refused : goal.returns-in-Refused
-returns-in-Refused c = c.refusal.ensures ∙ sym (ap packed_opening c.answer-1.given.1)
+returns-in-Refused c = c.refusal.ensures ∙ sym (ap packed_opening c.in-Refused.is)
 
 pub returns-in-Accepted : goal.returns-in-Accepted
-returns-in-Accepted c = c.word_alone.ensures ∙ sym (ap packed_opening c.enum_told-1.given.1)
+returns-in-Accepted c = c.word_alone.ensures ∙ sym (ap packed_opening c.in-Accepted.is)

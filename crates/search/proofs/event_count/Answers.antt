@@ -8,6 +8,7 @@ use Rattle.semantics.specs.Basic.{total}
 use Rattle.search.specs.laws.Events.{total-more}
 use Rattle.search.proofs.event_count.Goals as goal
 
+pub returns : goal.returns
 returns c = let same : c.loop-k.k ≡ c.args.r.count = omega arith in
     (c.loop-k.invariant.1.0 ∙ ap (λ (m : ℕ). total (take m c.args.r.events)) same, omega arith)
 

@@ -8,19 +8,19 @@ use Rattle.search.proofs.search_in.Goals as goal
 
 pub judged-requires : goal.judged-requires
 judged-requires c =
-    (opened-accepts _ (sym c.opened-in-Accepted-1.given.1 ∙ o.before.before.«open».ensures), buffer-passed _ (sym c.enum_told-1.given.1 ∙ c.check_buffer-checked.ensures))
+    (opened-accepts _ (sym c.in-Accepted.is ∙ c.open-opened.ensures), buffer-passed _ (sym c.in-Passed.is ∙ c.check_buffer-checked.ensures))
 
 pub returns-in-Refused : goal.returns-in-Refused
-returns-in-Refused c = searched-refused _ _ _ (sym c.opened-1.given.1 ∙ c.before.before.before.«open».ensures)
+returns-in-Refused c = searched-refused _ _ _ (sym c.in-Refused.is ∙ c.open-opened.ensures)
 
 pub returns-in-Refused-checked : goal.returns-in-Refused-checked
 returns-in-Refused-checked c =
-    let a = opened-accepts _ (sym c.opened-in-Accepted-1.given.1 ∙ o.before.before.«open».ensures) in
-    searched-short _ _ _ a.is_opened (sym c.checked-1.given.1 ∙ c.check_buffer-checked.ensures)
+    let a = opened-accepts _ (sym c.in-Accepted.is ∙ c.open-opened.ensures) in
+    searched-short _ _ _ a.is_opened (sym c.in-Refused-checked.is ∙ c.check_buffer-checked.ensures)
 
 pub returns-in-Passed : goal.returns-in-Passed
 returns-in-Passed c =
-    let a = opened-accepts _ (sym c.opened-in-Accepted-1.given.1 ∙ o.before.before.«open».ensures) in
-    let passed = sym c.enum_told-1.given.1 ∙ c.check_buffer-checked.ensures in
+    let a = opened-accepts _ (sym c.in-Accepted.is ∙ c.open-opened.ensures) in
+    let passed = sym c.in-Passed.is ∙ c.check_buffer-checked.ensures in
     let v = c.judged.ensures in
     (v.0 ∙ ap searched_as (sym (searched-judged _ _ _ a.is_opened passed)), v.1 ∙ sym (buffer-judged _ _ _ a.is_opened passed))

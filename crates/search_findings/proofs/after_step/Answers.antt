@@ -7,10 +7,10 @@ use Rattle.search_findings.specs.Findings.{length_of}
 use Rattle.search_findings.proofs.after_step.Goals as goal
 
 pub longer-requires : goal.longer-requires
-longer-requires c = (omega (arith, ap length_of c.found-1.given.1), omega arith)
+longer-requires c = (omega (arith, ap length_of c.in-Broken.is), omega arith)
 
 pub returns-in-Broken : goal.returns-in-Broken
-returns-in-Broken c = rw c.found-1.given.1 (ap Broken c.longer.ensures)
+returns-in-Broken c = rw c.in-Broken.is (ap Broken c.longer.ensures)
 
 pub returns-in-Clean : goal.returns-in-Clean
-returns-in-Clean c = rw c.found-in-Clean-1.given.1 refl
+returns-in-Clean c = rw c.in-Clean.is refl

@@ -7,13 +7,13 @@ use Rattle.search_findings.specs.Findings.{size_of}
 use Rattle.search_findings.proofs.behind.Goals as goal
 
 pub later-requires : goal.later-requires
-later-requires c = (omega (arith, ap size_of c.found-1.given.1), omega arith)
+later-requires c = (omega (arith, ap size_of c.in-Broken.is), omega arith)
 
 pub overflow_add-result : goal.overflow_add-result
-overflow_add-result c = record { fits = omega (arith, ap size_of c.found-in-Clean-1.given.1) }
+overflow_add-result c = record { fits = omega (arith, ap size_of c.in-Clean.is) }
 
 pub returns-in-Broken : goal.returns-in-Broken
-returns-in-Broken c = rw c.found-1.given.1 (ap Broken c.later.ensures)
+returns-in-Broken c = rw c.in-Broken.is (ap Broken c.later.ensures)
 
 pub returns-in-Clean : goal.returns-in-Clean
-returns-in-Clean c = rw c.found-in-Clean-1.given.1 refl
+returns-in-Clean c = rw c.in-Clean.is refl

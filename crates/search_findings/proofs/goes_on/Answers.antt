@@ -4,4 +4,4 @@ use mathlib.Core.Path.{refl}
 use Rattle.search_findings.proofs.goes_on.Goals as goal
 
 pub returns-in-Clean : goal.returns-in-Clean
-returns-in-Clean c = rw c.enum_told-in-Clean-1.given.1 refl
+returns-in-Clean c = rw c.in-Clean.is refl

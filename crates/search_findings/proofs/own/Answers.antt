@@ -7,7 +7,7 @@ use Rattle.search_findings.specs.laws.Findings.{own-some}
 use Rattle.search_findings.proofs.own.Goals as goal
 
 pub returns-in-Broken : goal.returns-in-Broken
-returns-in-Broken c = ap Broken c.own_break.ensures ∙ sym (own-some _ _ c.if-left-eq0.false ∙ ap own_of c.claimed-1.given.1)
+returns-in-Broken c = ap Broken c.own_break.ensures ∙ sym (own-some _ _ c.if-left-eq0.false ∙ ap own_of c.in-Broken.is)
 
 pub returns-in-Nothing : goal.returns-in-Nothing
-returns-in-Nothing c = sym (own-some _ _ c.if-left-eq0.false ∙ ap own_of c.enum_told-1.given.1)
+returns-in-Nothing c = sym (own-some _ _ c.if-left-eq0.false ∙ ap own_of c.in-Nothing.is)

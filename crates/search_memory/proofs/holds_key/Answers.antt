@@ -7,7 +7,6 @@ use mathlib.Core.Path.{◌≡◌}
 use lib.ListN.{get_or}
 use Rattle.search_memory.proofs.holds_key.Goals as goal
 
-returns c = λ e. let z : ◌≡◌ {A = ℕ} 0 1 = cc in absurd (omega arith)
 
 pub loop-j-preserved : goal.loop-j-preserved
 loop-j-preserved c = (omega (arith, c.loop-j-test.true), below_more (λ k. get_or c.args.memory.now (40 * c.args.slot + k) 0 ≡ get_or c.args.key.now k 0) c.loop-j.j c.loop-j.invariant.1 c.if-memory-at.false)

@@ -21,7 +21,7 @@ use Rattle.answers.specs.Answers.{walked_as}
 use Rattle.search_breaks.specs.Walk.{judged, buffer_as, Finds, next_in, entries_from}
 use Rattle.search_breaks.specs.laws.Walked.{nothing-within}
 use Rattle.search_breaks.specs.laws.Finds.{answer-clean}
-use Rattle.semantics.specs.Same.{Each, cons, Same, SameEntry}
+use Rattle.semantics.specs.Same.{Each, nil, cons, Same, SameEntry}
 use Rattle.state.specs.State.{Placed}
 use Rattle.search_same.specs.Clean.{Clean, SamePositions, SameNames}
 use Rattle.semantics.proofs.laws.Each.{each-length}
@@ -78,6 +78,7 @@ module _ {sc : Scenario} (g : Guarantee sc) where
 
   -- entries that are the same in each place break claims alike
   unbroken-same : {es es' : List Entry} → Each (SameEntry sc.rows) es es' → ((e : Entry) → Memᴰ e es → judged sc e ≡ none) → (e : Entry) → Memᴰ e es' → judged sc e ≡ none
+  unbroken-same nil h e m = elim m [ ]
   unbroken-same (cons r rs) h e (Memᴰ.head q) = ap (judged sc) q ∙ sym (broken-same sc g.table r.1) ∙ h _ (Memᴰ.head refl)
   unbroken-same (cons r rs) h e (Memᴰ.tail m) = unbroken-same rs (λ x n. h x (Memᴰ.tail n)) e m
 

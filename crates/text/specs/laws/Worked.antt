@@ -11,7 +11,7 @@ abbrev plain : Move
 plain = record { run = 1; values = [] }
 
 -- what P1 "prints, whole"
-pub example-text : verdict_text (accepted (broken_at 3 (plain ∷ plain ∷ []) (record { run = 1; event = 1; kind = secrecy }))) ≡ word "BROKEN 3 RUN 1 EVENT 1\n_sTEP 1\n_sTEP 1\n"
+pub example-text : verdict_text (accepted (broken_at 3 (plain ∷ plain ∷ []) (record { run = 1; event = 1; kind = secrecy }))) ≡ word "BROKEN 3 RUN 1 EVENT 1\nSTEP 1\nSTEP 1\n"
 unfolding verdict_text broken_text step_text decimal decimal_from
 example-text = refl
 
