@@ -1,5 +1,5 @@
 -- The theorems about the definitions, demand by demand: each statement, and the name of its proof in laws/. Assumes nothing.
-use Rattle.std.specs.Prelude.{ℕ, suc, ◌+◌, ◌<◌, ◌≤◌, ◌≡◌, refl, ◌↔◌, ◌⊎◌, Bool, true, false, T, length, take, drop}
+use Rattle.std.specs.Prelude.{ℕ, suc, ◌<◌, ◌≤◌, ◌≡◌, refl, ◌↔◌, ◌⊎◌, Bool, true, false, T, length, take, drop}
 use mathlib.Core.List.{List, [], ◌∷◌, ◌++◌, Memᴰ}
 use Rattle.std.proofs.Math.Option.{Option, none, some}
 use Rattle.std.proofs.Math.ListN.{get_elem?}
@@ -31,7 +31,6 @@ use Rattle.semantics.specs.Refusals.{RowRefused, FirstBad, GoodRoleRecord, First
 use Rattle.semantics.specs.Worked.{AllHold, cases, edges, short_cases, p1_file, p1_bytes, a, c, d}
 use Rattle.semantics.proofs.laws.Inference
 use Rattle.semantics.proofs.laws.WellFormed as well
-use Rattle.semantics.proofs.laws.Open as accept
 use Rattle.semantics.proofs.laws.Encoding as encoding
 use Rattle.semantics.proofs.laws.Conditions as condition
 use Rattle.semantics.proofs.laws.Refusals as refusal

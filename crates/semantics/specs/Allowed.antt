@@ -1,6 +1,6 @@
 -- Well-formed events, allowed moves and traces, broken claims and the order of the list, stated plainly: with the inference relation and not its decision (document 01, 'Roles and moves'). Assumes nothing.
 use Rattle.std.specs.Prelude.{ℕ, suc, ◌<◌, ◌≤◌, ◌≡◌, ◌⊎◌, List, [], ◌∷◌, T, length}
-use Rattle.std.proofs.Math.Option.{Option, none, some}
+use Rattle.std.proofs.Math.Option.{Option, some}
 use Rattle.std.proofs.Math.ListN.{get_elem?}
 use Rattle.semantics.specs.Term.{VariableType, agent_type, fresh_type, Atom, variable, role, intruder, local, Term, atom, pk, sk, shared, pair, encrypted, inverse}
 use Rattle.semantics.specs.Inference.{Derives}

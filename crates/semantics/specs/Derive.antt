@@ -1,8 +1,8 @@
 -- Derive: whether a row's term is derivable from those of listed rows, and refusal 11 (document 01, 'Operations and what stops them'). Assumes nothing.
-use Rattle.std.specs.Prelude.{ℕ, zero, suc, Bool, true, false, not, List, [], ◌∷◌, map, ltb, length}
+use Rattle.std.specs.Prelude.{ℕ, suc, Bool, true, false, not, List, [], ◌∷◌, map, ltb, length}
 use Rattle.std.proofs.Math.Option.{Option, none, some}
 use Rattle.semantics.specs.Basic.{provided, present_ones}
-use Rattle.semantics.specs.Answer.{Answer, accepted, refuse, checked, ◌>>=◌, ◌>>◌}
+use Rattle.semantics.specs.Answer.{Answer, accepted, checked, ◌>>=◌, ◌>>◌}
 use Rattle.semantics.specs.Term.{Term}
 use Rattle.semantics.specs.Inference.{derivable}
 use Rattle.semantics.specs.Table.{Row, rows_from}

@@ -1,7 +1,7 @@
 -- What an accepted file guarantees (document 01, 'Terms', 'The scenario file', 'Operations'): one record, for whoever goes on with the scenario. Assumes nothing.
-use Rattle.std.specs.Prelude.{ℕ, suc, ◌<◌, ◌≤◌, ◌≡◌, T, length, take}
+use Rattle.std.specs.Prelude.{ℕ, ◌<◌, ◌≤◌, ◌≡◌, T, length, take}
 use mathlib.Core.List.{List, [], ◌∷◌, Memᴰ}
-use Rattle.std.proofs.Math.Option.{Option, some}
+use Rattle.std.proofs.Math.Option.{some}
 use Rattle.std.proofs.Math.ListN.{get_elem?}
 use Rattle.semantics.specs.Basic.{keep, rising}
 use Rattle.semantics.specs.Limits.{most_rows, most_variables, most_roles, most_runs, most_events}

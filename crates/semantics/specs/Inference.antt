@@ -1,5 +1,5 @@
 -- Inference (document 01, 'Terms'; 000, section 3.2), twice: the smallest relation with the paper's rules, and a decision. Assumes nothing.
-use Rattle.std.specs.Prelude.{ℕ, zero, suc, ◌+◌, Bool, true, false, ◌&&◌, ◌||◌}
+use Rattle.std.specs.Prelude.{ℕ, zero, suc, Bool, false, ◌&&◌, ◌||◌}
 use mathlib.Core.List.{List, [], ◌∷◌, ◌++◌, Memᴰ, map}
 use Rattle.std.proofs.Math.Option.{Option, none, some}
 use Rattle.semantics.specs.Basic.{decided, provided, mapped, total}

@@ -1,8 +1,7 @@
 -- The moves of a state in order, each with the state after it (document 01, 'Roles and moves'). Assumes nothing.
-use Rattle.std.specs.Prelude.{ℕ, zero, suc, Bool, true, false, ◌&&◌, ◌||◌, List, [], ◌∷◌, ◌++◌, map, leb, ltb, eqb, length, set}
+use Rattle.std.specs.Prelude.{ℕ, suc, Bool, true, false, ◌&&◌, List, [], ◌∷◌, ◌++◌, map, length, set}
 use Rattle.std.proofs.Math.Option.{Option, none, some}
-use Rattle.std.proofs.Math.ListN.{get_elem?}
-use Rattle.semantics.specs.Basic.{present, and_then, mapped, provided, first_of, present_ones, joined, numbers_from}
+use Rattle.semantics.specs.Basic.{and_then, mapped, provided, first_of, present_ones, joined, numbers_from}
 use Rattle.semantics.specs.Term.{VariableType, agent_type, fresh_type, Atom, trusted, untrusted, global, intruder, role, variable, local, Term}
 use Rattle.semantics.specs.Inference.{derivable}
 use Rattle.semantics.specs.Table.{Row}
@@ -10,7 +9,7 @@ use Rattle.semantics.specs.Value.{Reading, value_of}
 use Rattle.semantics.specs.Roles.{EventKind, send, read, claim, Event}
 use Rattle.semantics.specs.Runs.{Run, atom_at}
 use Rattle.semantics.specs.Scenario.{Scenario}
-use Rattle.semantics.specs.State.{Value, Progress, Message, State, Active, active, reading_in, new_variables, paired}
+use Rattle.semantics.specs.State.{Value, Message, State, Active, active, reading_in, new_variables, paired}
 
 -- "A trace is a row of steps: run (1 to 4), .. new values"
 pub record Move : Type 0 where

@@ -1,12 +1,12 @@
 -- Replay: a trace followed step by step, and refusal 12 (document 01, 'Operations and what stops them'). Assumes nothing.
-use Rattle.std.specs.Prelude.{ℕ, zero, suc, ◌+◌, ◌*◌, Bool, true, false, ◌&&◌, ◌||◌, List, [], ◌∷◌, ◌++◌, leb, eqb, length, take, drop}
+use Rattle.std.specs.Prelude.{ℕ, zero, suc, ◌+◌, ◌*◌, Bool, true, false, ◌&&◌, ◌||◌, List, [], ◌∷◌, leb, eqb, length, take, drop}
 use Rattle.std.proofs.Math.Option.{Option, none, some}
-use Rattle.semantics.specs.Basic.{and_then, provided, every}
-use Rattle.semantics.specs.Answer.{Answer, refused, accepted, refuse, ◌>>=◌}
+use Rattle.semantics.specs.Basic.{and_then, provided}
+use Rattle.semantics.specs.Answer.{Answer, accepted, refuse, ◌>>=◌}
 use Rattle.semantics.specs.Term.{Atom}
 use Rattle.semantics.specs.Table.{Row}
 use Rattle.semantics.specs.Scenario.{Scenario, opened}
-use Rattle.semantics.specs.State.{Value, State, initial, Active, active, Claim}
+use Rattle.semantics.specs.State.{Value, State, initial, active, Claim}
 use Rattle.semantics.specs.Moves.{Move, candidates, to_set, performed}
 use Rattle.semantics.specs.Verdict.{broken}
 

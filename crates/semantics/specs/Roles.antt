@@ -1,10 +1,10 @@
 -- Role records and refusal 6 (document 01, 'Roles and moves', 'The scenario file', 'Operations and what stops them'). Assumes nothing.
-use Rattle.std.specs.Prelude.{ℕ, zero, suc, ◌+◌, ◌*◌, min, Bool, true, false, ◌&&◌, not, List, [], ◌∷◌, ◌++◌, map, ltb, leb, eqb, length, take, drop, get_or}
+use Rattle.std.specs.Prelude.{ℕ, ◌+◌, ◌*◌, min, Bool, true, false, ◌&&◌, List, [], ◌∷◌, map, ltb, leb, eqb, length, take, drop, get_or}
 use Rattle.std.proofs.Math.Option.{Option, none, some}
 use Rattle.std.proofs.Math.ListN.{get_elem?}
 use Rattle.semantics.specs.Basic.{present, every, present_ones, rising}
 use Rattle.semantics.specs.Limits.{most_roles, most_events}
-use Rattle.semantics.specs.Term.{Atom, trusted, untrusted, global, intruder, role, variable, local}
+use Rattle.semantics.specs.Term.{trusted, untrusted, global, intruder, role, variable, local}
 use Rattle.semantics.specs.Table.{Row, atomic, pk_of, sk_of, shared_of, pair_of, encrypted_of}
 use Rattle.semantics.specs.Value.{value_of, without_variables}
 use Rattle.semantics.specs.Frame.{Part, records, complete, first_bad}

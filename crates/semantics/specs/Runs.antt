@@ -1,5 +1,5 @@
 -- Run records, the knowledge list, and refusals 8 and 9 (document 01, 'The scenario file'). Assumes nothing.
-use Rattle.std.specs.Prelude.{ℕ, zero, suc, ◌+◌, Bool, true, false, ◌&&◌, List, [], ◌∷◌, ◌++◌, map, ltb, leb, get_or, drop}
+use Rattle.std.specs.Prelude.{ℕ, suc, Bool, true, false, ◌&&◌, List, map, ltb, get_or, drop}
 use Rattle.std.proofs.Math.Option.{Option, none, some}
 use Rattle.std.proofs.Math.ListN.{get_elem?}
 use Rattle.semantics.specs.Basic.{present, every, unfit_from}

@@ -2,11 +2,11 @@
 use Rattle.std.specs.Prelude.{ℕ, zero, suc, ◌+◌, ◌-◌, ◌≡◌, Bool, true, false, ◌&&◌, not, List, [], ◌∷◌, ◌++◌, map, length, set}
 use Rattle.std.proofs.Math.Option.{Option, none, some}
 use Rattle.std.proofs.Math.ListN.{get_elem?}
-use Rattle.semantics.specs.Basic.{decided, present, and_then, mapped, keep, present_ones, joined, numbers_from, total}
+use Rattle.semantics.specs.Basic.{decided, present, and_then, mapped, keep, present_ones, numbers_from}
 use Rattle.semantics.specs.Term.{Atom, trusted, untrusted, global, intruder, role, variable, local, atom?, Term, atom}
 use Rattle.semantics.specs.Table.{Row, variable_atom}
 use Rattle.semantics.specs.Value.{Reading, value_of, without_run, beneath}
-use Rattle.semantics.specs.Roles.{ClaimKind, EventKind, send, read, claim, Event, Role}
+use Rattle.semantics.specs.Roles.{ClaimKind, EventKind, send, read, claim, Event}
 use Rattle.semantics.specs.Runs.{Run, atom_at}
 use Rattle.semantics.specs.Scenario.{Scenario}
 

@@ -1,11 +1,11 @@
 -- The table of terms: rows decoded from bytes, and refusals 4 and 5 (document 01, 'Terms'). Assumes nothing.
-use Rattle.std.specs.Prelude.{ℕ, zero, suc, ◌+◌, ◌≡◌, Bool, true, false, ◌&&◌, not, List, [], ◌∷◌, ◌++◌, ltb, leb, eqb, length, get_or}
+use Rattle.std.specs.Prelude.{ℕ, ◌+◌, ◌≡◌, Bool, true, false, ◌&&◌, not, List, [], ◌∷◌, ◌++◌, ltb, leb, eqb, length, get_or}
 use Rattle.std.proofs.Math.Decide.{ℕ_discrete}
 use Rattle.std.proofs.Math.Option.{Option, none, some}
 use Rattle.std.proofs.Math.ListN.{get_elem?}
 use Rattle.semantics.specs.Basic.{decided, present, provided, mapped, keep, every}
 use Rattle.semantics.specs.Limits.{most_rows, most_variables, most_roles}
-use Rattle.semantics.specs.Answer.{Answer, refused, accepted, refuse}
+use Rattle.semantics.specs.Answer.{Answer, accepted, refuse}
 use Rattle.semantics.specs.Term.{VariableType, agent_type, fresh_type, Atom, trusted, untrusted, global, intruder, role, variable, local, atom?}
 
 -- A row: a term of kinds 1 to 7, or a term made of the terms of other rows, given by their numbers.

@@ -1,5 +1,5 @@
 -- Terms of both levels, the inverse of a key, and equality (document 01, 'Terms'; 000, section 3.2). Assumes nothing.
-use Rattle.std.specs.Prelude.{ℕ, zero, suc, ◌+◌, ◌≡◌}
+use Rattle.std.specs.Prelude.{ℕ, suc, ◌+◌, ◌≡◌}
 use Rattle.std.proofs.Math.Decide.{ℕ_discrete}
 
 -- "type: 0 agent, 1 fresh"

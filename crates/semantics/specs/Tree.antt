@@ -1,5 +1,5 @@
 -- The list of all sequences of moves from a state, for any moves: each sequence with the state that it ends in (document 01, 'Roles and moves'). Assumes nothing.
-use Rattle.std.specs.Prelude.{ℕ, zero, suc, List, [], ◌∷◌, ◌++◌, map}
+use Rattle.std.specs.Prelude.{ℕ, zero, suc, List, [], ◌∷◌, map}
 use Rattle.semantics.specs.Basic.{joined}
 
 -- A sequence of moves from a state to a state, each step being allowed.

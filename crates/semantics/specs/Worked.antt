@@ -7,7 +7,7 @@ use Rattle.semantics.specs.Limits.{most_trace_bytes}
 use Rattle.semantics.specs.Answer.{Answer, accepted, refuse}
 use Rattle.semantics.specs.Term.{trusted, global, Term, atom}
 use Rattle.semantics.specs.Scenario.{opened}
-use Rattle.semantics.specs.State.{Value, Claim}
+use Rattle.semantics.specs.State.{Claim}
 use Rattle.semantics.specs.Moves.{Move, short}
 use Rattle.semantics.specs.Verdict.{Verdict, broken_at, held, stopped, searched_in, searched, buffer_in, buffer_after}
 use Rattle.semantics.specs.Replay.{replayed}

@@ -6,9 +6,9 @@ use Rattle.std.specs.Prelude.{◌≡◌, refl, ◌↔◌, T, length}
 use Rattle.std.proofs.Common.{sym, ◌∙◌, subst}
 use Rattle.std.proofs.Math.Option.{Option, none, some, none-ne-some}
 use mathlib.Core.List.Memᴰ
-use mathlib.Core.List.{List, [], ◌∷◌, map, Memᴰ}
+use mathlib.Core.List.{map, Memᴰ}
 use Rattle.std.proofs.Math.ListN.{get_elem?}
-use Rattle.semantics.specs.Basic.{first_of, numbers_from, and_then, provided, Ordered}
+use Rattle.semantics.specs.Basic.{first_of, provided, Ordered}
 use Rattle.semantics.specs.Roles.{EventKind, send, read, claim}
 use Rattle.semantics.specs.Scenario.{Scenario}
 use Rattle.semantics.specs.State.{State, Active, active, events_of}

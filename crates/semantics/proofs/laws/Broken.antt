@@ -1,20 +1,18 @@
 -- The laws of broken claims: which claim is named of those that a trace breaks. Assumes nothing.
-use Rattle.std.specs.Prelude.{ℕ, zero, suc, ◌+◌, ◌≤◌, ◌<◌, ◌≡◌, ◌↔◌, ◌⊎◌, Bool, true, false, ◌&&◌, List, [], ◌∷◌, map, T, length}
-use Rattle.std.proofs.Common.{eq-or-lt_of_le, lt_irrefl, arith, ◌∙◌, inl, inr, ⊎_elim}
+use Rattle.std.specs.Prelude.{ℕ, zero, suc, ◌+◌, ◌≤◌, ◌<◌, ◌≡◌, ◌↔◌, Bool, ◌&&◌, ◌∷◌, map, T, length}
+use Rattle.std.proofs.Common.{eq-or-lt_of_le, arith, ◌∙◌, inl, inr, ⊎_elim}
 use Rattle.std.proofs.Math.Nat.{suc_inj}
 use Rattle.std.proofs.Math.Path.{refl, sym, ap, subst}
 use Rattle.std.proofs.Math.Option.{Option, none, some, some-injective, none-ne-some}
 use Rattle.std.proofs.Math.ListN.{get_elem?}
 use Rattle.semantics.specs.Basic.{first_of, numbers_from, and_then, provided}
 use Rattle.semantics.specs.Term.{Term}
-use Rattle.semantics.specs.Inference.{derivable}
-use Rattle.semantics.specs.Value.{value_of}
 use Rattle.semantics.specs.Roles.{ClaimKind, secrecy, EventKind, send, read, claim, claim_kind, Event}
 use Rattle.semantics.specs.Runs.{Run, all_trusted}
 use Rattle.semantics.specs.Scenario.{Scenario}
-use Rattle.semantics.specs.State.{Progress, State, events_of, reading_in, Claim}
+use Rattle.semantics.specs.State.{Progress, State, events_of, Claim}
 use Rattle.semantics.specs.Verdict.{claimed_value, is_known, is_against, broken_event, broken_in_run, broken}
-use Rattle.semantics.specs.Allowed.{Against, value_known, Breaks, breaks, ClaimBefore, Names}
+use Rattle.semantics.specs.Allowed.{Against, value_known, Breaks, breaks, Names}
 use Rattle.semantics.proofs.laws.Test.{both_left, both_right, both, provided-some, and_then-some}
 use Rattle.semantics.proofs.laws.List.{get_elem-below}
 use Rattle.semantics.proofs.laws.Inference.{derivable-exact}

@@ -1,14 +1,14 @@
 -- Demand 3 for the verdict by any list: BROKEN, HELD and STOPPED each exactly as demanded. Assumes nothing.
 use Rattle.std.specs.Prelude.{ℕ, zero, suc, ◌≤◌, ◌<◌, ◌≡◌, refl, ◌↔◌, ◌⊎◌, length}
 use Rattle.std.proofs.Common.{arith, sym, ◌∙◌, ap, inl, inr}
-use mathlib.Core.List.{List, [], ◌∷◌, Memᴰ}
-use Rattle.std.proofs.Math.Option.{Option, none, some, some-injective, none-ne-some}
+use mathlib.Core.List.{List}
+use Rattle.std.proofs.Math.Option.{none, some, some-injective, none-ne-some}
 use Rattle.std.proofs.Math.ListN.{get_elem?}
 use Rattle.semantics.specs.Scenario.{Scenario}
 use Rattle.semantics.specs.State.{State, Claim}
 use Rattle.semantics.specs.Moves.{Move, Listing}
-use Rattle.semantics.specs.Verdict.{Entry, trace_list, broken, Finding, found, nothing, cut, walked, Verdict, broken_at, held, stopped, verdict_from, verdict}
-use Rattle.semantics.specs.Allowed.{Breaks, Names}
+use Rattle.semantics.specs.Verdict.{Entry, trace_list, broken, Finding, walked, Verdict, broken_at, held, stopped, verdict_from, verdict}
+use Rattle.semantics.specs.Allowed.{Breaks}
 use Rattle.semantics.specs.Demand.{entry_at, SomeBreak, FirstBreak, NoBreak}
 use Rattle.semantics.proofs.laws.List.{mem-get_elem, get_elem-below}
 use Rattle.semantics.proofs.laws.Traces.{traces-exact}

@@ -1,5 +1,5 @@
 -- The laws of the moves of a state, with their proofs: they are the allowed moves, each in its place. Assumes nothing.
-use Rattle.std.specs.Prelude.{ℕ, zero, suc, ◌<◌, ◌≡◌, ◌↔◌, Bool, ◌&&◌, T, eqb, length}
+use Rattle.std.specs.Prelude.{ℕ, ◌<◌, ◌≡◌, ◌↔◌, Bool, ◌&&◌, T, eqb, length}
 use Rattle.std.proofs.Common.{arith, ◌∙◌, ⊎_elim, eqb→eq}
 use Rattle.std.proofs.Math.Path.{refl, sym, ap}
 use Rattle.std.proofs.Math.Option.{Option, none, some, some-injective, none-ne-some}
@@ -14,7 +14,7 @@ use Rattle.semantics.specs.Table.{Row}
 use Rattle.semantics.specs.Roles.{EventKind, send, read, claim}
 use Rattle.semantics.specs.Runs.{atom_at, is_agent}
 use Rattle.semantics.specs.Scenario.{Scenario}
-use Rattle.semantics.specs.State.{Value, State, Active, active, events_of, Message}
+use Rattle.semantics.specs.State.{Value, State, Active, active, Message}
 use Rattle.semantics.specs.Moves.{Move, runs_for, values_at, values_of_type, candidates, choices, known_after, to_set, message_after, advanced, performed, branch, moves_of_run, Listing, full, short, run_numbers, runs_in, moves_in}
 use Rattle.semantics.specs.Tree.{Earlier, differs, agrees}
 use Rattle.semantics.specs.Replay.{same_value, is_value_of, suits, after}

@@ -28,7 +28,7 @@ use Rattle.semantics.proofs.laws.List.{mem-cases, mem-keep, mem-present, mem-map
 use Rattle.semantics.proofs.laws.Inference.{derives-keeps, derivable-sound}
 use Rattle.semantics.proofs.laws.Value.{substituted, substituted-carried, value-exact, value-term, value-imply}
 use Rattle.semantics.proofs.laws.Tree.{follows-good}
-use Rattle.semantics.proofs.laws.Moves.{ActiveIn, active-in}
+use Rattle.semantics.proofs.laws.Moves.{active-in}
 
 -- a value, or else another
 abbrev pub or_else : {A : Type 0} → Option A → Option A → Option A

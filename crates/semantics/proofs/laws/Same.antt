@@ -1,6 +1,6 @@
 -- The lists of traces below states of equal positions, values and derivable terms are equally long and break claims alike. Assumes nothing.
 use Prim.Native.Nat.{ℕ, zero, suc}
-use Rattle.std.specs.Prelude.{◌≡◌, Bool, true, false, ◌&&◌, T, length, set}
+use Rattle.std.specs.Prelude.{◌≡◌, Bool, true, false, ◌&&◌, T, length}
 use Rattle.std.proofs.Math.Path.{refl, ap, subst, fun_ext}
 use Rattle.std.proofs.Common.{sym, ◌∙◌, true≢false}
 use mathlib.Core.List.{List, ◌∷◌, ◌++◌, map, Memᴰ}

@@ -10,7 +10,7 @@ use mathlib.Core.List.{List, [], ◌∷◌, ◌++◌, map, Memᴰ}
 use Rattle.std.proofs.Math.Option.{Option, none, some, some-injective}
 use Rattle.std.proofs.Math.ListN.{get_elem?}
 use Rattle.semantics.specs.Term.{Atom, Term}
-use Rattle.semantics.specs.Roles.{EventKind, send, read, Event}
+use Rattle.semantics.specs.Roles.{EventKind, send, Event}
 use Rattle.semantics.specs.Runs.{Run}
 use Rattle.semantics.specs.Scenario.{Scenario}
 use Rattle.semantics.specs.State.{Value, Progress, State, Active, initial_knowledge, initial, reading_in, events_of, paired, Message}

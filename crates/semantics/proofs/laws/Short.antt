@@ -1,8 +1,8 @@
 -- The short list against the full one: the same breaks, the same word, never longer, and equal where every event is a read. Assumes nothing.
 use Rattle.std.specs.Prelude.{ℕ, ◌≤◌, ◌≡◌, refl, ◌↔◌, ◌⊎◌, length}
-use Rattle.std.proofs.Common.{arith, sym, ◌∙◌, inl, inr}
+use Rattle.std.proofs.Common.{arith, inl, inr}
 use Rattle.std.proofs.Math.Path.{ap, fun_ext}
-use mathlib.Core.List.{List, [], ◌∷◌, map, Memᴰ}
+use mathlib.Core.List.{List, [], map}
 use Rattle.std.proofs.Math.Option.{Option, none, some}
 use Rattle.std.proofs.Math.ListN.{get_elem?}
 use Rattle.semantics.specs.Basic.{first_of, joined}
@@ -26,8 +26,8 @@ use Rattle.semantics.proofs.laws.Open.{opened-guarantee}
 use Rattle.semantics.proofs.laws.Active.{active-in, active-mem, Readiness, first_ready, closed, readiness}
 use Rattle.semantics.proofs.laws.Traces.{trace-in}
 use Rattle.semantics.proofs.laws.Demand.{ends, no-break-none}
-use Rattle.semantics.proofs.laws.Operations.{budget-of, search-held, search-breaks}
-use Rattle.semantics.proofs.laws.Packing.{held-word, broken-word}
+use Rattle.semantics.proofs.laws.Operations.{budget-of, search-breaks}
+use Rattle.semantics.proofs.laws.Packing.{broken-word}
 use Rattle.semantics.proofs.laws.Caller.{held-read}
 use Rattle.semantics.proofs.laws.Ahead.{short-breaks}
 

@@ -15,7 +15,7 @@ use Rattle.semantics.specs.Verdict.{Entry, trace_list}
 use Rattle.semantics.specs.Allowed.{Step, step, AllowedTrace, StepIn, TraceIn, MoveBefore}
 use Rattle.semantics.proofs.laws.List.{get_elem-below}
 use Rattle.semantics.proofs.laws.Tree.{follows-determined, follows-map, earlier-prefix, places-order, places-once, listed-first, listed-sound, listed-complete, listed-ordered}
-use Rattle.semantics.proofs.laws.Moves.{ActiveIn, active-in, moves-exact, after-exact, move_before-asymmetric, moves-ordered}
+use Rattle.semantics.proofs.laws.Moves.{active-in, moves-exact, after-exact, move_before-asymmetric, moves-ordered}
 
 -- one more event of a run leaves one less
 left-set : (sc : Scenario) (runs : List Run) (ps : List Progress) (k : ℕ) {run : Run} {p : Progress} {e : Event} (q : Progress)

@@ -1,5 +1,5 @@
 -- The laws of Readable and WF: their tests hold exactly where the relations do. Assumes nothing.
-use Rattle.std.specs.Prelude.{ℕ, ◌↔◌, Bool, true, false, ◌&&◌, ◌||◌, List, [], ◌∷◌, T}
+use Rattle.std.specs.Prelude.{ℕ, ◌↔◌, Bool, ◌&&◌, List, ◌∷◌, T}
 use Rattle.std.proofs.Common.{⊎_elim}
 use Rattle.semantics.specs.Term.{Atom, trusted, untrusted, global, intruder, role, variable, local, Term, atom, pk, sk, shared, pair, encrypted, inverse}
 use Rattle.semantics.specs.Inference.{Derives, derivable}

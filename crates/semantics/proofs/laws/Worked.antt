@@ -1,5 +1,5 @@
 -- The worked cases computed: every case of the tables holds, and P7 to P11 hold of the inference relation itself. Assumes nothing.
-use Rattle.std.specs.Prelude.{◌≡◌, refl, true, false, List, [], ◌∷◌, T}
+use Rattle.std.specs.Prelude.{◌≡◌, refl, [], ◌∷◌}
 use Rattle.std.proofs.Math.Decide.{ℕ_discrete}
 use Rattle.semantics.specs.Derive.{absent_from, derivable_row, derived}
 use Rattle.semantics.specs.Frame.{unversioned, too_long, budget_of, framed, misframed, block_from, block, records_from, records, first_bad}
