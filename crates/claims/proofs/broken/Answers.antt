@@ -38,7 +38,7 @@ loop-k-preserved c =
     (
       omega (arith, c.loop-k-test.true),
       none-next c.args.file.now c.args.t.now c.args.n c.args.r c.args.marks c.args.done c.loop-k.k c.loop-k.invariant.1 c.loop-k-test.true
-          c.broken_in_run-found.result c.broken_in_run-found.ensures (let h = c.in_default in ?),
+          c.broken_in_run-found.result c.broken_in_run-found.ensures c.in_default.is,
     )
 
 pub returns : goal.returns
