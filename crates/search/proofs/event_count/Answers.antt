@@ -18,6 +18,5 @@ overflow_add-sum c = omega (arith, c.requires.1 c.loop-k.k (omega arith))
 pub loop-k-preserved : goal.loop-k-preserved
 loop-k-preserved c =
     let l = c.loop-k in
-    
     let size : length c.args.r.events ≡ 4 = search rules in
     (omega arith, (omega (arith, total-more c.args.r.events l.k (omega arith)), omega (arith, c.requires.1 l.k (omega arith))))

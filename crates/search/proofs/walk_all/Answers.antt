@@ -21,18 +21,18 @@ block_of-requires c = let p = c.requires.0 in (opened-framed _ _ p.is_opened, om
 pub initial-s-requires : goal.initial-s-requires
 initial-s-requires c =
     let p = c.requires.0 in
-    (_, (given-layout _ _ p.is_opened p.layout c.runs_of-runs.ensures c.Block-of.ensures, opened-knowledge _ _ p.is_opened c.block_of.ensures))
+    (_, (given-layout _ _ p.is_opened p.layout c.runs_of-runs.ensures c.block_of-t.ensures, opened-knowledge _ _ p.is_opened c.block_of.ensures))
 
 pub variable_rows-variables-requires : goal.variable_rows-variables-requires
 variable_rows-variables-requires c =
     let p = c.requires.0 in
-    let shape = (given-layout _ _ p.is_opened p.layout c.runs_of-runs.ensures c.Block-of.ensures).shape in
+    let shape = (given-layout _ _ p.is_opened p.layout c.runs_of-runs.ensures c.block_of-t.ensures).shape in
     shape-sized shape
 
 pub slice_bounds-walk-end-3 : goal.slice_bounds-walk-end-3
 slice_bounds-walk-end-3 c =
     let p = c.requires.0 in
-    let given = given-layout _ _ p.is_opened p.layout c.runs_of-runs.ensures c.Block-of.ensures in
+    let given = given-layout _ _ p.is_opened p.layout c.runs_of-runs.ensures c.block_of-t.ensures in
     let state = c.initial-s.ensures _ given (opened-knowledge _ _ p.is_opened c.block_of.ensures) in
     search (rules, state.arrays.classed.size)
 
@@ -46,18 +46,18 @@ pub walk-requires : goal.walk-requires
 walk-requires c =
     let p = c.requires.0 in
     let runs = c.runs_of-runs.ensures in
-    let given = given-layout _ _ p.is_opened p.layout runs c.Block-of.ensures in
-    let state = c.initial-s.ensures _ given (opened-knowledge _ _ p.is_opened c.block_of.ensures) in (
-      state-first _ p.is_opened given state refl,
-      record { buffer = c.requires.1.0; budget = c.requires.1.1; moves = omega (arith, c.event_count.ensures.1); remembers = remembers-start _ _ _ c.variable_rows-variables.ensures refl },
-    )
+    let given = given-layout _ _ p.is_opened p.layout runs c.block_of-t.ensures in
+    let state = c.initial-s.ensures _ given (opened-knowledge _ _ p.is_opened c.block_of.ensures) in record {
+      some_state = state-first _ p.is_opened given state refl;
+      room = record { buffer = c.requires.1.0; budget = c.requires.1.1; moves = omega (arith, c.event_count.ensures.1); remembers = remembers-start _ _ _ c.variable_rows-variables.ensures refl };
+    }
 
 pub returns : goal.returns
 returns c =
     let events-size : length c.runs_of-runs.result.events ≡ 4 = search rules in
     let p = c.requires.0 in
     let runs = c.runs_of-runs.ensures in
-    let given = given-layout _ _ p.is_opened p.layout runs c.Block-of.ensures in
+    let given = given-layout _ _ p.is_opened p.layout runs c.block_of-t.ensures in
     let state = c.initial-s.ensures _ given (opened-knowledge _ _ p.is_opened c.block_of.ensures) in
     let depth = c.event_count.ensures.0 ∙ total_left _ _ _ runs (events-size) in
-    first_finds _ p.is_opened given state refl depth c.walk.ensures.0
+    first_finds _ p.is_opened given state refl depth c.walk.ensures.finds_from

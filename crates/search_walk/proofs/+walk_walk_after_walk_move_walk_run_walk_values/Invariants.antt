@@ -23,20 +23,35 @@ use Rattle.search_same.specs.laws.Memory.{room-on}
 use Rattle.search_same.specs.laws.Known as known
 use Rattle.search_walk.proofs.+walk_walk_after_walk_move_walk_run_walk_values.Given as goal
 
-abbrev pub invariant-loop-k : goal.invariant-loop-k
-invariant-loop-k l =
+abbrev pub decreases-walk : goal.decreases-walk
+decreases-walk l = l.reach.depth * 400
+
+abbrev pub decreases-walk_after : goal.decreases-walk_after
+decreases-walk_after l = l.reach.depth * 400 + 1
+
+abbrev pub decreases-walk_move : goal.decreases-walk_move
+decreases-walk_move l = l.reach.depth * 400 + 2
+
+abbrev pub decreases-walk_run : goal.decreases-walk_run
+decreases-walk_run l = l.reach.depth * 400 + 300
+
+abbrev pub decreases-walk_values : goal.decreases-walk_values
+decreases-walk_values l = l.reach.depth * 400 + 3 + 2 * (l.plan.rows - l.choice.from)
+
+abbrev pub invariant-walk-loop-k : goal.invariant-walk-loop-k
+invariant-walk-loop-k l =
     (l.trace ≡ l.initial.trace) × (l.count ≤ l.reach.left) × (l.end ≤ l.plan.runs.count) × (0 < l.reach.depth)
     × ((m : SomeState l.file l.t l.plan (state_of l.course l.names l.classes l.marks) l.reach.at) → (broken m.sc m.d ≡ none) × Passed m.sc l.reach.left (entries_from l.plan l.reach.depth m.sc m.d) (runs_from l.plan m.sc (l.reach.depth - 1) m.d l.end l.k) l.count)
     × Remembers l.file l.t l.plan l.memory
 
-abbrev pub decreases-loop-k : goal.decreases-loop-k
-decreases-loop-k l = l.end - l.k
+abbrev pub decreases-walk-loop-k : goal.decreases-walk-loop-k
+decreases-walk-loop-k l = l.end - l.k
 
-abbrev pub invariant-loop-y : goal.invariant-loop-y
-invariant-loop-y l =
+abbrev pub invariant-walk_values-loop-y : goal.invariant-walk_values-loop-y
+invariant-walk_values-loop-y l =
     (l.trace ≡ l.initial.trace) × (l.count ≤ l.reach.left) × (l.row ≤ l.plan.rows)
     × ((m : SomeChoice l.file l.t l.plan l.course l.own l.names l.classes l.marks l.reach.at l.choice) (unset : of_values.NextFor l.t l.own l.choice l.x) (more : l.x ≡ l.plan.rows → ⊥) → of_values.Tried unset l.reach m more l.row l.run l.count)
     × Remembers l.file l.t l.plan l.memory
 
-abbrev pub decreases-loop-y : goal.decreases-loop-y
-decreases-loop-y l = (l.plan.rows - l.row) * 6 + (6 - l.run)
+abbrev pub decreases-walk_values-loop-y : goal.decreases-walk_values-loop-y
+decreases-walk_values-loop-y l = (l.plan.rows - l.row) * 6 + (6 - l.run)

@@ -12,8 +12,6 @@ use Rattle.text.specs.laws.Adds.{adds_none, adds_on, adds-as}
 use Rattle.text.specs.laws.Steps.{steps-none, FirstStep, first-step}
 use Rattle.text.proofs.+put_steps.Goals as goal
 
--- OLD abbrev μ-put-steps : Measures 1 put-steps-kinds.ps ℕ
--- OLD μ-put-steps κs a = length a.1.0.now
 
 -- the values of the first step, and the bytes after it
 module _ {bytes : List ℕ} {ms : List Move} (f : FirstStep bytes ms) {count : ℕ} (e : count ≡ get_or bytes 1 0) where
@@ -38,6 +36,11 @@ bounds-trace-1 t c =
     let f = first-step c.requires.0.0 _ c.requires.0.1 (omega (arith, c.if-trace-eq0.false)) in
     omega (arith, f.size)
 
+pub slice_bounds-put_step-end : goal.slice_bounds-put_step-end
+slice_bounds-put_step-end t c =
+    let f = first-step c.requires.0.0 _ c.requires.0.1 (omega (arith, c.if-trace-eq0.false)) in
+    omega (arith, f.size, c.wide.ensures.0)
+
 pub put_step-more-requires : goal.put_step-more-requires
 put_step-more-requires t c =
     let f = first-step c.requires.0.0 _ c.requires.0.1 (omega (arith, c.if-trace-eq0.false)) in
@@ -49,14 +52,19 @@ slice_bounds-put_steps-count t c =
     let f = first-step c.requires.0.0 _ c.requires.0.1 (omega (arith, c.if-trace-eq0.false)) in
     omega (arith, f.size, c.wide.ensures.0)
 
+pub slice_bounds-put_steps-start : goal.slice_bounds-put_steps-start
+slice_bounds-put_steps-start t c =
+    let f = first-step c.requires.0.0 _ c.requires.0.1 (omega (arith, c.if-trace-eq0.false)) in
+    omega (arith, f.size, c.wide.ensures.0)
+
 pub put_steps-requires : goal.put_steps-requires
 put_steps-requires t c =
     let f = first-step c.requires.0.0 _ c.requires.0.1 (omega (arith, c.if-trace-eq0.false)) in
     let e = c.wide.ensures.0 in
-    (omega (arith, f.size, e, after-length f e), ((f.others, after_first f e), omega (arith, c.put_step-more.ensures.0, values_length f e, after-length f e, f.size, e, c.requires.1)))
+    (omega (arith, f.size, e, after-length f e), ((f.others, after_first f e), omega (arith, c.put_step-more.ensures.len_bound, values_length f e, after-length f e, f.size, e, c.requires.1)))
 
 pub returns : goal.returns
 returns t c ms h =
     let f = first-step ms _ h (omega (arith, c.if-trace-eq0.false)) in
     let e = c.wide.ensures.0 in
-    adds-as f.texts (adds_on (c.put_step-more.ensures.1 f.move (c.wide-2.ensures.0 ∙ f.run) (first-values f e)) (c.put_steps.ensures f.others (after_first f e)))
+    adds-as f.texts (adds_on (c.put_step-more.ensures.adds f.move (c.wide-2.ensures.0 ∙ f.run) (first-values f e)) (c.put_steps.ensures f.others (after_first f e)))

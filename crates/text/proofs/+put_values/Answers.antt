@@ -13,15 +13,13 @@ use Rattle.text.specs.laws.Adds.{adds_none, adds_on, adds-as}
 use Rattle.text.specs.laws.Steps.{values-none, first-value}
 use Rattle.text.proofs.+put_values.Goals as goal
 
--- OLD abbrev μ-put-values : Measures 1 put-values-kinds.ps ℕ
--- OLD μ-put-values κs a = length a.1.0.now
 
 -- the bytes after the first two
 rest-length : (bytes : List ℕ) → length (take (length bytes - 2) (drop 2 bytes)) ≡ length bytes - 2
 rest-length bytes = ap length (take_all (length bytes - 2) (drop 2 bytes) (omega (arith, length-drop 2 bytes))) ∙ length-drop 2 bytes
 
 pub returns-then-values-lt2 : goal.returns-then-values-lt2
-returns-then-values-lt2 t c = (omega arith, λ vs e. adds-as (values-none vs _ e c.if-values-lt2.true) (adds_none _))
+returns-then-values-lt2 t c = record { len_bound = omega arith; adds = λ vs e. adds-as (values-none vs _ e c.if-values-lt2.true) (adds_none _) }
 
 pub put_with-run-requires : goal.put_with-run-requires
 put_with-run-requires t c =
@@ -29,8 +27,6 @@ put_with-run-requires t c =
 
 pub put_values-requires : goal.put_values-requires
 put_values-requires t c =
-    
-    
     let row = decimal-few 2 c.wide.result (omega (arith, c.wide.ensures.1)) in
     let run = decimal-few 2 c.wide-2.result (omega (arith, c.wide-2.ensures.1)) in
     let size = rest-length c.args.values.now in
@@ -38,18 +34,16 @@ put_values-requires t c =
 
 pub returns : goal.returns
 returns t c =
-    
-    
     let row = decimal-few 2 c.wide.result (omega (arith, c.wide.ensures.1)) in
     let run = decimal-few 2 c.wide-2.result (omega (arith, c.wide-2.ensures.1)) in
     let size = rest-length c.args.values.now in
-    let two = c.if-values-lt2.false in (
-      omega (arith, c.put_with-row.ensures.0.size, c.put_with-run.ensures.0.size, c.put_values.ensures.0, size, two),
-      λ vs e.
+    let two = c.if-values-lt2.false in record {
+      len_bound = omega (arith, c.put_with-row.ensures.0.size, c.put_with-run.ensures.0.size, c.put_values.ensures.len_bound, size, two);
+      adds = λ vs e.
           let f = first-value vs _ e two in
           let p = c.wide.ensures.0 ∙ f.row in
           let q = c.wide-2.ensures.0 ∙ f.run in
           let rest = take_all (length c.args.values.now - 2) (drop 2 c.args.values.now) (omega (arith, length-drop 2 c.args.values.now)) ∙ f.rest in
           adds-as ((λ i. ((word " " ++ decimal (p i)) ++ (word "." ++ decimal (q i))) ++ joined value_text f.others) ∙ f.texts)
-          (adds_on (adds_on c.put_with-row.ensures.0 c.put_with-run.ensures.0) (c.put_values.ensures.1 f.others rest)),
-    )
+          (adds_on (adds_on c.put_with-row.ensures.0 c.put_with-run.ensures.0) (c.put_values.ensures.adds f.others rest));
+    }

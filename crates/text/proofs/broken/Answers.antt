@@ -14,7 +14,6 @@ push-requires c =
 
 pub put_steps-requires : goal.put_steps-requires
 put_steps-requires c =
-    
     (c.requires.0, omega (arith, c.push.ensures.size, c.put_with.ensures.1, c.put_with-run.ensures.1, c.put_with-place.ensures.1, c.empty.ensures, c.requires.1))
 
 pub returns : goal.returns

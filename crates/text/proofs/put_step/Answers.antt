@@ -13,14 +13,14 @@ put_values-requires c = omega (arith, c.put_with.ensures.0.size, decimal-few 2 c
 
 pub push-requires : goal.push-requires
 push-requires c =
-    omega (arith, c.put_with.ensures.0.size, decimal-few 2 c.args.run (omega (arith, c.requires.0)), c.requires.1, c.put_values.ensures.0)
+    omega (arith, c.put_with.ensures.0.size, decimal-few 2 c.args.run (omega (arith, c.requires.0)), c.requires.1, c.put_values.ensures.len_bound)
 
 pub returns : goal.returns
 unfolding step_text
 returns c =
-    (
-      omega (arith, c.put_with.ensures.0.size, decimal-few 2 c.args.run (omega (arith, c.requires.0)), c.put_values.ensures.0, c.push.ensures.size),
-      λ m e v.
+    record {
+      len_bound = omega (arith, c.put_with.ensures.0.size, decimal-few 2 c.args.run (omega (arith, c.requires.0)), c.put_values.ensures.len_bound, c.push.ensures.size);
+      adds = λ m e v.
           adds-as (λ i. (word "STEP " ++ decimal (e i)) ++ (joined value_text m.values ++ word "\n"))
-          (adds_on c.put_with.ensures.0 (adds_on (c.put_values.ensures.1 m.values v) c.push.ensures)),
-    )
+          (adds_on c.put_with.ensures.0 (adds_on (c.put_values.ensures.adds m.values v) c.push.ensures));
+    }
