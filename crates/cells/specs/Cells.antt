@@ -1,10 +1,9 @@
 -- Cells, each a row in a run; their values; and the look-up of a class. Assumes nothing.
-use Rattle.std.specs.Prelude.{ℕ, zero, suc, ◌+◌, ◌*◌, ◌<◌, ◌≤◌, ◌≡◌, Bool, true, false, cond, ◌&&◌, List, T, ltb, eqb, length, get_or}
+use Rattle.std.specs.Prelude.{ℕ, ◌+◌, ◌*◌, ◌<◌, ◌≤◌, ◌≡◌, Bool, true, false, cond, ◌&&◌, List, T, ltb, eqb, length, get_or}
 use Rattle.std.proofs.Math.Option.{Option}
 use Rattle.semantics.specs.Term.{Atom, trusted, untrusted, global, intruder, role, variable, local, Term}
 use Rattle.semantics.specs.Table.{Row}
 use Rattle.semantics.specs.Value.{Reading, value_of}
-use Rattle.rows.specs.Rows.{IsTable, rows_of}
 
 -- "A marks array of 96 rows by run 0 to 4": the cell of a row in a run
 abbrev pub cell_of : ℕ → ℕ → ℕ

@@ -1,7 +1,7 @@
 -- Marks of cells: sound and covering what is known, and exact (document 01, 'Operations and what stops them'). Assumes nothing.
 use Rattle.std.specs.Prelude.{ℕ, ◌≡◌, ◌↔◌, Bool, true, false, get_or, set}
 use mathlib.Core.List.{List, ◌∷◌, Memᴰ}
-use Rattle.std.proofs.Math.Option.{Option, some}
+use Rattle.std.proofs.Math.Option.{some}
 use Rattle.semantics.specs.Term.{Term}
 use Rattle.semantics.specs.Inference.{Derives}
 use Rattle.semantics.specs.Table.{Row}

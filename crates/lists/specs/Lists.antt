@@ -1,6 +1,5 @@
 -- Which rows have a value, and the first of a rising list that has none, as the code answers them. Assumes nothing.
-use Rattle.std.specs.Prelude.{ℕ, suc, ◌+◌, ◌*◌, ◌<◌, ◌≡◌, Bool, true, false, ◌&&◌, not, List, [], ◌∷◌, ltb, leb, length, get_or}
-use Rattle.std.proofs.Math.Option.{Option, none, some}
+use Rattle.std.specs.Prelude.{ℕ, ◌+◌, ◌*◌, ◌<◌, ◌≡◌, Bool, true, false, ◌&&◌, not, List, ltb, leb, length, get_or}
 use Rattle.semantics.specs.Basic.{present}
 use Rattle.semantics.specs.Term.{Atom}
 use Rattle.semantics.specs.Table.{Row}

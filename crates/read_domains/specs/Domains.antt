@@ -1,5 +1,5 @@
 -- Sets of classes, and domains: a set of classes for each of 8 variables, one after the other. Assumes nothing.
-use Rattle.std.specs.Prelude.{ℕ, ◌+◌, ◌*◌, ◌<◌, ◌≤◌, ◌≡◌, Bool, true, false, List, length, get_or}
+use Rattle.std.specs.Prelude.{ℕ, ◌+◌, ◌*◌, ◌<◌, ◌≡◌, Bool, true, false, List, length, get_or}
 use Rattle.std.proofs.Math.Option.{some}
 use Rattle.semantics.specs.Term.{Atom}
 use Rattle.semantics.specs.Runs.{atom_at}
@@ -8,7 +8,7 @@ use Rattle.semantics.specs.Replay.{is_value_of}
 use Rattle.rows.specs.Rows.{rows_of, Shape}
 use Rattle.cells.specs.Cells.{cell_of, cell_count, absent}
 use Rattle.knowledge.specs.Marks.{Marked}
-use Rattle.knowledge.specs.Steps.{class_at, kind_at, Inside}
+use Rattle.knowledge.specs.Steps.{class_at, Inside}
 use Rattle.cells.specs.declared.Scope.{Scope}
 use Rattle.variables.specs.declared.VariableRows.{VariableRows}
 use Rattle.variables.specs.Variables.{In}

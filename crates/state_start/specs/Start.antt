@@ -5,7 +5,7 @@ use Rattle.std.proofs.Math.Option.{some}
 use Rattle.semantics.specs.Term.{Atom}
 use Rattle.semantics.specs.Table.{Row}
 use Rattle.semantics.specs.Value.{Reading, without_run}
-use Rattle.semantics.specs.Runs.{Run, atom_at, is_agent}
+use Rattle.semantics.specs.Runs.{atom_at, is_agent}
 use Rattle.semantics.specs.State.{reading_in}
 use Rattle.cells.specs.Cells.{cell_of, cell_count, absent}
 use Rattle.classes.specs.Classes.{Named}

@@ -1,9 +1,8 @@
 -- What the functions that check a table answer, in terms of the definitions. Assumes nothing.
-use Rattle.std.specs.Prelude.{ℕ, zero, suc, ◌+◌, ◌*◌, ◌<◌, ◌≤◌, ◌≡◌, Bool, true, false, ◌&&◌, List, [], eqb, length, take, get_or}
+use Rattle.std.specs.Prelude.{ℕ, ◌+◌, ◌*◌, Bool, false, ◌&&◌, List, eqb, length, get_or}
 use Rattle.std.proofs.Math.Option.{Option, none, some}
-use Rattle.std.proofs.Math.ListN.{get_elem?}
 use Rattle.semantics.specs.Answer.{Answer, refused, accepted}
-use Rattle.semantics.specs.Table.{Row, decode, rows_from, fits, repeated}
+use Rattle.semantics.specs.Table.{Row, fits, repeated}
 use Rattle.answers.specs.Answers.{refusal_as}
 use Rattle.table.specs.declared.Judged.{Judged}
 use Rattle.table.specs.declared.Judged.TheVariants.{Refused, Rows}

@@ -1,5 +1,4 @@
 -- `verdict_of` is the verdict by what the walk found. Assumes nothing.
-use borrow.Author.Rules.{rules}
 use mathlib.Core.Path.{sym, ap}
 use Rattle.answers.specs.Answers.{answered}
 use Rattle.answers.proofs.verdict_of.Goals as goal

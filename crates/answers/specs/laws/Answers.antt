@@ -8,7 +8,6 @@ use Rattle.semantics.specs.Scenario.{Scenario, opened}
 use Rattle.semantics.specs.Verdict.{Entry, Finding, found, nothing, cut, verdict_from, short_buffer}
 use Rattle.answers.specs.declared.Refusal.{Refusal}
 use Rattle.answers.specs.declared.Layout.{Layout}
-use Rattle.answers.specs.declared.Checked.{Checked}
 use Rattle.answers.specs.declared.Checked.TheVariants.{Refused, Passed}
 use Rattle.answers.specs.declared.Walked.{Walked}
 use Rattle.answers.specs.Answers.{numbered, checked_as, layout_of, opened_as, scenario_or, scenario_in, Accepts, verdict_as, walked_as, answered}

@@ -1,7 +1,6 @@
 use native.Mathlib.Omega.{arith}
 use borrow.Author.Rules.{rules}
-use Prim.Native.Nat.{◌-◌, ◌≤◌}
-use Rattle.cells.specs.laws.Cells.{NoneBelow, row-found, row-none, none_found}
+use Rattle.cells.specs.laws.Cells.{row-found, row-none, none_found}
 use Rattle.cells.proofs.found.Goals as goal
 
 -- src/lib.rt:102:5

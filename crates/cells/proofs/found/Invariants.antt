@@ -1,7 +1,5 @@
-use native.Mathlib.Omega.{arith}
-use borrow.Author.Rules.{rules}
 use Prim.Native.Nat.{◌-◌, ◌≤◌}
-use Rattle.cells.specs.laws.Cells.{NoneBelow, row-found, row-none, none_found}
+use Rattle.cells.specs.laws.Cells.{NoneBelow}
 use Rattle.cells.proofs.found.Given as goal
 
 abbrev pub invariant-loop-x : goal.invariant-loop-x

@@ -1,5 +1,5 @@
 -- `broken` answers the first broken claim of a state. The loop's invariant: none of the first k runs breaks a claim. The measure is how many runs are left. Assumes nothing.
-use Prim.Native.Nat.{ℕ, ◌-◌, ◌≤◌}
+use Prim.Native.Nat.{ℕ}
 use native.Mathlib.Omega.{arith}
 use mathlib.Core.Path.{◌≡◌, sym, subst}
 use mathlib.Core.Bool.{Bool}
@@ -11,7 +11,7 @@ use Rattle.semantics.specs.State as definitions
 use Rattle.runs.specs.declared.Runs.{Runs}
 use Rattle.state.specs.declared.State.{State}
 use Rattle.state.specs.State.{Given, IsState}
-use Rattle.claims.specs.laws.State.{StandsIn, NoneBelow, stands, state-none, state-broken, none-next}
+use Rattle.claims.specs.laws.State.{StandsIn, stands, state-none, state-broken, none-next}
 use Rattle.claims.proofs.broken.Goals as goal
 
 -- a state whose marks and places these are
@@ -29,17 +29,15 @@ broken_in_run-found-requires c =
 
 pub returns-in-Broken : goal.returns-in-Broken
 returns-in-Broken c sc d s' given is same own =
-    
     state-broken c.args.file.now c.args.t.now c.args.n c.args.r c.args.marks c.args.done c.loop-k.k c.loop-k.invariant.1 c.loop-k-test.true
     c.broken_in_run-found.result c.broken_in_run-found.ensures _ c.in-Broken.is sc d (lent given is same own)
 
 pub loop-k-preserved : goal.loop-k-preserved
-loop-k-preserved c =
-    (
-      omega (arith, c.loop-k-test.true),
-      none-next c.args.file.now c.args.t.now c.args.n c.args.r c.args.marks c.args.done c.loop-k.k c.loop-k.invariant.1 c.loop-k-test.true
-          c.broken_in_run-found.result c.broken_in_run-found.ensures c.in_default.is,
-    )
+loop-k-preserved c = (
+  omega (arith, c.loop-k-test.true),
+  none-next c.args.file.now c.args.t.now c.args.n c.args.r c.args.marks c.args.done c.loop-k.k c.loop-k.invariant.1 c.loop-k-test.true
+      c.broken_in_run-found.result c.broken_in_run-found.ensures c.in_default.is,
+)
 
 pub returns : goal.returns
 returns c sc d s' given is same own =

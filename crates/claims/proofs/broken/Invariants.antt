@@ -1,17 +1,6 @@
 -- `broken` answers the first broken claim of a state. The loop's invariant: none of the first k runs breaks a claim. The measure is how many runs are left. Assumes nothing.
-use Prim.Native.Nat.{ℕ, ◌-◌, ◌≤◌}
-use native.Mathlib.Omega.{arith}
-use mathlib.Core.Path.{◌≡◌, sym, subst}
-use mathlib.Core.Bool.{Bool}
-use mathlib.Core.List.{List}
-use borrow.Author.Rules.{rules}
-use lib.ListN.{length}
-use Rattle.semantics.specs.Scenario.{Scenario}
-use Rattle.semantics.specs.State as definitions
-use Rattle.runs.specs.declared.Runs.{Runs}
-use Rattle.state.specs.declared.State.{State}
-use Rattle.state.specs.State.{Given, IsState}
-use Rattle.claims.specs.laws.State.{StandsIn, NoneBelow, stands, state-none, state-broken, none-next}
+use Prim.Native.Nat.{◌-◌, ◌≤◌}
+use Rattle.claims.specs.laws.State.{NoneBelow}
 use Rattle.claims.proofs.broken.Given as goal
 
 abbrev pub invariant-loop-k : goal.invariant-loop-k

@@ -1,10 +1,8 @@
 -- `broken_in_run` answers the first broken claim of a run. The loop's invariant: none of the first j events is one. The measure is how many events are left. Assumes nothing.
-use Prim.Native.Nat.{◌-◌, ◌<◌, ◌≤◌}
 use native.Mathlib.Omega.{arith}
 use mathlib.Core.Path.{sym, ◌∙◌}
-use borrow.Author.Rules.{rules}
 use Rattle.cells.specs.laws.Shape.{shape-sized}
-use Rattle.claims.specs.laws.Run.{NoneTo, none_more, run-untrusted, run-broken, run_none}
+use Rattle.claims.specs.laws.Run.{none_more, run-untrusted, run-broken, run_none}
 use Rattle.claims.proofs.broken_in_run.Goals as goal
 
 pub all_trusted-requires : goal.all_trusted-requires

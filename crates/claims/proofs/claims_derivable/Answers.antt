@@ -1,6 +1,5 @@
 -- `claims_derivable` answers whether an event is a claim that is broken, in a run whose agents are all trusted. Assumes nothing.
 use native.Mathlib.Omega.{arith}
-use borrow.Author.Rules.{rules}
 use Rattle.claims.specs.laws.Event.{row-below, past-none, other_none, claim-marked}
 use Rattle.claims.proofs.claims_derivable.Goals as goal
 

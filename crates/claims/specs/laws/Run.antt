@@ -6,12 +6,10 @@ use Rattle.std.proofs.Math.Path.{refl}
 use Rattle.std.proofs.Math.Option.{none}
 use Rattle.std.proofs.Math.ListN.{get_elem?}
 use Rattle.semantics.specs.Basic.{provided, first_of, numbers_from}
-use Rattle.semantics.specs.Inference.{derivable}
-use Rattle.semantics.specs.Value.{value_of}
 use Rattle.semantics.specs.Roles.{claim_kind, Event}
 use Rattle.semantics.specs.Runs.{Run, all_trusted}
 use Rattle.semantics.specs.Scenario.{Scenario}
-use Rattle.semantics.specs.State.{Progress, State, events_of, reading_in}
+use Rattle.semantics.specs.State.{Progress, State, events_of}
 use Rattle.semantics.specs.Verdict.{is_against, broken_event, broken_in_run}
 use Rattle.semantics.proofs.laws.Broken.{first_found, first-none}
 use Rattle.runs.specs.declared.Runs.{Runs}

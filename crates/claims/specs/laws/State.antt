@@ -4,14 +4,12 @@ use Rattle.std.proofs.Common.{arith, eq-or-lt_of_le, ◌∙◌, ⊎_elim}
 use Rattle.std.proofs.Math.Path.{refl, sym, ap}
 use Rattle.std.proofs.Math.Option.{Option, none, some}
 use Rattle.std.proofs.Math.ListN.{get_elem?}
-use Rattle.semantics.specs.Runs.{Run}
 use Rattle.semantics.specs.Scenario.{Scenario}
 use Rattle.semantics.specs.State.{Progress, State}
 use Rattle.semantics.specs.State as definitions
 use Rattle.semantics.specs.Verdict.{broken_in_run, broken}
 use Rattle.semantics.proofs.laws.List.{get_elem-there}
 use Rattle.semantics.proofs.laws.Broken.{first_found, first-none}
-use Rattle.rows.specs.Rows.{rows_of}
 use Rattle.knowledge.specs.Marks.{Exact}
 use Rattle.runs.specs.declared.Runs.{Runs}
 use Rattle.state.specs.declared.State.{State as CodeState}

@@ -1,34 +1,33 @@
 -- `classes::class_of` meets its contract: each way out is one way for a cell to get its class. Assumes nothing.
 use native.Mathlib.Omega.{arith}
-use borrow.Author.Rules.{rules}
 use Rattle.classes.specs.laws.ClassOf.{first_read, second-read, class-named, class-first, class-second, class-found, class-itself}
 use Rattle.cells.specs.laws.Cells.{left-small, second-small}
 use Rattle.classes.proofs.class_of.Goals as goal
 
 pub returns-then-kind-lt-FIRST_MADE : goal.returns-then-kind-lt-FIRST_MADE
-returns-then-kind-lt-FIRST_MADE c = 
+returns-then-kind-lt-FIRST_MADE c =
     class-named c.args.t.now c.args.n c.args.runs c.args.names.now c.args.classes.now c.args.u c.args.x c.kind_of-kind.ensures.0 c.if-kind-lt-FIRST_MADE.true c.requires.1.1.0 c.cell-c.ensures.0 c.cell-c.ensures.1
 
 pub cell-requires : goal.cell-requires
-cell-requires c = 
+cell-requires c =
     (left-small c.args.t.now c.args.n c.args.runs c.requires.0 c.args.x c.requires.1.1.1.1 (omega (arith, c.kind_of-kind.ensures.0, c.if-kind-lt-FIRST_MADE.false)) c.left_of.ensures.0, omega (arith, c.requires.0.few_runs, c.requires.1.1.1.0))
 
 pub returns-then-a-eq-ABSENT : goal.returns-then-a-eq-ABSENT
-returns-then-a-eq-ABSENT c = 
+returns-then-a-eq-ABSENT c =
     class-first c.args.t.now c.args.n c.args.runs c.args.names.now c.args.classes.now c.args.u c.args.x c.kind_of-kind.ensures.0 c.if-kind-lt-FIRST_MADE.false (first_read c.args.t.now c.args.classes.now c.args.u c.args.x c.requires.1.0 c.left_of.ensures.0 c.cell.ensures.0 c.cell.ensures.1) c.if-a-eq-ABSENT.true
 
 pub cell-requires-2 : goal.cell-requires-2
-cell-requires-2 c = 
+cell-requires-2 c =
     (second-small c.args.t.now c.args.n c.args.runs c.requires.0 c.args.x c.requires.1.1.1.1 (omega (arith, c.kind_of-kind.ensures.0, c.if-kind-lt-FIRST_MADE.false)) c.second_of.ensures.0, omega (arith, c.requires.0.few_runs, c.requires.1.1.1.0))
 
 pub returns-then-b-eq-ABSENT : goal.returns-then-b-eq-ABSENT
-returns-then-b-eq-ABSENT c = 
+returns-then-b-eq-ABSENT c =
     class-second c.args.t.now c.args.n c.args.runs c.args.names.now c.args.classes.now c.args.u c.args.x c.kind_of-kind.ensures.0 c.if-kind-lt-FIRST_MADE.false (first_read c.args.t.now c.args.classes.now c.args.u c.args.x c.requires.1.0 c.left_of.ensures.0 c.cell.ensures.0 c.cell.ensures.1) (second-read c.args.t.now c.args.classes.now c.args.u c.args.x c.requires.1.0 c.second_of.ensures.0 c.cell-2.ensures.0 c.cell-2.ensures.1) c.if-b-eq-ABSENT.true
 
 pub returns-then-class-eq-ABSENT : goal.returns-then-class-eq-ABSENT
-returns-then-class-eq-ABSENT c = 
+returns-then-class-eq-ABSENT c =
     class-itself c.args.t.now c.args.n c.args.runs c.args.names.now c.args.classes.now c.args.u c.args.x c.kind_of-kind.ensures.0 c.if-kind-lt-FIRST_MADE.false (first_read c.args.t.now c.args.classes.now c.args.u c.args.x c.requires.1.0 c.left_of.ensures.0 c.cell.ensures.0 c.cell.ensures.1) (second-read c.args.t.now c.args.classes.now c.args.u c.args.x c.requires.1.0 c.second_of.ensures.0 c.cell-2.ensures.0 c.cell-2.ensures.1) c.if-a-eq-ABSENT.false c.if-b-eq-ABSENT.false c.found-class.ensures c.if-class-eq-ABSENT.true c.cell-c.ensures.0
 
 pub returns : goal.returns
-returns c = 
+returns c =
     class-found c.args.t.now c.args.n c.args.runs c.args.names.now c.args.classes.now c.args.u c.args.x c.kind_of-kind.ensures.0 c.if-kind-lt-FIRST_MADE.false (first_read c.args.t.now c.args.classes.now c.args.u c.args.x c.requires.1.0 c.left_of.ensures.0 c.cell.ensures.0 c.cell.ensures.1) (second-read c.args.t.now c.args.classes.now c.args.u c.args.x c.requires.1.0 c.second_of.ensures.0 c.cell-2.ensures.0 c.cell-2.ensures.1) c.found-class.ensures c.if-class-eq-ABSENT.false

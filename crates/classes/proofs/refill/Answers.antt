@@ -1,5 +1,4 @@
 -- `classes::refill` meets its contract: all rows are filled. Assumes nothing.
-use borrow.Author.Rules.{rules}
 use Rattle.classes.specs.laws.Step.{filled-all}
 use Rattle.classes.proofs.refill.Goals as goal
 

@@ -1,10 +1,8 @@
 -- `absent_at` is refusal 11: the rows before place i are there. The measure is what is left of the list. Assumes nothing.
 use native.Mathlib.Omega.{arith}
-use borrow.Author.Rules.{rules}
-use Prim.Native.Nat.{ℕ, ◌-◌, ◌<◌, ◌≤◌}
+use Prim.Native.Nat.{ℕ, ◌<◌, ◌≤◌}
 use mathlib.Core.Path.{refl, subst}
-use lib.ListN.{length}
-use Rattle.derive.specs.laws.Derive.{LeftAt, absent-here, absent-on, target-absent, none-absent}
+use Rattle.derive.specs.laws.Derive.{absent-here, absent-on, target-absent, none-absent}
 use Rattle.derive.proofs.absent_at.Goals as goal
 
 pub loop-i-init : goal.loop-i-init

@@ -1,5 +1,4 @@
 -- `derive::derive` meets its contract: the table, the listed rows and the target, then the answer. Assumes nothing.
-use borrow.Author.Rules.{rules}
 use Rattle.derive.specs.laws.Answer.{derive-refused, derive-shape, derive-absent, derive-listed, derive-answer}
 use Rattle.derive.proofs.derive.Goals as goal
 

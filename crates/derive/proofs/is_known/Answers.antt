@@ -1,5 +1,4 @@
 -- `is_known` is whether the target is derivable, by the marks of the listed rows. Assumes nothing.
-use borrow.Author.Rules.{rules}
 use mathlib.Core.Path.{sym}
 use Rattle.role_level.specs.laws.RoleLevel.{exact-answers}
 use Rattle.derive.proofs.is_known.Goals as goal

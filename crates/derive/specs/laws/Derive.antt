@@ -1,20 +1,13 @@
 -- The laws of Derive's loops: absent rows, names at role level, marks of listed rows. Assumes nothing.
-use Rattle.std.specs.Prelude.{ℕ, zero, suc, ◌+◌, ◌<◌, ◌≤◌, ◌≡◌, ◌↔◌, ◌⊎◌, Bool, true, false, not, ltb, length, get_or, take, drop, set, replicate}
-use Rattle.std.proofs.Common.{eq-or-lt_of_le, add-one, arith, sym, ap, ◌∙◌, inl, inr, ⊎_elim, take-suc, take_all, get_or-set_same, get_or-set_other}
-use Rattle.std.proofs.Math.Decide.{ℕ_discrete}
+use Rattle.std.specs.Prelude.{ℕ, ◌+◌, ◌<◌, ◌≤◌, ◌≡◌, length, get_or, drop}
+use Rattle.std.proofs.Common.{add-one, arith, ◌∙◌}
 use Rattle.std.proofs.Math.Path.{refl}
-use Rattle.std.proofs.lemmas.Bool.{false≢true}
-use mathlib.Core.List.{List, [], ◌∷◌, ◌++◌, Memᴰ}
-use Rattle.std.proofs.Math.Option.{Option, none, some}
+use mathlib.Core.List.{List}
 use borrow.Author.Tests.{lt-ltb, le-ltb}
 use Rattle.std.proofs.Math.ListN.{drop_of_length-le}
-use Rattle.std.proofs.lemmas.List.{get_or-replicate}
 use Rattle.std.proofs.Math.Seq.{drop-cons}
-use Rattle.semantics.specs.Basic.{provided}
 use Rattle.semantics.specs.Table.{Row}
 use Rattle.semantics.specs.Derive.{absent_from}
-use Rattle.semantics.proofs.laws.List.{mem-get_elem}
-use Rattle.cells.specs.Cells.{absent}
 use Rattle.rows.specs.Rows.{place_as}
 use Rattle.rows.specs.declared.Place.TheVariants.{At, Nowhere}
 

@@ -1,8 +1,4 @@
 -- `frame::start_from` meets its contract: the block at the front, or one of the rest. The measure is the block's number. Assumes nothing.
-use native.Mathlib.Omega.{arith}
-use borrow.Author.Rules.{rules}
-use Prim.Native.Nat.{ℕ, ◌<◌}
-use Rattle.frame.specs.laws.Frame.{framed-whole, start_first, rest-framed, rest-few, start-next}
 use Rattle.frame.proofs.+start_from.Given as goal
 
 abbrev pub decreases-start_from : goal.decreases-start_from

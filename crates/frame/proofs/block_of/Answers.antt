@@ -1,5 +1,4 @@
 -- `frame::block_of` meets its contract: the blocks follow version and budget. Assumes nothing.
-use borrow.Author.Rules.{rules}
 use Rattle.frame.specs.laws.Frame.{part-framed, part-block}
 use Rattle.frame.proofs.block_of.Goals as goal
 

@@ -1,5 +1,4 @@
 -- `frame::budget` meets its contract: the number of its four bytes. Assumes nothing.
-use borrow.Author.Rules.{rules}
 use Rattle.frame.specs.laws.Frame.{budget-read}
 use Rattle.frame.proofs.budget.Goals as goal
 

@@ -1,5 +1,4 @@
 -- `frame::check` meets its contract: one condition after the other, and the first that holds refuses. Assumes nothing.
-use borrow.Author.Rules.{rules}
 use Rattle.frame.specs.laws.Frame.{version-refused, size-refused, blocks-refused, none-refused}
 use Rattle.frame.proofs.check.Goals as goal
 

@@ -1,5 +1,4 @@
 -- `frame::front` meets its contract: the part after the length, as long as it says. Assumes nothing.
-use borrow.Author.Rules.{rules}
 use Rattle.frame.specs.laws.Frame.{part-front}
 use Rattle.frame.proofs.front.Goals as goal
 

@@ -1,5 +1,4 @@
 -- `frame::length_of` meets its contract: the number of its two bytes. Assumes nothing.
-use borrow.Author.Rules.{rules}
 use Rattle.frame.specs.laws.Frame.{length-read}
 use Rattle.frame.proofs.length_of.Goals as goal
 

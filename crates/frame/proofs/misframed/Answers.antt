@@ -1,5 +1,4 @@
 -- `frame::misframed` meets its contract: the budget runs past the end, or the bytes after it decide. Assumes nothing.
-use borrow.Author.Rules.{rules}
 use Rattle.frame.specs.laws.Frame.{budget-cut, blocks-bad, blocks-good, part-decides}
 use Rattle.frame.proofs.misframed.Goals as goal
 

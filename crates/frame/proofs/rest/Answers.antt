@@ -1,5 +1,4 @@
 -- `frame::rest` meets its contract: the part after the block at the front. Assumes nothing.
-use borrow.Author.Rules.{rules}
 use Prim.Native.Nat.{ℕ, ◌+◌}
 use mathlib.Core.Path.{ap, ◌∙◌}
 use lib.ListN.{drop}

@@ -1,5 +1,4 @@
 -- `frame::start_of` meets its contract: the blocks follow version and budget. Assumes nothing.
-use borrow.Author.Rules.{rules}
 use Rattle.frame.specs.laws.Frame.{part-framed, part-few, part-start}
 use Rattle.frame.proofs.start_of.Goals as goal
 

@@ -1,6 +1,5 @@
 -- `frame::unversioned` meets its contract: there is no first byte, or it is compared with 1. Assumes nothing.
 use native.Mathlib.Omega.{arith}
-use borrow.Author.Rules.{rules}
 use Rattle.frame.specs.laws.Frame.{version-absent, version-other, version-one}
 use Rattle.frame.proofs.unversioned.Goals as goal
 

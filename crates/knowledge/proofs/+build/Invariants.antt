@@ -1,14 +1,10 @@
 -- `build` adds only marks that rows give. The measure is the row.
 -- The loop's invariant: the marks are reached from those of its start; its measure is how many rows are left. Assumes nothing.
-use Prim.Native.Nat.{ℕ, ◌-◌, ◌<◌, ◌≤◌}
-use native.Mathlib.Omega.{arith}
-use mathlib.Core.Path.{◌≡◌, ap, ◌∙◌}
-use mathlib.Core.Logic.{⊎_elim}
-use borrow.Author.Rules.{rules}
+use Prim.Native.Nat.{◌-◌, ◌≤◌}
+use mathlib.Core.Path.{◌≡◌}
 use lib.ListN.{length}
 use Rattle.cells.specs.Cells.{cell_count}
-use Rattle.knowledge.specs.laws.Steps.{reaches-on, reaches_same}
-use Rattle.knowledge.specs.Steps.{Reaches, stays}
+use Rattle.knowledge.specs.Steps.{Reaches}
 use Rattle.knowledge.proofs.+build.Given as goal
 
 abbrev pub decreases-build : goal.decreases-build

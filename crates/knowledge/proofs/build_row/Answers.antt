@@ -1,12 +1,10 @@
 -- `build_row` adds only marks that the row gives. The loop's invariant: the marks are reached from those at the start. Assumes nothing.
-use Prim.Native.Nat.{◌+◌, ◌-◌, ◌≤◌}
 use native.Mathlib.Omega.{arith}
 use mathlib.Core.Logic.{⊎_elim}
-use mathlib.Core.Path.{refl, ap, ◌∙◌, ◌≡◌}
-use borrow.Author.Rules.{rules}
+use mathlib.Core.Path.{refl, ap, ◌∙◌}
 use lib.ListN.{length-set, length}
 use Rattle.knowledge.specs.laws.Steps.{parts_below, reaches_whole}
-use Rattle.knowledge.specs.Steps.{Reaches, stays}
+use Rattle.knowledge.specs.Steps.{stays}
 use Rattle.knowledge.proofs.build_row.Goals as goal
 
 pub returns-then-kind_of-lt-PAIR : goal.returns-then-kind_of-lt-PAIR

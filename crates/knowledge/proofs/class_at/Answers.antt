@@ -1,5 +1,4 @@
 -- `class_at` reads the class of a cell. Assumes nothing.
-use borrow.Author.Rules.{rules}
 use Rattle.cells.specs.laws.Cells.{class-read}
 use Rattle.knowledge.proofs.class_at.Goals as goal
 

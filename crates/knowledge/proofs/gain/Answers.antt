@@ -1,6 +1,5 @@
 -- `gain` finds a class that a row gives in a run and that is not marked. Assumes nothing.
 use native.Mathlib.Omega.{arith}
-use borrow.Author.Rules.{rules}
 use Rattle.knowledge.specs.laws.Steps.{left_below, parts_below, other-idle, gained-at}
 use Rattle.knowledge.proofs.gain.Goals as goal
 

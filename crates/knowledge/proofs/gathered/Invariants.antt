@@ -1,11 +1,7 @@
 -- `gathered` marks the classes of the marked cells. The loops' invariants: the cells passed have their marks, and no other class has one. Assumes nothing.
 use Prim.Native.Nat.{◌+◌, ◌-◌, ◌≤◌}
-use native.Mathlib.Omega.{arith}
-use mathlib.Core.Logic.{⊎_elim}
-use mathlib.Core.Path.{refl}
-use borrow.Author.Rules.{rules}
 use Rattle.cells.specs.Cells.{cell_of}
-use Rattle.knowledge.specs.laws.Filled.{marked, unmarked, Before, filled_none, filled-set, filled-skip, filled-run, filled-all}
+use Rattle.knowledge.specs.laws.Filled.{Before}
 use Rattle.knowledge.specs.Steps.{class_at, On, FilledCells}
 use Rattle.knowledge.proofs.gathered.Given as goal
 

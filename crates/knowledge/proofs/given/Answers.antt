@@ -1,5 +1,4 @@
 -- `given` finds a class that a row gives and that is not marked. Assumes nothing.
-use borrow.Author.Rules.{rules}
 use Rattle.knowledge.specs.laws.Steps.{pair-idle, pair-right, pair_left, content-idle, content-left, content-shut, whole-gained, whole-idle}
 use Rattle.knowledge.specs.laws.Filled.{is-on, is-off}
 use Rattle.knowledge.proofs.given.Goals as goal

@@ -1,5 +1,4 @@
 -- `is_marked` tells whether a class is marked; an absent one never is. Assumes nothing.
-use borrow.Author.Rules.{rules}
 use Rattle.knowledge.specs.laws.Steps.{off}
 use Rattle.knowledge.proofs.is_marked.Goals as goal
 

@@ -1,6 +1,5 @@
 -- `opens` tells whether the inverse of a key is marked. Assumes nothing.
 use native.Mathlib.Omega.{arith}
-use borrow.Author.Rules.{rules}
 use Rattle.knowledge.specs.laws.Steps.{left_below, opening-row, opening-run, opening-other, opening-itself}
 use Rattle.knowledge.specs.Steps.{pk_sk, sk_pk}
 use Rattle.knowledge.proofs.opens.Goals as goal

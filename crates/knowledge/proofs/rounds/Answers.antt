@@ -1,13 +1,11 @@
 -- `rounds` ends with marks to which nothing can be added. The outer invariant: the marks are reached from the start; its measure is how many are missing.
 -- The inner invariant: the marks are as after `build`, and the rows passed give nothing new. Assumes nothing.
-use Prim.Native.Nat.{ℕ, ◌-◌, ◌<◌, ◌≤◌}
 use native.Mathlib.Omega.{arith}
-use mathlib.Core.Path.{◌≡◌, refl, ◌∙◌}
+use mathlib.Core.Path.{refl, ◌∙◌}
 use borrow.Author.Rules.{rules}
-use lib.ListN.{length, length-set}
-use Rattle.cells.specs.Cells.{cell_count}
+use lib.ListN.{length-set}
 use Rattle.knowledge.specs.laws.Steps.{reaches_same, reaches-on, gained-reached, gained-falls, rows_more}
-use Rattle.knowledge.specs.Steps.{IdleAt, Reaches, stays, missing}
+use Rattle.knowledge.specs.Steps.{stays}
 use Rattle.knowledge.proofs.rounds.Goals as goal
 
 pub rounds-init : goal.rounds-init

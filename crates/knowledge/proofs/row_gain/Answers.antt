@@ -1,9 +1,7 @@
 -- `row_gain` finds a class that a row gives in some run. The loop's invariant: in the runs passed the row gives nothing new. Assumes nothing.
-use Prim.Native.Nat.{ℕ, ◌+◌, ◌-◌, ◌<◌, ◌≤◌}
 use native.Mathlib.Omega.{arith}
-use borrow.Author.Rules.{rules}
 use Rattle.knowledge.specs.laws.Steps.{row-gains, idle-more}
-use Rattle.knowledge.specs.Steps.{row_idles, IdleAt}
+use Rattle.knowledge.specs.Steps.{row_idles}
 use Rattle.knowledge.proofs.row_gain.Goals as goal
 
 pub loop-u-init : goal.loop-u-init

@@ -1,5 +1,4 @@
 -- `settle` ends with exact marks. Assumes nothing.
-use borrow.Author.Rules.{rules}
 use Rattle.knowledge.specs.laws.Exact.{settled}
 use Rattle.knowledge.proofs.settle.Goals as goal
 

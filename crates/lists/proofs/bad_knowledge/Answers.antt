@@ -1,6 +1,5 @@
 -- `records::bad_knowledge` meets its contract: the rows marked are those with a value without a run. Assumes nothing.
 use mathlib.Core.Path.{ap, ◌∙◌}
-use borrow.Author.Rules.{rules}
 use Rattle.semantics.specs.Value.{without_run}
 use Rattle.rows.specs.Rows.{rows_of, place_as}
 use Rattle.lists.specs.laws.Clear.{bars-run}

@@ -1,6 +1,5 @@
 -- `records::clear_row` meets its contract: kind by kind, the code tests what the definition asks. Assumes nothing.
 use native.Mathlib.Omega.{arith}
-use borrow.Author.Rules.{rules}
 use Rattle.rows.specs.laws.Table.{left-lower, right-lower}
 use Rattle.lists.specs.laws.Clear.{clear-low, clear-high, clear-one, clear-two, clear-not}
 use Rattle.lists.proofs.clear_row.Goals as goal
@@ -12,15 +11,15 @@ pub returns-then-kind-lt-FIRST_MADE : goal.returns-then-kind-lt-FIRST_MADE
 returns-then-kind-lt-FIRST_MADE c = rw (← c.kind_of-kind.ensures.0) (clear-high _ _ _ _ _ c.if-kind-lt-FIRST_MADE.true c.if-kind-low.false)
 
 pub bounds-clear-left_of : goal.bounds-clear-left_of
-bounds-clear-left_of c = 
+bounds-clear-left_of c =
     omega (arith, left-lower c.args.t.now c.requires.0.table c.args.r (omega (arith, c.requires.0.count)) (omega arith), c.requires.0.few)
 
 pub returns-then-kind-lt-SHARED_KEY : goal.returns-then-kind-lt-SHARED_KEY
-returns-then-kind-lt-SHARED_KEY c = 
+returns-then-kind-lt-SHARED_KEY c =
     rw (← c.kind_of-kind.ensures.0) (clear-one _ _ _ _ _ c.if-kind-lt-FIRST_MADE.false c.if-kind-lt-SHARED_KEY.true (rw (← c.left_of.ensures.0) c.if-clear-left_of.true))
 
 pub bounds-clear-right_of : goal.bounds-clear-right_of
-bounds-clear-right_of c = 
+bounds-clear-right_of c =
     omega (arith, right-lower c.args.t.now c.requires.0.table c.args.r (omega (arith, c.requires.0.count)) (omega arith), c.requires.0.few)
 
 pub returns-then-clear-left_of : goal.returns-then-clear-left_of
@@ -28,5 +27,5 @@ returns-then-clear-left_of c =
     rw (← c.kind_of-kind.ensures.0, c.right_of.ensures.0) (clear-two _ _ _ _ _ c.if-kind-lt-SHARED_KEY.false (rw (← c.left_of.ensures.0) c.if-clear-left_of.true))
 
 pub returns : goal.returns
-returns c = 
+returns c =
     rw (← c.kind_of-kind.ensures.0) (clear-not _ _ _ _ _ c.if-kind-lt-FIRST_MADE.false (rw (← c.left_of.ensures.0) c.if-clear-left_of.false))

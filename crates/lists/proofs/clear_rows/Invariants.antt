@@ -1,10 +1,8 @@
 -- `records::clear_rows` meets its contract. The loop's invariant: the rows below row r are marked. The measure is how many rows are left. Assumes nothing.
 use Prim.Native.Nat.{◌-◌, ◌≤◌}
-use native.Mathlib.Omega.{arith}
-use mathlib.Core.Path.{◌≡◌, refl, ◌∙◌}
-use lib.ListN.{length, length-set}
-use borrow.Author.Rules.{rules}
-use Rattle.lists.specs.laws.Clear.{Cleared, cleared_more, cleared-all}
+use mathlib.Core.Path.{◌≡◌}
+use lib.ListN.{length}
+use Rattle.lists.specs.laws.Clear.{Cleared}
 use Rattle.lists.proofs.clear_rows.Given as goal
 
 abbrev pub invariant-loop-r : goal.invariant-loop-r

@@ -1,5 +1,4 @@
 -- `is_allowed` answers as the definitions do, by the event's kind. Assumes nothing.
-use borrow.Author.Rules.{rules}
 use Rattle.moves.specs.laws.Allowed.{claim-told, send-told, own-unmarked, peer-unmarked, read_told}
 use Rattle.moves.proofs.is_allowed.Goals as goal
 

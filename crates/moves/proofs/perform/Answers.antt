@@ -1,6 +1,5 @@
 -- `perform` gives the marks after a move that is allowed, by the event's kind. Assumes nothing.
 use native.Mathlib.Omega.{arith}
-use borrow.Author.Rules.{rules}
 use Rattle.moves.specs.laws.After.{marks-kept, marks-sent}
 use Rattle.moves.proofs.perform.Goals as goal
 

@@ -1,5 +1,4 @@
 -- `added` marks one row more, if it was found. Assumes nothing.
-use borrow.Author.Rules.{rules}
 use Rattle.open_marks.specs.laws.Sure.{added-found, added_none}
 use Rattle.open_marks.proofs.added.Goals as goal
 

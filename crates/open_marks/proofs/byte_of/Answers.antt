@@ -1,7 +1,6 @@
 -- `byte_of` gives 1 for a mark. Assumes nothing.
 use mathlib.Core.Path.{sym, ◌∙◌}
 use mathlib.Core.Bool.{false≢true}
-use borrow.Author.Rules.{rules}
 use Rattle.open_marks.proofs.byte_of.Goals as goal
 
 pub returns : goal.returns

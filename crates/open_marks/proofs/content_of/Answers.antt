@@ -1,7 +1,5 @@
 -- `content_of` finds the row beneath the encryptions of a row. The loop's invariant: the row is not above that row. The measure is the row. Assumes nothing.
-use Prim.Native.Nat.{◌≤◌}
 use native.Mathlib.Omega.{arith}
-use borrow.Author.Rules.{rules}
 use Rattle.open_marks.specs.laws.Rows.{parts-lower}
 use Rattle.open_marks.proofs.content_of.Goals as goal
 
@@ -12,12 +10,10 @@ loop-y-init c =
 
 pub loop-y-smaller : goal.loop-y-smaller
 loop-y-smaller c =
-    
     let low = parts-lower c.args.t.now c.args.n c.requires.0 c.loop-y.y (omega (arith, c.requires.1.1, c.loop-y.invariant)) c.kind_of-in-loop-y.ensures.0 (omega (arith, c.loop-y-test.true)) in
     omega (arith, c.left_of-y-in-loop-y.ensures.0)
 
 pub loop-y-preserved : goal.loop-y-preserved
 loop-y-preserved c =
-    
     let low = parts-lower c.args.t.now c.args.n c.requires.0 c.loop-y.y (omega (arith, c.requires.1.1, c.loop-y.invariant)) c.kind_of-in-loop-y.ensures.0 (omega (arith, c.loop-y-test.true)) in
     omega (arith, c.left_of-y-in-loop-y.ensures.0, c.loop-y.invariant)

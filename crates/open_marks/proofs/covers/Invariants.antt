@@ -1,11 +1,6 @@
 -- `covers` tells whether the marks of a slot stand. The loop's invariant: those of the rows passed do. The measure is how many are left. Assumes nothing.
 use Prim.Native.Nat.{◌-◌, ◌≤◌}
-use native.Mathlib.Omega.{arith}
-use mathlib.Core.Logic.{⊎_elim}
-use mathlib.Core.Bool.{false≢true}
-use borrow.Author.Tests.{not-false}
-use borrow.Author.Rules.{rules}
-use Rattle.open_marks.specs.laws.Kept.{StandsTo, stands-more}
+use Rattle.open_marks.specs.laws.Kept.{StandsTo}
 use Rattle.open_marks.proofs.covers.Given as goal
 
 abbrev pub invariant-loop-x : goal.invariant-loop-x

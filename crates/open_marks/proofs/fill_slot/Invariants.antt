@@ -1,9 +1,6 @@
 -- `fill_slot` puts marks into a slot. The loop's invariant: those of the rows passed are there. The measure is how many are left. Assumes nothing.
 use Prim.Native.Nat.{◌-◌, ◌≤◌}
-use native.Mathlib.Omega.{arith}
-use borrow.Author.Rules.{rules}
 use Rattle.open_marks.specs.Sure.{SlotFilled}
-use Rattle.open_marks.specs.laws.Kept.{filled-start, filled_more, filled-less}
 use Rattle.open_marks.proofs.fill_slot.Given as goal
 
 abbrev pub invariant-loop-x : goal.invariant-loop-x

@@ -1,7 +1,6 @@
 -- `in_both` tells whether a row is marked in both. Assumes nothing.
 use mathlib.Core.Path.{sym, ◌∙◌}
 use mathlib.Core.Bool.{false≢true}
-use borrow.Author.Rules.{rules}
 use Rattle.open_marks.proofs.in_both.Goals as goal
 
 pub returns-then-one-x : goal.returns-then-one-x

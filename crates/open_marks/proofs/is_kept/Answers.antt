@@ -1,8 +1,6 @@
 -- `is_kept` looks for a slot of a row whose marks stand. The measure is how many slots are left. Assumes nothing.
-use Prim.Native.Nat.{◌-◌, ◌≤◌}
 use mathlib.Core.Path.{sym, ◌∙◌}
 use mathlib.Core.Bool.{false≢true}
-use borrow.Author.Rules.{rules}
 use Rattle.open_marks.proofs.is_kept.Goals as goal
 
 pub returns-then-covers : goal.returns-then-covers

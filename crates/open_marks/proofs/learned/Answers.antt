@@ -1,6 +1,5 @@
 -- `learned` gives exact marks with one more term known. Assumes nothing.
 use native.Mathlib.Omega.{arith}
-use borrow.Author.Rules.{rules}
 use Rattle.open_marks.specs.laws.Marks.{learns-role}
 use Rattle.open_marks.specs.laws.Sure.{gains-learnt}
 use Rattle.open_marks.proofs.learned.Goals as goal

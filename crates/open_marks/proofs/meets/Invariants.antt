@@ -1,6 +1,5 @@
 -- `meets` looks for a row that is marked in both. The measure is how many rows are left. Assumes nothing.
 use Prim.Native.Nat.{◌-◌, ◌≤◌}
-use borrow.Author.Rules.{rules}
 use Rattle.open_marks.proofs.meets.Given as goal
 
 abbrev pub invariant-loop-x : goal.invariant-loop-x

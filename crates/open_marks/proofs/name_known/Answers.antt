@@ -1,5 +1,4 @@
 -- `name_known` tells whether a role's name is derivable. Assumes nothing.
-use borrow.Author.Rules.{rules}
 use Rattle.open_marks.specs.laws.Marks.{name-known}
 use Rattle.open_marks.proofs.name_known.Goals as goal
 

@@ -1,12 +1,6 @@
 -- `row_marked` tells whether a row with a kind and a left byte is marked. The loop's invariant: no row passed is. Assumes nothing.
 use Prim.Native.Nat.{ℕ, ◌-◌, ◌<◌, ◌≤◌}
-use native.Mathlib.Omega.{arith}
-use mathlib.Core.Logic.{⊎_elim}
-use mathlib.Core.Bool.{false≢true}
-use mathlib.Core.Path.{sym, ◌∙◌}
-use borrow.Author.Rules.{rules}
-use Rattle.cells.specs.laws.Cells.{none_more}
-use Rattle.open_marks.specs.Marks.{MarkedAs, is_marked, none_marked}
+use Rattle.open_marks.specs.Marks.{MarkedAs}
 use Rattle.open_marks.proofs.row_marked.Given as goal
 
 abbrev pub invariant-loop-x : goal.invariant-loop-x

@@ -1,20 +1,18 @@
 -- What exact marks at role level answer: of a row, a role name and an inverse; and marks with one more term known. Assumes nothing.
-use Rattle.std.specs.Prelude.{ℕ, zero, suc, ◌<◌, ◌≡◌, refl, ◌↔◌, Bool, true, false, T, length, get_or, set}
-use Rattle.std.proofs.Common.{zero-add, arith, sym, ◌∙◌, ⊎_elim}
-use mathlib.Core.List.Memᴰ.{head as here}
-use mathlib.Core.List.Memᴰ.{tail as later}
-use mathlib.Core.List.{List, ◌∷◌, Memᴰ}
-use Rattle.std.proofs.Math.Option.{some, some-injective}
+use Rattle.std.specs.Prelude.{ℕ, ◌<◌, ◌≡◌, refl, ◌↔◌, Bool, true, false, T, get_or}
+use Rattle.std.proofs.Common.{zero-add, arith, ◌∙◌}
+use mathlib.Core.List.{List}
+use Rattle.std.proofs.Math.Option.{some}
 use Rattle.std.proofs.Math.ListN.{get_elem?}
 use Rattle.semantics.specs.Term.{role, Atom, Term, atom, inverse}
-use Rattle.semantics.specs.Inference.{Derives, member, derivable}
+use Rattle.semantics.specs.Inference.{Derives, derivable}
 use Rattle.semantics.specs.Table.{atomic}
 use Rattle.semantics.proofs.laws.Test.{same_test}
 use Rattle.semantics.proofs.laws.Inference.{derivable-exact}
 use Rattle.semantics.proofs.laws.Value.{as_atoms-value}
 use Rattle.rows.specs.Rows.{rows_of, Shape}
 use Rattle.rows.specs.laws.Table.{table-good}
-use Rattle.cells.specs.Cells.{Within, cell_value}
+use Rattle.cells.specs.Cells.{Within}
 use Rattle.knowledge.specs.Marks.{LearnsCell}
 use Rattle.knowledge.specs.Steps.{On, kind_at, left_at, InverseKinds}
 use Rattle.knowledge.specs.laws.Learn.{marked-derives as cell-derives}

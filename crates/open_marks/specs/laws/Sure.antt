@@ -1,5 +1,5 @@
 -- The laws of sure rows: readable wherever marks hold, by a row's kind; marks that gain a row; and what an answer says. Assumes nothing.
-use Rattle.std.specs.Prelude.{ℕ, zero, suc, ◌+◌, ◌<◌, ◌≤◌, ◌≡◌, refl, ◌⊎◌, Bool, true, false, cond, length, get_or, set, replicate}
+use Rattle.std.specs.Prelude.{ℕ, zero, suc, ◌+◌, ◌<◌, ◌≤◌, ◌≡◌, refl, Bool, true, false, cond, length, get_or, set, replicate}
 use Rattle.std.proofs.Common.{eq-or-lt_of_le, zero-add, arith, sym, ◌∙◌, inl, inr, ⊎_elim, true≢false, get_or-set_same, get_or-set_other}
 use Rattle.std.proofs.lemmas.Bool.{false≢true}
 use mathlib.Core.List.Memᴰ
@@ -8,7 +8,7 @@ use mathlib.Core.List.Memᴰ.{tail as later}
 use mathlib.Core.List.{List, [], ◌∷◌, map, Memᴰ}
 use Rattle.std.proofs.Math.Option.{some-injective}
 use Rattle.std.proofs.Math.Decide.{ℕ_discrete}
-use Rattle.semantics.specs.Term.{Term, pair, inverse}
+use Rattle.semantics.specs.Term.{Term}
 use Rattle.semantics.specs.Inference.{Derives, member}
 use Rattle.semantics.specs.Table.{Row}
 use Rattle.semantics.specs.Value.{value_of, as_atoms}

@@ -4,14 +4,13 @@ use native.Mathlib.Omega.{arith}
 use mathlib.Core.Path.{◌≡◌, refl, sym, ◌∙◌}
 use mathlib.Core.Bool.{Bool}
 use mathlib.Core.List.{List}
-use lib.ListN.{length, length-set}
 use borrow.Author.Rules.{rules}
 use Rattle.rows.specs.Rows.{rows_of, Shape}
 use Rattle.knowledge.specs.Steps.{kind_at, left_at, right_at}
-use Rattle.open_marks.specs.Sure.{Sure, SureRows, Gains, Shared, Added}
+use Rattle.open_marks.specs.Sure.{Sure, SureRows, Gains, Shared}
 use Rattle.open_marks.specs.laws.Rows.{parts-lower}
 use Rattle.open_marks.specs.laws.Readable.{unreadable, unreadable-first, readable-second, unreadable-closed, readable-content}
-use Rattle.open_marks.specs.laws.Sure.{sure-readable, sure-marked, sure-variable, sure-pair, sure-content, answer-yes, answer-no, answer-quick, rows-sure, rows-added, common-before, common-one, common-other}
+use Rattle.open_marks.specs.laws.Sure.{sure-readable, sure-marked, sure-variable, sure-pair, sure-content, answer-yes, answer-no, rows-sure, rows-added, common-before, common-one, common-other}
 use Rattle.open_marks.specs.laws.Kept.{notes-hinted, kept-sure, notes-kept}
 use Rattle.open_readable.proofs.+is_readable.Goals as goal
 
@@ -98,8 +97,7 @@ is_readable-requires t c =
 
 pub returns-then-not-is_readable : goal.returns-then-not-is_readable
 returns-then-not-is_readable t c =
-    let pairs = sym c.kind_of-kind.ensures.0 ∙ c.if-kind-eq-PAIR.true in
-    (
+    let pairs = sym c.kind_of-kind.ensures.0 ∙ c.if-kind-eq-PAIR.true in (
       answer-no c.args.t.now c.args.n c.requires.0 c.args.marks c.args.x c.args.quick (λ q. unreadable-first c.args.t.now c.args.n c.requires.0 c.args.marks c.args.x c.left_of-l.ensures.0 c.right_of-s.ensures.0 pairs c.learned-with_second.result c.learned-with_second.ensures.0 (c.is_readable.ensures.0.no q c.if-not-is_readable.true) refl),
       notes-hinted (rows_of c.args.t.now) _ c.args.x 1 (omega (arith, c.requires.1.1.1.1, c.requires.0.few)) c.is_readable.ensures.1,
     )
@@ -114,8 +112,7 @@ is_readable-requires-then-kind-eq-PAIR t c =
 
 pub returns-then-not-is_readable-2 : goal.returns-then-not-is_readable-2
 returns-then-not-is_readable-2 t c =
-    let pairs = sym c.kind_of-kind.ensures.0 ∙ c.if-kind-eq-PAIR.true in
-    (
+    let pairs = sym c.kind_of-kind.ensures.0 ∙ c.if-kind-eq-PAIR.true in (
       answer-no c.args.t.now c.args.n c.requires.0 c.args.marks c.args.x c.args.quick (λ q. readable-second c.args.t.now c.args.n c.requires.0 c.args.marks c.args.x c.left_of-l.ensures.0 c.right_of-s.ensures.0 pairs c.learned-with_second.result c.learned-with_second.ensures.0 (sure-readable c.args.t.now c.args.n c.requires.0 c.learned-with_second.result c.left_of-l.result (c.is_readable.ensures.0.yes c.if-not-is_readable.false)) refl c.learned-with_first.result c.learned-with_first.ensures.0 (c.is_readable-then-kind-eq-PAIR.ensures.0.no q c.if-not-is_readable-2.true)),
       notes-hinted (rows_of c.args.t.now) _ c.args.x 2 (omega (arith, c.requires.1.1.1.1, c.requires.0.few)) c.is_readable-then-kind-eq-PAIR.ensures.1,
     )
@@ -139,8 +136,7 @@ is_readable-requires-then-inverse_known t c =
 pub returns-then-inverse_known : goal.returns-then-inverse_known
 returns-then-inverse_known t c =
     let encrypts = sym c.kind_of-kind.ensures.0 ∙ c.if-kind-eq-ENCRYPTED.true in
-    let r = c.is_readable-then-inverse_known.ensures in
-    (
+    let r = c.is_readable-then-inverse_known.ensures in (
       record {
         yes = λ e. sure-content c.args.t.now c.args.n c.requires.0 c.args.marks c.args.x c.left_of.ensures.0 c.right_of.ensures.0 encrypts c.inverse_known.ensures.1 c.if-inverse_known.true (r.0.yes e);
         no = λ q e. readable-content c.args.t.now c.args.n c.requires.0 c.args.marks c.args.x c.left_of.ensures.0 c.right_of.ensures.0 encrypts c.if-marks-x.false c.inverse_known.ensures.0 c.if-inverse_known.true (r.0.no q e);
@@ -150,8 +146,7 @@ returns-then-inverse_known t c =
 
 pub returns-then-kind-eq-ENCRYPTED : goal.returns-then-kind-eq-ENCRYPTED
 returns-then-kind-eq-ENCRYPTED t c =
-    let encrypts = sym c.kind_of-kind.ensures.0 ∙ c.if-kind-eq-ENCRYPTED.true in
-    (
+    let encrypts = sym c.kind_of-kind.ensures.0 ∙ c.if-kind-eq-ENCRYPTED.true in (
       answer-no c.args.t.now c.args.n c.requires.0 c.args.marks c.args.x c.args.quick (λ q. unreadable-closed c.args.t.now c.args.n c.requires.0 c.args.marks c.args.x refl c.right_of.ensures.0 encrypts c.if-marks-x.false c.inverse_known.ensures.0 c.if-inverse_known.false),
       notes-hinted (rows_of c.args.t.now) _ c.args.x 3 (omega (arith, c.requires.1.1.1.1, c.requires.0.few)) c.requires.1.1.1.0,
     )

@@ -1,13 +1,11 @@
 -- `ill_formed` finds the first event of a role block that is not well formed. The loop's invariant: it is that of the records from the place on, the next of which has number i.
 -- The measure is what is left of the bytes. Assumes nothing.
-use Prim.Native.Nat.{◌+◌, ◌-◌, ◌≤◌}
 use native.Mathlib.Omega.{arith}
-use lib.ListN.{length, drop}
-use borrow.Author.Rules.{rules}
+use lib.ListN.{drop}
 use Rattle.rows.specs.Rows.{rows_of}
 use Rattle.records.specs.laws.Records.{rest-whole}
 use Rattle.open_wellformed.specs.WellFormed.{IllRole}
-use Rattle.open_wellformed.specs.laws.IllFormed.{BlockLeft, block_start, block_none, block-good, event-near, block-ill, block_more}
+use Rattle.open_wellformed.specs.laws.IllFormed.{block_start, block_none, block-good, event-near, block-ill, block_more}
 use Rattle.open_wellformed.proofs.ill_formed.Goals as goal
 
 pub loop-at-init : goal.loop-at-init
@@ -29,8 +27,7 @@ returns-in-At c =
 
 pub loop-at-preserved : goal.loop-at-preserved
 loop-at-preserved c =
-    let found : IllRole (rows_of c.args.t.now) c.loop-at.i (drop c.loop-at.at c.args.b.now) c.ill_formed_role-place.result = rw rest-whole at c.ill_formed_role-place.ensures in
-    (
+    let found : IllRole (rows_of c.args.t.now) c.loop-at.i (drop c.loop-at.at c.args.b.now) c.ill_formed_role-place.result = rw rest-whole at c.ill_formed_role-place.ensures in (
       omega arith,
       (
         omega arith,

@@ -1,13 +1,9 @@
 -- `ill_formed` finds the first event of a role block that is not well formed. The loop's invariant: it is that of the records from the place on, the next of which has number i.
 -- The measure is what is left of the bytes. Assumes nothing.
 use Prim.Native.Nat.{◌+◌, ◌-◌, ◌≤◌}
-use native.Mathlib.Omega.{arith}
-use lib.ListN.{length, drop}
-use borrow.Author.Rules.{rules}
+use lib.ListN.{length}
 use Rattle.rows.specs.Rows.{rows_of}
-use Rattle.records.specs.laws.Records.{rest-whole}
-use Rattle.open_wellformed.specs.WellFormed.{IllRole}
-use Rattle.open_wellformed.specs.laws.IllFormed.{BlockLeft, block_start, block_none, block-good, event-near, block-ill, block_more}
+use Rattle.open_wellformed.specs.laws.IllFormed.{BlockLeft}
 use Rattle.open_wellformed.proofs.ill_formed.Given as goal
 
 abbrev pub invariant-loop-at : goal.invariant-loop-at

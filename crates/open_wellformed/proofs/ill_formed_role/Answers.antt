@@ -1,30 +1,27 @@
 -- `ill_formed_role` finds the first event of a role that is not well formed. The loop's invariant: it is that of the events from event j on, with what is known before it.
 -- The measure is how many are left. Assumes nothing.
-use Prim.Native.Nat.{ℕ, ◌+◌, ◌-◌, ◌*◌, ◌≤◌}
+use Prim.Native.Nat.{ℕ, ◌+◌, ◌*◌, ◌≤◌}
 use native.Mathlib.Omega.{arith}
 use mathlib.Core.Path.{◌≡◌, ap}
 use lib.ListN.{length}
-use borrow.Author.Tests.{not-true, not-false}
-use borrow.Author.Rules.{rules}
 use Rattle.semantics.specs.Roles.{knowledge_count, event_count}
 use Rattle.rows.specs.Rows.{rows_of}
 use Rattle.open_wellformed.specs.WellFormed.{IsEvent}
-use Rattle.open_wellformed.specs.laws.IllFormed.{RoleLeft, listed-rows, count_of, events-are, role_start, role-none, role-ill, role-more}
+use Rattle.open_wellformed.specs.laws.IllFormed.{listed-rows, count_of, events-are, role_start, role-none, role-ill, role-more}
 use Rattle.open_wellformed.proofs.ill_formed_role.Goals as goal
 
 pub marks_of-marks-requires : goal.marks_of-marks-requires
-marks_of-marks-requires c = 
+marks_of-marks-requires c =
     (c.requires.0, (c.requires.1.0, rw (listed-rows c.args.s.now c.wide-count.result c.wide-count.ensures.0) (λ r m. omega (arith, c.requires.1.1.knows r m, c.requires.0.count))))
 
 pub loop-j-init : goal.loop-j-init
 loop-j-init c =
     let first : ℕ = 2 + c.wide-count.result in
     let first-is : first ≡ 2 + knowledge_count c.args.s.now = ap (λ (k : ℕ). 2 + k) c.wide-count.ensures.0 in
-    let counted : c.wide-events.result ≡ event_count c.args.s.now = count_of c.args.s.now c.wide-count.result c.wide-events.result c.wide-count.ensures.0 c.wide-events.ensures.0 in
-    (
-  omega arith,
-  role_start (rows_of c.args.t.now) c.args.own c.args.s.now (first) c.wide-events.result (first-is) (counted) (rw (listed-rows c.args.s.now c.wide-count.result c.wide-count.ensures.0) at c.marks_of-marks.ensures),
-)
+    let counted : c.wide-events.result ≡ event_count c.args.s.now = count_of c.args.s.now c.wide-count.result c.wide-events.result c.wide-count.ensures.0 c.wide-events.ensures.0 in (
+      omega arith,
+      role_start (rows_of c.args.t.now) c.args.own c.args.s.now (first) c.wide-events.result (first-is) (counted) (rw (listed-rows c.args.s.now c.wide-count.result c.wide-count.ensures.0) at c.marks_of-marks.ensures),
+    )
 
 pub bounds-s-at : goal.bounds-s-at
 bounds-s-at c =
@@ -83,8 +80,7 @@ loop-j-preserved c =
     let first-is : first ≡ 2 + knowledge_count c.args.s.now = ap (λ (k : ℕ). 2 + k) c.wide-count.ensures.0 in
     let counted : c.wide-events.result ≡ event_count c.args.s.now = count_of c.args.s.now c.wide-count.result c.wide-events.result c.wide-count.ensures.0 c.wide-events.ensures.0 in
     let whole : first + 4 * c.wide-events.result ≤ length c.args.s.now = omega (arith, first-is, counted, c.requires.1.1.whole) in
-    let is-event : IsEvent (rows_of c.args.t.now) c.args.s.now (first + 4 * c.loop-j.j) = events-are c.args.s.now (first) c.wide-events.result c.requires.1.1 (first-is) (counted) c.loop-j.j c.loop-j-test.true in
-    (
+    let is-event : IsEvent (rows_of c.args.t.now) c.args.s.now (first + 4 * c.loop-j.j) = events-are c.args.s.now (first) c.wide-events.result c.requires.1.1 (first-is) (counted) c.loop-j.j c.loop-j-test.true in (
       omega (arith, c.loop-j-test.true),
       role-more c.args.t.now c.args.n c.requires.0 c.args.own c.args.s.now (first) c.wide-events.result (whole) c.loop-j.j c.loop-j.marks c.loop-j.invariant.1
           c.loop-j-test.true c.wide-event.ensures.0 c.wide-peer.ensures.0 c.wide-x.ensures.0 (is-event)

@@ -1,15 +1,8 @@
 -- `ill_formed_role` finds the first event of a role that is not well formed. The loop's invariant: it is that of the events from event j on, with what is known before it.
 -- The measure is how many are left. Assumes nothing.
-use Prim.Native.Nat.{ℕ, ◌+◌, ◌-◌, ◌*◌, ◌≤◌}
-use native.Mathlib.Omega.{arith}
-use mathlib.Core.Path.{◌≡◌, ap}
-use lib.ListN.{length}
-use borrow.Author.Tests.{not-true, not-false}
-use borrow.Author.Rules.{rules}
-use Rattle.semantics.specs.Roles.{knowledge_count, event_count}
+use Prim.Native.Nat.{◌-◌, ◌≤◌}
 use Rattle.rows.specs.Rows.{rows_of}
-use Rattle.open_wellformed.specs.WellFormed.{IsEvent}
-use Rattle.open_wellformed.specs.laws.IllFormed.{RoleLeft, listed-rows, count_of, events-are, role_start, role-none, role-ill, role-more}
+use Rattle.open_wellformed.specs.laws.IllFormed.{RoleLeft}
 use Rattle.open_wellformed.proofs.ill_formed_role.Given as goal
 
 abbrev pub invariant-loop-j : goal.invariant-loop-j

@@ -1,8 +1,6 @@
 -- `is_well_formed` tells whether an event is well formed. Assumes nothing.
 use mathlib.Core.Path.{refl}
 use mathlib.Core.Logic.{inl, ⊎_elim}
-use borrow.Author.Tests.{not-true, not-false}
-use borrow.Author.Rules.{rules}
 use Rattle.rows.specs.Rows.{rows_of}
 use Rattle.open_wellformed.specs.laws.WellFormed.{own-unknown, peer-unknown, peer-found, was_read, was-other}
 use Rattle.open_marks.specs.laws.Sure.{sure-none, answer-reads}

@@ -1,6 +1,5 @@
 -- `claim_bits` is the run, event and kind of a claim below the word. Assumes nothing.
 use native.Mathlib.Omega.{arith}
-use borrow.Author.Rules.{rules}
 use Rattle.packing.specs.Packing.{kind-two}
 use Rattle.packing.proofs.claim_bits.Goals as goal
 

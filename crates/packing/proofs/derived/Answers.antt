@@ -1,5 +1,4 @@
 -- `derived` is the number of Derive's answer. Assumes nothing.
-use borrow.Author.Rules.{rules}
 use mathlib.Core.Path.{sym, ap, ◌∙◌}
 use Rattle.packing.specs.Packing.{packed_deriving}
 use Rattle.packing.proofs.derived.Goals as goal

@@ -1,5 +1,4 @@
 -- `opened` is the number of Open's answer. Assumes nothing.
-use borrow.Author.Rules.{rules}
 use mathlib.Core.Path.{sym, ap, ◌∙◌}
 use Rattle.packing.specs.Packing.{packed_opening}
 use Rattle.packing.proofs.opened.Goals as goal

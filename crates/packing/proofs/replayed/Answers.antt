@@ -1,5 +1,4 @@
 -- `replayed` is the number of Replay's answer. Assumes nothing.
-use borrow.Author.Rules.{rules}
 use mathlib.Core.Path.{sym, ap, ◌∙◌}
 use Rattle.packing.specs.Packing.{packed_replaying}
 use Rattle.packing.proofs.replayed.Goals as goal

@@ -1,5 +1,4 @@
 -- `verdict` is the number of Search's answer. Assumes nothing.
-use borrow.Author.Rules.{rules}
 use mathlib.Core.Path.{sym, ap, ◌∙◌}
 use Rattle.packing.specs.Packing.{packed_searching}
 use Rattle.packing.proofs.verdict.Goals as goal

@@ -1,12 +1,8 @@
 -- `read_completions::completable` meets its contract. The loop's invariant: no class of variable i below c leads to a completion. The measure of the calls is the depth, that of the loop how many classes are left. Assumes nothing.
-use Rattle.read_completions.specs.laws.Search.{Tried, completable-empty, completable-kept, tried-absent, tried-more, tried-all}
-use Rattle.cells.specs.Cells.{cell_count}
+use Rattle.read_completions.specs.laws.Search.{completable-empty, completable-kept, tried-absent, tried-more, tried-all}
 use mathlib.Core.Logic.{⊎_elim}
 use mathlib.Core.Path.{refl}
-use Prim.Native.Nat.{◌-◌, ◌≤◌}
 use native.Mathlib.Omega.{arith}
-use borrow.Author.Rules.{rules}
-use Prim.Native.Nat.{ℕ, ◌<◌}
 use Rattle.read_completions.proofs.+completable.Goals as goal
 
 pub is_empty-requires : goal.is_empty-requires
@@ -62,7 +58,6 @@ loop-c-smaller t c = omega (arith, c.loop-c-test.true)
 
 pub loop-c-preserved : goal.loop-c-preserved
 loop-c-preserved t c =
-    
     (omega (arith, c.loop-c-test.true), ⊎_elim (λ w. tried-more c.requires.scene c.settled-less.result (omega (arith, c.if-vars-i.false)) c.loop-c-test.true w.narrow_to-only.result w.narrow_to-only.ensures w.completable.ensures w.if-completable.false c.loop-c.invariant.1) (λ w. tried-absent c.requires.scene c.settled-less.result (omega (arith, c.if-vars-i.false)) w.if-less-i.false c.loop-c.invariant.1) c.if-less-i.branch-raw)
 
 pub returns : goal.returns

@@ -1,12 +1,7 @@
 -- `read_completions::completable` meets its contract. The loop's invariant: no class of variable i below c leads to a completion. The measure of the calls is the depth, that of the loop how many classes are left. Assumes nothing.
-use Rattle.read_completions.specs.laws.Search.{Tried, completable-empty, completable-kept, tried-absent, tried-more, tried-all}
+use Rattle.read_completions.specs.laws.Search.{Tried}
 use Rattle.cells.specs.Cells.{cell_count}
-use mathlib.Core.Logic.{⊎_elim}
-use mathlib.Core.Path.{refl}
 use Prim.Native.Nat.{◌-◌, ◌≤◌}
-use native.Mathlib.Omega.{arith}
-use borrow.Author.Rules.{rules}
-use Prim.Native.Nat.{ℕ, ◌<◌}
 use Rattle.read_completions.proofs.+completable.Given as goal
 
 abbrev pub decreases-completable : goal.decreases-completable

@@ -2,7 +2,6 @@
 use Rattle.read_completions.specs.laws.Rows.{admitted-unmet, admitted-need, admitted-all}
 use borrow.Author.Tests.{not-true}
 use native.Mathlib.Omega.{arith}
-use borrow.Author.Rules.{rules}
 use Rattle.read_completions.proofs.admit.Goals as goal
 
 pub returns-then-not-needs : goal.returns-then-not-needs

@@ -1,7 +1,5 @@
 -- `read_completions::completes` meets its contract: the domains of all values that the variables may take miss no completion. Assumes nothing.
 use Rattle.read_completions.specs.laws.Search.{scene-of, marked-domains-start, completes-tested}
-use native.Mathlib.Omega.{arith}
-use borrow.Author.Rules.{rules}
 use Rattle.read_completions.proofs.completes.Goals as goal
 
 pub completable-requires : goal.completable-requires
@@ -11,5 +9,4 @@ completable-requires c =
 
 pub returns : goal.returns
 returns c =
-    
     completes-tested c.of_variables-dom.result (scene-of c.requires c.unset_rows-vars.ensures.low) c.beneath-below.ensures c.unset_rows-vars.ensures c.of_variables-dom.ensures c.completable.ensures

@@ -1,8 +1,6 @@
 -- `read_completions::is_empty` meets its contract: a domain of size 0 has no class. The measure is how many variables are left. Assumes nothing.
 use mathlib.Core.Path.{refl}
-use Prim.Native.Nat.{◌-◌, ◌≤◌}
 use native.Mathlib.Omega.{arith}
-use borrow.Author.Rules.{rules}
 use Rattle.read_completions.proofs.is_empty.Goals as goal
 
 pub returns-then-size-eq0 : goal.returns-then-size-eq0

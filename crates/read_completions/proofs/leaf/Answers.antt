@@ -4,7 +4,6 @@ use lib.ListN.{get_or}
 use mathlib.Core.Path.{sym, ap, ◌∙◌}
 use Prim.Native.Nat.{ℕ}
 use native.Mathlib.Omega.{arith}
-use borrow.Author.Rules.{rules}
 use Rattle.read_completions.proofs.leaf.Goals as goal
 
 pub returns-then-slot-vars : goal.returns-then-slot-vars

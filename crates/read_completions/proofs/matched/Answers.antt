@@ -2,12 +2,10 @@
 -- The measure is how many cells are left. Assumes nothing.
 use lib.ListN.{replicate}
 use mathlib.Core.Bool.{false}
-use Rattle.read_completions.specs.laws.Rows.{MatchedIn, matched-none, matched-more, matched-unmarked, matched-all}
+use Rattle.read_completions.specs.laws.Rows.{matched-none, matched-more, matched-unmarked, matched-all}
 use Rattle.cells.specs.Cells.{cell_count}
 use mathlib.Core.Logic.{⊎_elim}
-use Prim.Native.Nat.{◌-◌, ◌≤◌}
 use native.Mathlib.Omega.{arith}
-use borrow.Author.Rules.{rules}
 use Rattle.read_completions.proofs.matched.Goals as goal
 
 pub loop-c-init : goal.loop-c-init

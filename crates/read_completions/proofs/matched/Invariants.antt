@@ -1,13 +1,8 @@
 -- `read_completions::matched` meets its contract. The loop's invariant: the classes that the variable gets by the marked cells below c are in the set.
 -- The measure is how many cells are left. Assumes nothing.
-use lib.ListN.{replicate}
-use mathlib.Core.Bool.{false}
-use Rattle.read_completions.specs.laws.Rows.{MatchedIn, matched-none, matched-more, matched-unmarked, matched-all}
+use Rattle.read_completions.specs.laws.Rows.{MatchedIn}
 use Rattle.cells.specs.Cells.{cell_count}
-use mathlib.Core.Logic.{⊎_elim}
 use Prim.Native.Nat.{◌-◌, ◌≤◌}
-use native.Mathlib.Omega.{arith}
-use borrow.Author.Rules.{rules}
 use Rattle.read_completions.proofs.matched.Given as goal
 
 abbrev pub invariant-loop-c : goal.invariant-loop-c

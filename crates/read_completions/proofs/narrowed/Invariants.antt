@@ -1,10 +1,6 @@
 -- `read_completions::narrowed` meets its contract. The loop's invariant: the domains so far miss no completion. The measure is how many variables are left. Assumes nothing.
-use Rattle.read_completions.specs.laws.Search.{kept_more}
 use Rattle.read_completions.specs.Completions.{CompletionsKept}
-use mathlib.Core.Logic.{⊎_elim}
 use Prim.Native.Nat.{◌-◌, ◌≤◌}
-use native.Mathlib.Omega.{arith}
-use borrow.Author.Rules.{rules}
 use Rattle.read_completions.proofs.narrowed.Given as goal
 
 abbrev pub invariant-loop-i : goal.invariant-loop-i

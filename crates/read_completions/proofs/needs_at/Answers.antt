@@ -1,7 +1,6 @@
 -- `read_completions::needs_at` meets its contract: a cell that is none of the table's, does not stand for its own value, is of another kind or does not fit the domains allows nothing. Assumes nothing.
 use Rattle.read_completions.specs.laws.Rows.{needs-row, needs-class, needs-kind, needs-met, needs-unfit}
 use native.Mathlib.Omega.{arith}
-use borrow.Author.Rules.{rules}
 use Rattle.read_completions.proofs.needs_at.Goals as goal
 
 pub returns-then-pattern-y : goal.returns-then-pattern-y

@@ -3,7 +3,6 @@ use Rattle.read_completions.specs.laws.Rows.{misses-none-set, misses-none-pair, 
 use Rattle.read_possible.specs.laws.Tests.{parts-small}
 use mathlib.Core.Path.{sym, ◌∙◌}
 use native.Mathlib.Omega.{arith}
-use borrow.Author.Rules.{rules}
 use Rattle.read_completions.proofs.set_at.Goals as goal
 
 pub returns-then-class_at-lt-ABSENT : goal.returns-then-class_at-lt-ABSENT

@@ -2,11 +2,8 @@
 -- The measure is how many rows are left. Assumes nothing.
 use mathlib.Core.Path.{sym}
 use Rattle.read_completions.specs.laws.Rows.{rows_start, rows_more, rows-one}
-use Rattle.read_completions.specs.Completions.{RowsMissNone}
 use mathlib.Core.Logic.{⊎_elim}
-use Prim.Native.Nat.{◌+◌, ◌-◌, ◌≤◌}
 use native.Mathlib.Omega.{arith}
-use borrow.Author.Rules.{rules}
 use Rattle.read_completions.proofs.set_of.Goals as goal
 
 pub loop-r-init : goal.loop-r-init

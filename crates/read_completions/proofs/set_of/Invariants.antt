@@ -1,12 +1,7 @@
 -- `read_completions::set_of` meets its contract. The loop's invariant: the set of each row below r misses no class, and the others have every class.
 -- The measure is how many rows are left. Assumes nothing.
-use mathlib.Core.Path.{sym}
-use Rattle.read_completions.specs.laws.Rows.{rows_start, rows_more, rows-one}
 use Rattle.read_completions.specs.Completions.{RowsMissNone}
-use mathlib.Core.Logic.{⊎_elim}
 use Prim.Native.Nat.{◌+◌, ◌-◌, ◌≤◌}
-use native.Mathlib.Omega.{arith}
-use borrow.Author.Rules.{rules}
 use Rattle.read_completions.proofs.set_of.Given as goal
 
 abbrev pub invariant-loop-r : goal.invariant-loop-r

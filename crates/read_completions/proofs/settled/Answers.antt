@@ -1,10 +1,6 @@
 -- `read_completions::settled` meets its contract. The loop's invariant: the domains so far miss no completion. The measure is how many rounds are left. Assumes nothing.
 use Rattle.read_completions.specs.laws.Search.{kept-both}
-use Rattle.read_completions.specs.Completions.{CompletionsKept}
-use Rattle.cells.specs.Cells.{cell_count}
-use Prim.Native.Nat.{◌-◌, ◌≤◌}
 use native.Mathlib.Omega.{arith}
-use borrow.Author.Rules.{rules}
 use Rattle.read_completions.proofs.settled.Goals as goal
 
 pub loop-round-init : goal.loop-round-init

@@ -1,7 +1,4 @@
 -- `read_completions::smallest` is safe and ends. The measure is how many variables are left. Assumes nothing.
-use Prim.Native.Nat.{◌-◌, ◌≤◌}
-use native.Mathlib.Omega.{arith}
-use borrow.Author.Rules.{rules}
 use Rattle.read_completions.proofs.smallest.Goals as goal
 
 pub bounds-under-rows : goal.bounds-under-rows

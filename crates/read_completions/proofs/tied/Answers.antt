@@ -1,6 +1,5 @@
 -- `read_completions::tied` is safe and ends. The measure is how many rows are left. Assumes nothing.
 use Rattle.cells.specs.laws.Shape.{shape-sized}
-use Prim.Native.Nat.{◌-◌, ◌≤◌}
 use native.Mathlib.Omega.{arith}
 use borrow.Author.Rules.{rules}
 use Rattle.read_completions.proofs.tied.Goals as goal

@@ -1,8 +1,5 @@
 -- `read_completions::total` is safe and ends. The measure is how many variables are left. Assumes nothing.
-use Rattle.cells.specs.Cells.{cell_count}
-use Prim.Native.Nat.{◌*◌, ◌-◌, ◌≤◌}
 use native.Mathlib.Omega.{arith}
-use borrow.Author.Rules.{rules}
 use Rattle.read_completions.proofs.total.Goals as goal
 
 pub loop-i-init : goal.loop-i-init

@@ -1,28 +1,25 @@
 -- The classes that variables get where a row is derivable: by its value, by marked cells, and by its parts. Assumes nothing.
-use Rattle.std.specs.Prelude.{ℕ, ◌+◌, ◌*◌, ◌/◌, ◌%◌, ◌<◌, ◌≤◌, ◌≡◌, refl, Bool, true, false, List, length, get_or, set, replicate}
+use Rattle.std.specs.Prelude.{ℕ, ◌+◌, ◌*◌, ◌%◌, ◌<◌, ◌≤◌, ◌≡◌, refl, Bool, true, false, List, length, get_or, set, replicate}
 use Rattle.std.proofs.Math.Decide.{ℕ_discrete}
 use Rattle.std.proofs.Common.{arith, sym, ◌∙◌, subst}
 use Rattle.std.proofs.lemmas.Bool.{false≢true}
 use Rattle.std.proofs.Math.Option.{some-injective}
 use Rattle.std.proofs.lemmas.List.{length-replicate, get_or-replicate}
-use Rattle.semantics.specs.Term.{Term}
-use Rattle.semantics.specs.Inference.{Derives}
-use Rattle.rows.specs.Rows.{rows_of, Shape}
 use Rattle.cells.specs.Cells.{cell_of, cell_count, absent, second_of}
 use Rattle.cells.specs.laws.Cells.{class-read, left-lower, second-lower}
-use Rattle.classes.specs.laws.Kinds.{kind_of, first_part, second_part, value_made}
+use Rattle.classes.specs.laws.Kinds.{first_part, second_part, value_made}
 use Rattle.classes.specs.laws.Values.{cell-kept}
 use Rattle.knowledge.specs.Marks.{Marked}
-use Rattle.knowledge.specs.Steps.{class_at, kind_at, left_at, Inside}
-use Rattle.knowledge.specs.laws.Values.{Has, has_value, has-class, inside}
-use Rattle.read_fits.specs.Fits.{Extension, Gets, Needed, NeedsMet}
+use Rattle.knowledge.specs.Steps.{class_at, kind_at, left_at}
+use Rattle.knowledge.specs.laws.Values.{has_value, has-class, inside}
+use Rattle.read_fits.specs.Fits.{Gets, Needed, NeedsMet}
 use Rattle.read_fits.specs.laws.Fits.{gets-one}
 use Rattle.read_possible.specs.laws.Known.{Way, by_mark, by_parts, way}
 use Rattle.read_possible.specs.laws.Tests.{kind-most, pair-parts}
 use Rattle.variables.specs.declared.VariableRows.{VariableRows}
 use Rattle.variables.specs.Variables.{In}
 use Rattle.read_domains.specs.laws.Sets.{stays, in-set}
-use Rattle.read_domains.specs.Domains.{set_cells, InRow, Listed, Fit, Slot, is_at, is_none, Joins, RowPut}
+use Rattle.read_domains.specs.Domains.{set_cells, InRow, Fit, Slot, is_at, is_none, Joins, RowPut}
 use Rattle.read_completions.specs.declared.Pattern.{Pattern}
 use Rattle.read_completions.specs.Completions.{Scene, TakesCell, Completion, GetsClass, InDomains, GetsDerivable, FromMark, MarkedDomains, NeedsAt, Matched, MissesNone, RowsMissNone, NeededAdded}
 

@@ -1,25 +1,20 @@
 -- Domains that are narrowed and tried: none misses a completion with which the row is derivable. Assumes nothing.
-use Rattle.std.specs.Prelude.{ℕ, ◌+◌, ◌*◌, ◌<◌, ◌≤◌, ◌≡◌, refl, Bool, true, false, List, T, length, get_or}
+use Rattle.std.specs.Prelude.{ℕ, ◌+◌, ◌*◌, ◌<◌, ◌≤◌, ◌≡◌, Bool, true, false, List, T, get_or}
 use Rattle.std.proofs.Math.Decide.{ℕ_discrete}
 use Rattle.std.proofs.Common.{arith, sym, ◌∙◌, subst, true≢false}
 use Rattle.std.proofs.lemmas.Bool.{false≢true}
-use Rattle.semantics.specs.Term.{Term}
-use Rattle.semantics.specs.Inference.{Derives}
-use Rattle.semantics.specs.Value.{beneath}
-use Rattle.rows.specs.Rows.{rows_of, Shape}
-use Rattle.cells.specs.Cells.{cell_of, cell_count, absent}
-use Rattle.knowledge.specs.Marks.{Exact, Celled}
-use Rattle.knowledge.specs.Steps.{class_at, kind_at, Inside}
-use Rattle.knowledge.specs.laws.Values.{Has, has-class}
+use Rattle.rows.specs.Rows.{rows_of}
+use Rattle.cells.specs.Cells.{cell_count}
+use Rattle.knowledge.specs.laws.Values.{has-class}
 use Rattle.variables.specs.declared.VariableRows.{VariableRows}
 use Rattle.variables.specs.Variables.{In, Beneath, AreVariables, Unset}
 use Rattle.cells.specs.declared.Scope.{Scope}
-use Rattle.read_fits.specs.Fits.{Extension, Gets}
+use Rattle.read_fits.specs.Fits.{Gets}
 use Rattle.read_fits.specs.laws.Fits.{gets-one}
 use Rattle.read_domains.specs.Domains.{InRow, Listed, Narrows, NarrowsTo}
 use Rattle.read_possible.specs.Tests.{RowInRun}
 use Rattle.read_completions.specs.declared.Pattern.{Pattern}
-use Rattle.read_completions.specs.Completions.{NoneEmpty, Scene, TakesCell, Completion, GetsClass, InDomains, GetsDerivable, MarkedDomains, MissesNone, CompletionsKept, Completable, AllTake, Completes}
+use Rattle.read_completions.specs.Completions.{NoneEmpty, Scene, TakesCell, Completion, GetsClass, InDomains, GetsDerivable, MarkedDomains, MissesNone, CompletionsKept, Completable, Completes}
 use Rattle.read_completions.specs.laws.Rows.{gets-low, takes-gets, takes-class, takes-marked}
 
 -- the domains of the pattern's variables miss no value, or none that is marked

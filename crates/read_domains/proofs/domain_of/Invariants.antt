@@ -2,14 +2,10 @@
 -- The measure is how many classes are left. Assumes nothing.
 use Prim.Native.Nat.{ℕ, ◌-◌, ◌≤◌, ◌<◌}
 use mathlib.Core.Path.{◌≡◌}
-use mathlib.Core.Bool.{Bool, false}
-use lib.ListN.{length, length-replicate, length-set}
+use lib.ListN.{length}
 use Rattle.variables.specs.Variables.{In}
 use Rattle.read_domains.specs.Domains.{InRow}
-use Rattle.read_domains.specs.laws.Sets.{one_more}
 use Rattle.cells.specs.Cells.{cell_count}
-use native.Mathlib.Omega.{arith}
-use borrow.Author.Rules.{rules}
 use Rattle.read_domains.proofs.domain_of.Given as goal
 
 abbrev pub invariant-loop-c : goal.invariant-loop-c

@@ -1,9 +1,7 @@
 -- `read_domains::fit` meets its contract. The loop's invariant: j is at most the number of variables.
 -- The measure is how many variables are left. Assumes nothing.
-use Prim.Native.Nat.{◌-◌, ◌≤◌}
 use mathlib.Core.Path.{sym, ◌∙◌}
 use native.Mathlib.Omega.{arith}
-use borrow.Author.Rules.{rules}
 use Rattle.read_domains.proofs.fit.Goals as goal
 
 pub offset_bounds-need-q : goal.offset_bounds-need-q

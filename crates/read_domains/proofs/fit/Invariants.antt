@@ -1,10 +1,6 @@
 -- `read_domains::fit` meets its contract. The loop's invariant: j is at most the number of variables.
 -- The measure is how many variables are left. Assumes nothing.
 use Prim.Native.Nat.{◌-◌, ◌≤◌}
-use mathlib.Core.Path.{sym, ◌∙◌}
-use borrow.Author.Tests.{not-true}
-use native.Mathlib.Omega.{arith}
-use borrow.Author.Rules.{rules}
 use Rattle.read_domains.proofs.fit.Given as goal
 
 abbrev pub invariant-loop-j : goal.invariant-loop-j

@@ -1,14 +1,8 @@
 -- `read_domains::meet` meets its contract. The loop's invariant: no class below c is in both domains.
 -- The measure is how many classes are left. Assumes nothing.
 use Prim.Native.Nat.{ℕ, ◌-◌, ◌≤◌, ◌<◌}
-use mathlib.Core.Path.{sym, ◌∙◌}
-use mathlib.Core.Logic.{⊎_elim}
-use mathlib.Core.Bool.{false≢true}
-use Rattle.cells.specs.laws.Cells.{none_more}
 use Rattle.read_domains.specs.Domains.{InRow}
 use Rattle.cells.specs.Cells.{cell_count}
-use native.Mathlib.Omega.{arith}
-use borrow.Author.Rules.{rules}
 use Rattle.read_domains.proofs.meet.Given as goal
 
 abbrev pub invariant-loop-c : goal.invariant-loop-c

@@ -1,13 +1,8 @@
 -- `read_domains::narrow` meets its contract. The loop's invariant: what is in a domain, and in the set if it is variable i's, is still in it.
 -- The measure is how many classes are left. Assumes nothing.
 use Prim.Native.Nat.{◌-◌, ◌≤◌}
-use mathlib.Core.Logic.{⊎_elim}
-use borrow.Author.Tests.{not-true}
 use Rattle.read_domains.specs.Domains.{Narrows}
-use Rattle.read_domains.specs.laws.Sets.{narrows-set}
 use Rattle.cells.specs.Cells.{cell_count}
-use native.Mathlib.Omega.{arith}
-use borrow.Author.Rules.{rules}
 use Rattle.read_domains.proofs.narrow.Given as goal
 
 abbrev pub invariant-loop-c : goal.invariant-loop-c

@@ -1,6 +1,5 @@
 -- `read_domains::narrow_to` narrows to the set of one class. Assumes nothing.
 use native.Mathlib.Omega.{arith}
-use borrow.Author.Rules.{rules}
 use mathlib.Core.Bool.{Bool, false}
 use lib.ListN.{replicate, length-replicate}
 use Rattle.cells.specs.Cells.{cell_count}

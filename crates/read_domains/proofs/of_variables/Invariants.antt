@@ -1,9 +1,7 @@
 -- `read_domains::of_variables` meets its contract. The loop's invariant: the domains of the variables below i hold their values, and those of the others hold every class.
 -- The measure is how many variables are left. Assumes nothing.
 use Prim.Native.Nat.{◌-◌, ◌≤◌}
-use Rattle.read_domains.specs.laws.Values.{DomainsTo, domains-start, domains-more}
-use native.Mathlib.Omega.{arith}
-use borrow.Author.Rules.{rules}
+use Rattle.read_domains.specs.laws.Values.{DomainsTo}
 use Rattle.read_domains.proofs.of_variables.Given as goal
 
 abbrev pub invariant-loop-i : goal.invariant-loop-i

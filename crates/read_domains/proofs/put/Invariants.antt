@@ -1,10 +1,8 @@
 -- `read_domains::put` meets its contract. The loop's invariant: the classes of the set below c are in row r, and the other rows are as before.
 -- The measure is how many classes are left. Assumes nothing.
 use Prim.Native.Nat.{◌-◌, ◌≤◌}
-use Rattle.read_domains.specs.laws.Sets.{RowPutTo, row-put-start, row-put-more, row-put-all}
+use Rattle.read_domains.specs.laws.Sets.{RowPutTo}
 use Rattle.cells.specs.Cells.{cell_count}
-use native.Mathlib.Omega.{arith}
-use borrow.Author.Rules.{rules}
 use Rattle.read_domains.proofs.put.Given as goal
 
 abbrev pub invariant-loop-c : goal.invariant-loop-c

@@ -1,14 +1,10 @@
 -- `read_domains::size` meets its contract. The loop's invariant: the count is at most c, and it is not 0 if a class below c is in the domain.
 -- The measure is how many classes are left. Assumes nothing.
-use Prim.Native.Nat.{ℕ, ◌-◌, ◌≤◌, ◌<◌}
 use mathlib.Core.Path.{sym, ◌∙◌}
 use mathlib.Core.Logic.{⊎_elim}
 use mathlib.Core.Bool.{false≢true}
 use borrow.Author.Count.{below_more}
-use Rattle.read_domains.specs.Domains.{InRow}
-use Rattle.cells.specs.Cells.{cell_count}
 use native.Mathlib.Omega.{arith}
-use borrow.Author.Rules.{rules}
 use Rattle.read_domains.proofs.size.Goals as goal
 
 pub loop-c-preserved : goal.loop-c-preserved

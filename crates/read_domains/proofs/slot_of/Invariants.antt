@@ -1,9 +1,6 @@
 -- `read_domains::slot_of` meets its contract. The loop's invariant: j is at most the number of variables.
 -- The measure is how many variables are left. Assumes nothing.
 use Prim.Native.Nat.{◌-◌, ◌≤◌}
-use Rattle.read_domains.specs.Domains.{is_at, is_none}
-use native.Mathlib.Omega.{arith}
-use borrow.Author.Rules.{rules}
 use Rattle.read_domains.proofs.slot_of.Given as goal
 
 abbrev pub invariant-loop-j : goal.invariant-loop-j

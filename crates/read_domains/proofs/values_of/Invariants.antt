@@ -1,11 +1,8 @@
 -- `read_domains::values_of` meets its contract. The loop's invariant: the set has the classes of the values whose cell is below c.
 -- The measure is how many cells are left. Assumes nothing.
-use Rattle.read_domains.specs.laws.Values.{ListedTo, listed_more, listed-other, listed-all}
-use mathlib.Core.Logic.{⊎_elim}
+use Rattle.read_domains.specs.laws.Values.{ListedTo}
 use Prim.Native.Nat.{◌-◌, ◌≤◌}
 use Rattle.cells.specs.Cells.{cell_count}
-use native.Mathlib.Omega.{arith}
-use borrow.Author.Rules.{rules}
 use Rattle.read_domains.proofs.values_of.Given as goal
 
 abbrev pub invariant-loop-c : goal.invariant-loop-c

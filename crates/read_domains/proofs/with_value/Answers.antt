@@ -1,7 +1,5 @@
 -- `read_domains::with_value` meets its contract: a cell that is not marked or has no class adds nothing, and any other adds its class. Assumes nothing.
 use Rattle.read_domains.specs.laws.Values.{listed-unmarked, listed-set, listed-absent}
-use native.Mathlib.Omega.{arith}
-use borrow.Author.Rules.{rules}
 use Rattle.read_domains.proofs.with_value.Goals as goal
 
 pub returns-then-not-marks-c : goal.returns-then-not-marks-c

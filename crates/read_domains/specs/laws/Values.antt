@@ -1,6 +1,6 @@
 -- The classes of the values that a variable may take, one cell after the other, and the domains, one variable after the other. Assumes nothing.
 use Rattle.std.specs.Prelude.{ℕ, ◌+◌, ◌*◌, ◌/◌, ◌%◌, ◌<◌, ◌≤◌, ◌≡◌, refl, Bool, true, false, List, length, get_or, set, replicate}
-use Rattle.std.proofs.Common.{eq-or-lt_of_le, arith, sym, ap, ◌∙◌, ⊎_elim, below_more, length-set, get_or-set_same, get_or-set_other}
+use Rattle.std.proofs.Common.{eq-or-lt_of_le, arith, sym, ap, ◌∙◌, ⊎_elim, below_more, get_or-set_same}
 use Rattle.std.proofs.lemmas.Bool.{false≢true}
 use Rattle.std.proofs.Math.Option.{some}
 use Rattle.std.proofs.lemmas.List.{get_or-replicate}
@@ -11,7 +11,7 @@ use Rattle.semantics.specs.Replay.{is_value_of}
 use Rattle.rows.specs.Rows.{rows_of, Shape}
 use Rattle.cells.specs.Cells.{cell_of, cell_count, absent}
 use Rattle.knowledge.specs.Marks.{Marked}
-use Rattle.knowledge.specs.Steps.{class_at, kind_at, Inside}
+use Rattle.knowledge.specs.Steps.{class_at, Inside}
 use Rattle.variables.specs.Variables.{In, TellsValue, takes, takes_not}
 use Rattle.read_domains.specs.Domains.{domain_cells, InRow, Candidate, Listed, ListedAt, Narrows}
 use Rattle.read_domains.specs.laws.Sets.{stays}

@@ -1,6 +1,5 @@
 -- `read_possible::ask` meets its contract: what a row has or needs already is compared, and what it needs now is noted. Assumes nothing.
 use Rattle.read_fits.specs.laws.Fits.{asked-own, asked-had, asked-now}
-use borrow.Author.Rules.{rules}
 use Rattle.read_fits.proofs.ask.Goals as goal
 
 pub returns-then-own-lt-ABSENT : goal.returns-then-own-lt-ABSENT

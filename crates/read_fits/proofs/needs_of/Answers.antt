@@ -1,10 +1,8 @@
 -- `read_fits::needs_of` meets its contract. The loop's invariant: every row that needs a class gets its value, if row r gets the value of the class.
 -- The measure is the row. Assumes nothing.
-use Prim.Native.Nat.{◌≤◌}
 use mathlib.Core.Path.{refl}
-use Rattle.read_fits.specs.laws.Fits.{Needs, needed-start, needs-more, needs-refused}
+use Rattle.read_fits.specs.laws.Fits.{needed-start, needs-more, needs-refused}
 use native.Mathlib.Omega.{arith}
-use borrow.Author.Rules.{rules}
 use Rattle.read_fits.proofs.needs_of.Goals as goal
 
 pub loop-q-init : goal.loop-q-init

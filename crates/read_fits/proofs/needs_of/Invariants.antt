@@ -1,10 +1,7 @@
 -- `read_fits::needs_of` meets its contract. The loop's invariant: every row that needs a class gets its value, if row r gets the value of the class.
 -- The measure is the row. Assumes nothing.
 use Prim.Native.Nat.{◌≤◌}
-use mathlib.Core.Path.{refl}
-use Rattle.read_fits.specs.laws.Fits.{Needs, needed-start, needs-more, needs-refused}
-use native.Mathlib.Omega.{arith}
-use borrow.Author.Rules.{rules}
+use Rattle.read_fits.specs.laws.Fits.{Needs}
 use Rattle.read_fits.proofs.needs_of.Given as goal
 
 abbrev pub invariant-loop-q : goal.invariant-loop-q

@@ -2,7 +2,6 @@
 use Rattle.cells.specs.laws.Cells.{left-small, second-small}
 use Rattle.read_fits.specs.laws.Fits.{shared-both, shared-refused}
 use native.Mathlib.Omega.{arith}
-use borrow.Author.Rules.{rules}
 use Rattle.read_fits.proofs.share.Goals as goal
 
 pub class_at-first-requires : goal.class_at-first-requires
@@ -23,10 +22,8 @@ ask-requires-then-ask c =
 
 pub returns-then-ask : goal.returns-then-ask
 returns-then-ask c =
-    
     shared-both c.args.t.now c.args.scope.rows c.args.scope.runs c.args.classes.now c.args.scope.run c.args.q c.args.y c.args.w c.left_of.ensures.0 c.class_at-first.ensures c.left_of-2.ensures.0 c.ask.ensures c.second_of.ensures.0 c.class_at-second.ensures c.second_of-then-ask.ensures.0 c.ask-then-ask.ensures
 
 pub returns : goal.returns
 returns c =
-    
     shared-refused c.args.t.now c.args.scope.rows c.args.scope.runs c.args.classes.now c.args.scope.run c.args.q c.args.y c.args.w c.left_of.ensures.0 c.class_at-first.ensures c.left_of-2.ensures.0 c.ask.ensures c.if-ask.false _ _

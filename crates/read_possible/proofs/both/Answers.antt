@@ -1,5 +1,4 @@
 -- `read_possible::both` meets its contract: two tests, one after the other. Assumes nothing.
-use borrow.Author.Rules.{rules}
 use Rattle.read_possible.proofs.both.Goals as goal
 
 pub returns-then-can-l : goal.returns-then-can-l

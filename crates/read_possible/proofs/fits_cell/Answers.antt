@@ -1,7 +1,6 @@
 -- `read_possible::fits_cell` meets its contract: only a marked cell that stands for its own value is looked at. Assumes nothing.
 use Rattle.read_fits.specs.laws.Fits.{take-fits, take-other, take-unmarked}
 use native.Mathlib.Omega.{arith}
-use borrow.Author.Rules.{rules}
 use Rattle.read_possible.proofs.fits_cell.Goals as goal
 
 pub overflow_cast-class : goal.overflow_cast-class

@@ -1,13 +1,7 @@
 -- `read_possible::fits_mark` meets its contract. The loop's invariant: the row can get the value of no marked cell of its kind in a row below y.
 -- The measure is how many rows are left. Assumes nothing.
 use Prim.Native.Nat.{ℕ, ◌-◌, ◌≤◌, ◌<◌}
-use mathlib.Core.Path.{refl, sym, ◌∙◌}
-use mathlib.Core.Logic.{⊎_elim}
-use mathlib.Core.Bool.{false≢true}
-use Rattle.cells.specs.laws.Cells.{none_more}
 use Rattle.read_fits.specs.laws.Fits.{TakesIn}
-use native.Mathlib.Omega.{arith}
-use borrow.Author.Rules.{rules}
 use Rattle.read_possible.proofs.fits_mark.Given as goal
 
 abbrev pub invariant-loop-y : goal.invariant-loop-y

@@ -1,12 +1,10 @@
 -- `read_possible::fits_row` meets its contract. The loop's invariant: in no run below w can the row get the value.
 -- The measure is how many runs are left. Assumes nothing.
-use Prim.Native.Nat.{ℕ, ◌+◌, ◌-◌, ◌≤◌, ◌<◌}
 use mathlib.Core.Path.{sym, ◌∙◌}
 use mathlib.Core.Bool.{false≢true}
 use Rattle.cells.specs.laws.Cells.{none_more}
 use Rattle.read_fits.specs.Fits.{CanTake}
 use native.Mathlib.Omega.{arith}
-use borrow.Author.Rules.{rules}
 use Rattle.read_possible.proofs.fits_row.Goals as goal
 
 pub loop-w-init : goal.loop-w-init

@@ -1,12 +1,9 @@
 -- `read_possible::possible` meets its contract. The loop's invariant: every test so far keeps the promise, and a row that is not tested passes.
 -- The measure is how many rows are left. Assumes nothing.
-use Prim.Native.Nat.{◌+◌, ◌-◌, ◌≤◌}
 use mathlib.Core.Logic.{⊎_elim}
 use Rattle.cells.specs.laws.Shape.{shape-sized}
-use Rattle.read_possible.specs.Tests.{TestedRows}
 use Rattle.read_possible.specs.laws.Tests.{tested-start, tested-set}
 use native.Mathlib.Omega.{arith}
-use borrow.Author.Rules.{rules}
 use Rattle.read_possible.proofs.possible.Goals as goal
 
 pub beneath-below-requires : goal.beneath-below-requires
@@ -23,7 +20,6 @@ test_row-passes-requires c =
 
 pub loop-r-preserved : goal.loop-r-preserved
 loop-r-preserved c =
-    
     let k = c.loop-r-test.true in
     let few = c.requires.0.0.few in
     (omega arith, ⊎_elim (λ w. rw w.can-is (tested-set (omega arith) c.loop-r.invariant.1 w.test_row-passes.ensures)) (λ w. rw w.can-is c.loop-r.invariant.1) c.if-below-r.branch-raw)

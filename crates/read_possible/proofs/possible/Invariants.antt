@@ -1,12 +1,7 @@
 -- `read_possible::possible` meets its contract. The loop's invariant: every test so far keeps the promise, and a row that is not tested passes.
 -- The measure is how many rows are left. Assumes nothing.
 use Prim.Native.Nat.{◌+◌, ◌-◌, ◌≤◌}
-use mathlib.Core.Logic.{⊎_elim}
-use Rattle.cells.specs.laws.Shape.{shape-sized}
 use Rattle.read_possible.specs.Tests.{TestedRows}
-use Rattle.read_possible.specs.laws.Tests.{tested-start, tested-set}
-use native.Mathlib.Omega.{arith}
-use borrow.Author.Rules.{rules}
 use Rattle.read_possible.proofs.possible.Given as goal
 
 abbrev pub invariant-loop-r : goal.invariant-loop-r

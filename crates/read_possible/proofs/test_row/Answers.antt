@@ -3,7 +3,6 @@ use mathlib.Core.Path.{sym, ◌∙◌}
 use mathlib.Core.Logic.{⊎_elim}
 use Rattle.read_possible.specs.laws.Tests.{parts-small, possible-set, possible-pair, possible-other, both_read}
 use native.Mathlib.Omega.{arith}
-use borrow.Author.Rules.{rules}
 use Rattle.read_possible.proofs.test_row.Goals as goal
 
 pub returns-then-class_at-lt-ABSENT : goal.returns-then-class_at-lt-ABSENT

@@ -1,13 +1,10 @@
 -- `records::absent_role` meets its contract. The loop's invariant: the first row that names an absent role is that of the rows from row r on.
 -- The measure is how many rows are left. Assumes nothing.
-use Prim.Native.Nat.{◌-◌, ◌≤◌}
 use native.Mathlib.Omega.{arith}
-use mathlib.Core.Path.{◌≡◌, sym, ap, ◌∙◌}
+use mathlib.Core.Path.{sym, ap, ◌∙◌}
 use mathlib.Core.Logic.{⊎_elim}
-use borrow.Author.Rules.{rules}
-use Rattle.semantics.specs.Roles.{absent_role_from}
-use Rattle.rows.specs.Rows.{rows_of, place_as}
-use Rattle.records.specs.laws.Absent.{absent_left, absent-all, absent_none, absent-here, absent-other, absent-present}
+use Rattle.rows.specs.Rows.{place_as}
+use Rattle.records.specs.laws.Absent.{absent-all, absent_none, absent-here, absent-other, absent-present}
 use Rattle.records.proofs.absent_role.Goals as goal
 
 pub loop-r-init : goal.loop-r-init
@@ -19,14 +16,13 @@ returns-then-roles-left_of c =
     (sym c.kind_of.ensures.0 ∙ c.if-kind_of-eq-ROLE.true) (omega arith)))
 
 pub loop-r-preserved : goal.loop-r-preserved
-loop-r-preserved c =
-    (
-      omega arith,
-      c.loop-r.invariant.1 ∙ ⊎_elim
-          (λ w. absent-present c.args.t.now c.args.n c.args.roles c.args.base c.requires.0 c.loop-r.r c.loop-r-test.true (rw (← w.left_of.ensures.0) w.if-roles-left_of.false))
-          (λ w. absent-other c.args.t.now c.args.n c.args.roles c.args.base c.requires.0 c.loop-r.r c.loop-r-test.true (rw (← c.kind_of.ensures.0) w.if-kind_of-eq-ROLE.false))
-          c.if-kind_of-eq-ROLE.branch-raw,
-    )
+loop-r-preserved c = (
+  omega arith,
+  c.loop-r.invariant.1 ∙ ⊎_elim
+      (λ w. absent-present c.args.t.now c.args.n c.args.roles c.args.base c.requires.0 c.loop-r.r c.loop-r-test.true (rw (← w.left_of.ensures.0) w.if-roles-left_of.false))
+      (λ w. absent-other c.args.t.now c.args.n c.args.roles c.args.base c.requires.0 c.loop-r.r c.loop-r-test.true (rw (← c.kind_of.ensures.0) w.if-kind_of-eq-ROLE.false))
+      c.if-kind_of-eq-ROLE.branch-raw,
+)
 
 pub returns : goal.returns
 returns c =

@@ -1,13 +1,10 @@
 -- `records::absent_role` meets its contract. The loop's invariant: the first row that names an absent role is that of the rows from row r on.
 -- The measure is how many rows are left. Assumes nothing.
 use Prim.Native.Nat.{◌-◌, ◌≤◌}
-use native.Mathlib.Omega.{arith}
-use mathlib.Core.Path.{◌≡◌, sym, ap, ◌∙◌}
-use mathlib.Core.Logic.{⊎_elim}
-use borrow.Author.Rules.{rules}
+use mathlib.Core.Path.{◌≡◌}
 use Rattle.semantics.specs.Roles.{absent_role_from}
-use Rattle.rows.specs.Rows.{rows_of, place_as}
-use Rattle.records.specs.laws.Absent.{absent_left, absent-all, absent_none, absent-here, absent-other, absent-present}
+use Rattle.rows.specs.Rows.{rows_of}
+use Rattle.records.specs.laws.Absent.{absent_left}
 use Rattle.records.proofs.absent_role.Given as goal
 
 abbrev pub invariant-loop-r : goal.invariant-loop-r

@@ -1,15 +1,10 @@
 -- `records::agents_fit` meets its contract. The loop's invariant: all agent bytes are agents' rows exactly if those from byte i on are.
 -- The measure is how many are left. Assumes nothing.
-use Prim.Native.Nat.{ℕ, ◌+◌, ◌-◌, ◌≤◌}
+use Prim.Native.Nat.{◌+◌}
 use native.Mathlib.Omega.{arith}
 use mathlib.Core.Path.{◌≡◌, sym, ◌∙◌}
-use mathlib.Core.Bool.{Bool}
-use mathlib.Core.List.{List}
 use lib.ListN.{get_or}
-use borrow.Author.Rules.{rules}
-use Rattle.semantics.specs.Runs.{is_agent, atom_at}
-use Rattle.rows.specs.Rows.{rows_of}
-use Rattle.records.specs.laws.Runs.{AgentsFrom, agents-bad, agents-more, agents-all}
+use Rattle.records.specs.laws.Runs.{agents-bad, agents-more, agents-all}
 use Rattle.records.proofs.agents_fit.Invariants.{agent}
 use Rattle.records.proofs.agents_fit.Goals as goal
 
@@ -21,8 +16,7 @@ returns-then-not-is_agent c =
 
 pub loop-i-preserved : goal.loop-i-preserved
 loop-i-preserved c =
-    let asked : agent c.args.t.now (get_or c.args.s.now (1 + c.loop-i.i) 0) ≡ c.is_agent.result = rw (← c.wide.ensures.0) (sym c.is_agent.ensures) in
-    (
+    let asked : agent c.args.t.now (get_or c.args.s.now (1 + c.loop-i.i) 0) ≡ c.is_agent.result = rw (← c.wide.ensures.0) (sym c.is_agent.ensures) in (
       omega arith,
       agents-more (agent c.args.t.now) c.args.roles c.args.s.now c.loop-i.i c.loop-i.invariant.1 c.loop-i-test.true c.requires.1.0
           (asked ∙ c.if-not-is_agent.false),

@@ -1,15 +1,11 @@
 -- `records::agents_fit` meets its contract. The loop's invariant: all agent bytes are agents' rows exactly if those from byte i on are.
 -- The measure is how many are left. Assumes nothing.
-use Prim.Native.Nat.{ℕ, ◌+◌, ◌-◌, ◌≤◌}
-use native.Mathlib.Omega.{arith}
-use mathlib.Core.Path.{◌≡◌, sym, ◌∙◌}
+use Prim.Native.Nat.{ℕ, ◌-◌, ◌≤◌}
 use mathlib.Core.Bool.{Bool}
 use mathlib.Core.List.{List}
-use lib.ListN.{get_or}
-use borrow.Author.Rules.{rules}
 use Rattle.semantics.specs.Runs.{is_agent, atom_at}
 use Rattle.rows.specs.Rows.{rows_of}
-use Rattle.records.specs.laws.Runs.{AgentsFrom, agents-bad, agents-more, agents-all}
+use Rattle.records.specs.laws.Runs.{AgentsFrom}
 use Rattle.records.proofs.agents_fit.Given as goal
 
 -- whether a row is an agent's

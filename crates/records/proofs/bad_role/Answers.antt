@@ -1,17 +1,15 @@
 -- `records::bad_role` meets its contract. The loop's invariant: the first bad role record is that of the records from the place on, the next of which has number i.
 -- The measure is what is left of the bytes. Assumes nothing.
-use Prim.Native.Nat.{◌+◌, ◌-◌, ◌≤◌}
+use Prim.Native.Nat.{◌+◌}
 use native.Mathlib.Omega.{arith}
 use mathlib.Core.Path.{◌≡◌, sym, ap, ◌∙◌}
-use lib.ListN.{length, drop}
-use borrow.Author.Rules.{rules}
+use lib.ListN.{drop}
 use Rattle.semantics.specs.Value.{without_variables}
-use Rattle.semantics.specs.Frame.{first_bad}
-use Rattle.semantics.specs.Roles.{role_length, role_records, good_role, bad_role}
+use Rattle.semantics.specs.Roles.{role_length, good_role}
 use Rattle.rows.specs.Rows.{rows_of, place_as}
-use Rattle.records.specs.Records.{part_at, record_at}
+use Rattle.records.specs.Records.{record_at}
 use Rattle.lists.specs.laws.Clear.{bars-variables}
-use Rattle.records.specs.laws.Records.{records_left, rest-whole, bad-here, bad-later, bad-none}
+use Rattle.records.specs.laws.Records.{rest-whole, bad-here, bad-later, bad-none}
 use Rattle.records.specs.laws.Roles.{role-bytes, roles-all}
 use Rattle.records.proofs.bad_role.Goals as goal
 
@@ -29,8 +27,7 @@ returns-then-not-good_role c =
 
 pub loop-at-preserved : goal.loop-at-preserved
 loop-at-preserved c =
-    let judged : good_role (rows_of c.args.t.now) c.roles_present-roles.result c.loop-at.i (record_at role_length (c.args.base + c.loop-at.at) (drop c.loop-at.at c.args.b.now)) ≡ c.good_role.result = sym (rw rest-whole at (c.good_role.ensures (rows_of c.args.t.now) (c.args.base + c.loop-at.at) c.requires.0.count (c.clear_rows-clear.ensures without_variables bars-variables))) in
-    (
+    let judged : good_role (rows_of c.args.t.now) c.roles_present-roles.result c.loop-at.i (record_at role_length (c.args.base + c.loop-at.at) (drop c.loop-at.at c.args.b.now)) ≡ c.good_role.result = sym (rw rest-whole at (c.good_role.ensures (rows_of c.args.t.now) (c.args.base + c.loop-at.at) c.requires.0.count (c.clear_rows-clear.ensures without_variables bars-variables))) in (
       omega arith,
       (
         omega arith,

@@ -1,18 +1,13 @@
 -- `records::bad_role` meets its contract. The loop's invariant: the first bad role record is that of the records from the place on, the next of which has number i.
 -- The measure is what is left of the bytes. Assumes nothing.
 use Prim.Native.Nat.{◌+◌, ◌-◌, ◌≤◌}
-use native.Mathlib.Omega.{arith}
-use mathlib.Core.Path.{◌≡◌, sym, ap, ◌∙◌}
-use lib.ListN.{length, drop}
-use borrow.Author.Rules.{rules}
-use Rattle.semantics.specs.Value.{without_variables}
+use mathlib.Core.Path.{◌≡◌}
+use lib.ListN.{length}
 use Rattle.semantics.specs.Frame.{first_bad}
 use Rattle.semantics.specs.Roles.{role_length, role_records, good_role, bad_role}
-use Rattle.rows.specs.Rows.{rows_of, place_as}
-use Rattle.records.specs.Records.{part_at, record_at}
-use Rattle.lists.specs.laws.Clear.{bars-variables}
-use Rattle.records.specs.laws.Records.{records_left, rest-whole, bad-here, bad-later, bad-none}
-use Rattle.records.specs.laws.Roles.{role-bytes, roles-all}
+use Rattle.rows.specs.Rows.{rows_of}
+use Rattle.records.specs.Records.{part_at}
+use Rattle.records.specs.laws.Records.{records_left}
 use Rattle.records.proofs.bad_role.Given as goal
 
 abbrev pub invariant-loop-at : goal.invariant-loop-at

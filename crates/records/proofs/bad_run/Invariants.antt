@@ -1,16 +1,13 @@
 -- `records::bad_run` meets its contract. The loop's invariant: the first bad run record is that of the records from the place on, the next of which has number i.
 -- The measure is what is left of the bytes. Assumes nothing.
 use Prim.Native.Nat.{◌+◌, ◌-◌, ◌≤◌}
-use native.Mathlib.Omega.{arith}
-use mathlib.Core.Path.{◌≡◌, sym, ap, ◌∙◌}
-use lib.ListN.{length, drop}
-use borrow.Author.Rules.{rules}
+use mathlib.Core.Path.{◌≡◌}
+use lib.ListN.{length}
 use Rattle.semantics.specs.Frame.{first_bad}
 use Rattle.semantics.specs.Runs.{run_length, run_records, good_run, bad_run}
-use Rattle.rows.specs.Rows.{rows_of, place_as}
-use Rattle.records.specs.Records.{part_at, record_at}
-use Rattle.records.specs.laws.Records.{records_left, rest-whole, bad-here, bad-later, bad-none}
-use Rattle.records.specs.laws.Runs.{run-bytes, runs-all}
+use Rattle.rows.specs.Rows.{rows_of}
+use Rattle.records.specs.Records.{part_at}
+use Rattle.records.specs.laws.Records.{records_left}
 use Rattle.records.proofs.bad_run.Given as goal
 
 abbrev pub invariant-loop-start : goal.invariant-loop-start

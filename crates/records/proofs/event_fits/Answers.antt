@@ -2,7 +2,6 @@
 use Prim.Native.Nat.{ℕ, ◌+◌}
 use native.Mathlib.Omega.{arith}
 use lib.ListN.{get_or}
-use borrow.Author.Rules.{rules}
 use Rattle.records.specs.laws.Events.{event-absent, event-peer, event-claim, event-none}
 use Rattle.records.proofs.event_fits.Goals as goal
 

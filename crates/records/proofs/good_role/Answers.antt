@@ -1,7 +1,6 @@
 -- `records::good_role` meets its contract: the code tests the rules one after the other. Assumes nothing.
 use native.Mathlib.Omega.{arith}
 use mathlib.Core.Path.{sym, ◌∙◌}
-use borrow.Author.Rules.{rules}
 use Rattle.records.specs.laws.Roles.{role-short, role-fifth, role-long, role-unknown, role-events}
 use Rattle.records.proofs.good_role.Goals as goal
 

@@ -1,7 +1,6 @@
 -- `records::good_run` meets its contract: the code tests the rules one after the other. Assumes nothing.
 use native.Mathlib.Omega.{arith}
 use mathlib.Core.Path.{◌∙◌}
-use borrow.Author.Rules.{rules}
 use Rattle.rows.specs.Rows.{rows_of}
 use Rattle.records.specs.laws.Runs.{run_short, run-fifth, run-absent, run-agents}
 use Rattle.records.proofs.good_run.Goals as goal
@@ -13,9 +12,9 @@ pub returns-then-i-ge-MOST_RUNS : goal.returns-then-i-ge-MOST_RUNS
 returns-then-i-ge-MOST_RUNS c = λ start. run-fifth (rows_of c.args.t.now) c.args.roles c.args.i start c.args.s.now (omega arith) (omega arith)
 
 pub returns-then-roles-wide : goal.returns-then-roles-wide
-returns-then-roles-wide c = 
+returns-then-roles-wide c =
     λ start. run-absent (rows_of c.args.t.now) c.args.roles c.args.i start c.args.s.now (omega arith) (omega arith) (omega arith)
 
 pub returns : goal.returns
-returns c = 
+returns c =
     λ start. c.agents_fit.ensures ∙ run-agents (rows_of c.args.t.now) c.args.roles c.args.i start c.args.s.now (omega arith) (omega arith) (omega arith)

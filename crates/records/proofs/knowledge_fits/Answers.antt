@@ -1,6 +1,5 @@
 -- `records::knowledge_fits` meets its contract: no row is unfit exactly if the knowledge fits. Assumes nothing.
 use mathlib.Core.Path.{sym, ap, ◌∙◌}
-use borrow.Author.Rules.{rules}
 use Rattle.lists.specs.laws.Knowledge.{nowhere, knowledge-fits}
 use Rattle.records.proofs.knowledge_fits.Goals as goal
 

@@ -1,13 +1,11 @@
 -- `records::role_at` meets its contract. The loop's invariant: role record j begins at the place, which is in the block. The measure is how many records are left to pass. Assumes nothing.
-use Prim.Native.Nat.{◌+◌, ◌-◌, ◌<◌, ◌≤◌}
+use Prim.Native.Nat.{◌+◌}
 use native.Mathlib.Omega.{arith}
 use mathlib.Core.Path.{◌≡◌}
-use lib.ListN.{length}
-use borrow.Author.Rules.{rules}
 use Rattle.semantics.specs.Roles.{role_length}
 use Rattle.records.specs.laws.Records.{rest-whole}
 use Rattle.records.specs.laws.Roles.{role-bytes}
-use Rattle.records.specs.laws.Begins.{Begins, begins-first, begins-next, role-within, role-record}
+use Rattle.records.specs.laws.Begins.{begins-first, begins-next, role-within, role-record}
 use Rattle.records.proofs.role_at.Goals as goal
 
 pub loop-j-init : goal.loop-j-init

@@ -1,11 +1,10 @@
 -- `records::role_length` meets its contract: the counts are the bytes that the definition names. Assumes nothing.
 use native.Mathlib.Omega.{arith}
-use borrow.Author.Rules.{rules}
 use Rattle.records.specs.laws.Roles.{length-counts, length-short}
 use Rattle.records.proofs.role_length.Goals as goal
 
 pub returns-then-at-s : goal.returns-then-at-s
-returns-then-at-s c = 
+returns-then-at-s c =
     (length-counts c.args.s.now c.wide-knowledge.result c.wide.result c.wide-knowledge.ensures.0 c.wide.ensures.0, omega arith)
 
 pub returns : goal.returns

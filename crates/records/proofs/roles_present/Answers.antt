@@ -1,11 +1,8 @@
 -- `records::roles_present` meets its contract. The loop's invariant: i records are passed, and the others are those from the place on.
 -- The measure is how many of four are left. Assumes nothing.
-use Prim.Native.Nat.{◌+◌, ◌-◌, ◌≤◌}
 use native.Mathlib.Omega.{arith}
-use lib.ListN.{length}
-use borrow.Author.Rules.{rules}
 use Rattle.records.specs.laws.Records.{rest-whole}
-use Rattle.records.specs.laws.Roles.{PassedRoles, passed_none, passed-more, passed-all, passed-four}
+use Rattle.records.specs.laws.Roles.{passed_none, passed-more, passed-all, passed-four}
 use Rattle.records.proofs.roles_present.Goals as goal
 
 pub loop-i-init : goal.loop-i-init
@@ -15,7 +12,7 @@ pub returns-then-b-at : goal.returns-then-b-at
 returns-then-b-at c = passed-all c.args.b.now c.loop-i.i c.loop-i.at c.loop-i.invariant.1.1 (omega arith) (omega arith)
 
 pub loop-i-preserved : goal.loop-i-preserved
-loop-i-preserved c = 
+loop-i-preserved c =
     (omega arith, (omega arith, passed-more c.args.b.now c.loop-i.i c.loop-i.at c.loop-i.invariant.1.1 (omega arith) (rw rest-whole at c.role_length-at.ensures.0)))
 
 pub returns : goal.returns

@@ -1,11 +1,8 @@
 -- `records::roles_present` meets its contract. The loop's invariant: i records are passed, and the others are those from the place on.
 -- The measure is how many of four are left. Assumes nothing.
 use Prim.Native.Nat.{◌+◌, ◌-◌, ◌≤◌}
-use native.Mathlib.Omega.{arith}
 use lib.ListN.{length}
-use borrow.Author.Rules.{rules}
-use Rattle.records.specs.laws.Records.{rest-whole}
-use Rattle.records.specs.laws.Roles.{PassedRoles, passed_none, passed-more, passed-all, passed-four}
+use Rattle.records.specs.laws.Roles.{PassedRoles}
 use Rattle.records.proofs.roles_present.Given as goal
 
 abbrev pub invariant-loop-i : goal.invariant-loop-i

@@ -1,5 +1,5 @@
 -- Run records: which are good. Assumes nothing.
-use Rattle.std.specs.Prelude.{ℕ, suc, ◌+◌, ◌*◌, ◌≤◌, ◌<◌, ◌≡◌, refl, Bool, true, false, ◌&&◌, List, ltb, leb, length, get_or, take}
+use Rattle.std.specs.Prelude.{ℕ, suc, ◌+◌, ◌≤◌, ◌<◌, ◌≡◌, Bool, true, false, ◌&&◌, List, ltb, leb, length, get_or, take}
 use Rattle.std.proofs.Common.{arith, sym, ap, ◌∙◌, length-take, drop_of_length-le, le-leb, lt-ltb, le-ltb}
 use Rattle.std.proofs.Math.Seq.{slice, slice-cons, get_or-take}
 use Rattle.std.proofs.lemmas.Bool.{lt-leb}
@@ -8,7 +8,6 @@ use Rattle.semantics.specs.Limits.{most_runs}
 use Rattle.semantics.specs.Table.{Row}
 use Rattle.semantics.specs.Frame.{first_bad}
 use Rattle.semantics.specs.Runs.{run_length, run_in, run_records, atom_at, is_agent, good_run, bad_run}
-use Rattle.rows.specs.Rows.{rows_of}
 use Rattle.records.specs.Records.{part_at, record_at, agents_in}
 use Rattle.records.specs.laws.Records.{leb-taken, records_left, left-all}
 

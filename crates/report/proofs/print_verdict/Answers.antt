@@ -2,8 +2,7 @@
 use native.Mathlib.Omega.{arith}
 use borrow.Author.Rules.{rules}
 use Prim.Native.Nat.{ℕ, ◌≤◌}
-use mathlib.Core.Path.{refl}
-use mathlib.Core.Logic.{inl, inr}
+use mathlib.Core.Logic.{inr}
 use mathlib.Core.List.{List}
 use lib.ListN.{length, replicate, length-replicate}
 use Rattle.text.specs.laws.Adds.{holds_fits, holds-count}
@@ -17,13 +16,10 @@ long : 128 ≤ length buffer
 long = omega (arith, length-replicate {A = ℕ} 128 0)
 
 pub slice_bounds-bytes-end : goal.slice_bounds-bytes-end
-slice_bounds-bytes-end c = holds_fits (c.verdict_text-text.ensures buffer long)
+slice_bounds-bytes-end g c = holds_fits (c.verdict_text-text.ensures buffer long)
 
 pub slice_bounds-write_all-end : goal.slice_bounds-write_all-end
-slice_bounds-write_all-end c = holds-count (c.verdict_text-text.ensures buffer long)
-
-pub returns-then-read-ne0 : goal.returns-then-read-ne0
-returns-then-read-ne0 c = inl refl
+slice_bounds-write_all-end g c = holds-count (c.verdict_text-text.ensures buffer long)
 
 pub returns : goal.returns
-returns c = inr (_, c.verdict_text-text.ensures)
+returns g c = inr (_, c.verdict_text-text.ensures)

@@ -9,11 +9,11 @@ use Rattle.report.proofs.verdict_text.Goals as goal
 pub answer_text-requires : goal.answer_text-requires
 answer_text-requires c =
     let w = c.search_in-answer.ensures in
-    let size : length c.search_in-answer.new.1.0 ≡ 128 = search rules in
-    (_, shown _ _ _ w.0 w.1 (omega arith))
+    let size : length c.search_in-answer.new.trace ≡ 128 = search rules in
+    (_, shown _ _ _ w.value w.trace_after (omega arith))
 
 pub returns : goal.returns
 returns c =
     let w = c.search_in-answer.ensures in
-    let size : length c.search_in-answer.new.1.0 ≡ 128 = search rules in
-    holds-for-all _ _ _ (omega arith) (c.answer_text.ensures _ (shown _ _ _ w.0 w.1 (omega arith)))
+    let size : length c.search_in-answer.new.trace ≡ 128 = search rules in
+    holds-for-all _ _ _ (omega arith) (c.answer_text.ensures _ (shown _ _ _ w.value w.trace_after (omega arith)))

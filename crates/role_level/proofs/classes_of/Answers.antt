@@ -1,4 +1,3 @@
-use native.Mathlib.Omega.{arith}
 use borrow.Author.Rules.{rules}
 use Rattle.role_level.specs.laws.RoleLevel.{role-classes}
 use Rattle.role_level.proofs.classes_of.Goals as goal

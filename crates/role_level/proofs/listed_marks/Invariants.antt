@@ -1,10 +1,7 @@
-use native.Mathlib.Omega.{arith}
-use borrow.Author.Rules.{rules}
-use Prim.Native.Nat.{ℕ, ◌+◌, ◌-◌, ◌<◌, ◌≤◌}
-use mathlib.Core.Path.{◌≡◌, refl, sym, subst}
-use mathlib.Core.Bool.{true}
-use lib.ListN.{length, set, length-set}
-use Rattle.role_level.specs.laws.Loops.{ListedTo, listed-none, listed_more, listed-all, at_mem}
+use Prim.Native.Nat.{◌-◌, ◌≤◌}
+use mathlib.Core.Path.{◌≡◌}
+use lib.ListN.{length}
+use Rattle.role_level.specs.laws.Loops.{ListedTo}
 use Rattle.role_level.proofs.listed_marks.Given as goal
 
 abbrev pub invariant-loop-i : goal.invariant-loop-i

@@ -1,4 +1,3 @@
-use native.Mathlib.Omega.{arith}
 use borrow.Author.Rules.{rules}
 use Rattle.rows.specs.Rows.{rows_of}
 use Rattle.role_level.specs.RoleLevel.{role_readings, listed_terms}

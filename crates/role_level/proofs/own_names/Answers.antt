@@ -1,9 +1,8 @@
 use native.Mathlib.Omega.{arith}
 use borrow.Author.Rules.{rules}
-use Prim.Native.Nat.{ℕ, ◌-◌, ◌<◌, ◌≤◌}
-use mathlib.Core.Path.{◌≡◌, refl}
-use lib.ListN.{length, length-set}
-use Rattle.role_level.specs.laws.Loops.{OwnBelow, own-more}
+use mathlib.Core.Path.{refl}
+use lib.ListN.{length-set}
+use Rattle.role_level.specs.laws.Loops.{own-more}
 use Rattle.role_level.proofs.own_names.Goals as goal
 
 -- src/lib.rt:44:5

@@ -1,9 +1,7 @@
-use native.Mathlib.Omega.{arith}
-use borrow.Author.Rules.{rules}
-use Prim.Native.Nat.{ℕ, ◌-◌, ◌<◌, ◌≤◌}
-use mathlib.Core.Path.{◌≡◌, refl}
-use lib.ListN.{length, length-set}
-use Rattle.role_level.specs.laws.Loops.{OwnBelow, own-more}
+use Prim.Native.Nat.{◌-◌, ◌≤◌}
+use mathlib.Core.Path.{◌≡◌}
+use lib.ListN.{length}
+use Rattle.role_level.specs.laws.Loops.{OwnBelow}
 use Rattle.role_level.proofs.own_names.Given as goal
 
 abbrev pub invariant-loop-r : goal.invariant-loop-r

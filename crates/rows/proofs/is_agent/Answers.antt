@@ -1,5 +1,4 @@
 -- `rows::is_agent` meets its contract: a row is an agent's by its kind. Assumes nothing.
-use borrow.Author.Rules.{rules}
 use Rattle.rows.specs.laws.Agents.{agent-absent, agent-kind}
 use Rattle.rows.proofs.is_agent.Goals as goal
 

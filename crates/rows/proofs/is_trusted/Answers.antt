@@ -1,5 +1,4 @@
 -- `rows::is_trusted` meets its contract: a row is a trusted agent's by its kind. Assumes nothing.
-use borrow.Author.Rules.{rules}
 use Rattle.rows.specs.laws.Agents.{trusted-absent, trusted-kind}
 use Rattle.rows.proofs.is_trusted.Goals as goal
 

@@ -1,5 +1,4 @@
 -- `runs::all_trusted` meets its contract: the agents of run k are those of its record. Assumes nothing.
-use borrow.Author.Rules.{rules}
 use Rattle.runs.specs.laws.Trusted.{agents-inside, trusted-all}
 use Rattle.runs.proofs.all_trusted.Goals as goal
 

@@ -2,7 +2,6 @@
 use Prim.Native.Nat.{◌+◌, ◌*◌, ◌<◌}
 use native.Mathlib.Omega.{arith}
 use lib.ListN.{length, get_or}
-use borrow.Author.Rules.{rules}
 use Rattle.runs.specs.laws.Event.{record-inside, own-inside, bytes_inside, peer-inside, event-read}
 use Rattle.runs.proofs.event_of.Goals as goal
 
@@ -25,7 +24,7 @@ pub bounds-file-start : goal.bounds-file-start
 bounds-file-start c = record-inside c.args.file.now c.args.r c.args.k c.args.j c.requires
 
 pub agent_of-requires : goal.agent_of-requires
-agent_of-requires c = 
+agent_of-requires c =
     own-inside c.args.file.now c.args.r c.args.k c.args.j c.requires c.wide-2.ensures.0
 
 pub overflow_add-at-2 : goal.overflow_add-at-2
@@ -39,7 +38,7 @@ bounds-file-at-2 c =
     omega (arith, bytes)
 
 pub agent_of-requires-2 : goal.agent_of-requires-2
-agent_of-requires-2 c = 
+agent_of-requires-2 c =
     peer-inside c.args.file.now c.args.r c.args.k c.args.j c.requires c.wide-3.ensures.0
 
 pub overflow_add-at-3 : goal.overflow_add-at-3
@@ -54,7 +53,6 @@ bounds-file-at-3 c =
 
 pub returns : goal.returns
 returns c =
-    
     λ sc run ev at g found listed.
     event-read c.args.file.now sc run _ _ _ (at.each c.args.k run found) g c.args.k found c.args.j ev listed
     c.wide.ensures.0 c.wide-2.ensures.0 c.agent_of.ensures.0 c.wide-3.ensures.0 c.agent_of-2.ensures.0 c.wide-4.ensures.0

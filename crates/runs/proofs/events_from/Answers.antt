@@ -1,6 +1,5 @@
 -- `runs::events_from` meets its contract: the run's record names its role, whose record has the events. Assumes nothing.
 use native.Mathlib.Omega.{arith}
-use borrow.Author.Rules.{rules}
 use Rattle.runs.specs.laws.Blocks.{opened-framed}
 use Rattle.runs.specs.laws.Found.{start-inside, role-recorded, first_read, events-read}
 use Rattle.runs.proofs.events_from.Goals as goal
@@ -15,7 +14,7 @@ pub bounds-file-start : goal.bounds-file-start
 bounds-file-start c = start-inside c.args.file.now c.args.start c.requires
 
 pub role_at-at-requires : goal.role_at-at-requires
-role_at-at-requires c = 
+role_at-at-requires c =
     role-recorded c.args.file.now c.args.start c.block_of-b.ensures c.wide.ensures.0 c.requires
 
 pub bounds-b-first : goal.bounds-b-first

@@ -1,14 +1,9 @@
 -- `runs::runs_of` meets its contract. The loop's invariant: the runs below k are found, and run k begins at the offset. The measure is how many runs are left. Assumes nothing.
 use Prim.Native.Nat.{◌-◌, ◌≤◌}
-use native.Mathlib.Omega.{arith}
-use mathlib.Core.Path.{◌≡◌, ap}
-use borrow.Author.Rules.{rules}
+use mathlib.Core.Path.{◌≡◌}
 use Rattle.semantics.specs.Answer.{accepted}
 use Rattle.semantics.specs.Scenario.{Scenario, opened}
-use Rattle.answers.specs.Answers.{layout_of, scenario_in}
-use Rattle.answers.specs.declared.Layout.{Layout}
-use Rattle.runs.specs.laws.Found.{SomeRun, start-inside}
-use Rattle.runs.specs.laws.Listed.{FoundTo, few-runs, few-roles, found_none, found-run, found-more, found_all}
+use Rattle.runs.specs.laws.Listed.{FoundTo}
 use Rattle.runs.proofs.runs_of.Given as goal
 
 abbrev pub invariant-loop-k : goal.invariant-loop-k

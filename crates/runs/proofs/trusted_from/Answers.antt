@@ -1,13 +1,7 @@
 -- `runs::trusted_from` meets its contract. The loop's invariant: all agents are trusted exactly if those from agent i on are. The measure is how many agents are left. Assumes nothing.
-use Prim.Native.Nat.{ℕ, ◌-◌, ◌≤◌}
 use native.Mathlib.Omega.{arith}
 use mathlib.Core.Path.{refl, sym, ◌∙◌}
-use mathlib.Core.Bool.{Bool}
-use mathlib.Core.List.{List}
-use borrow.Author.Rules.{rules}
-use Rattle.semantics.specs.Runs.{atom_at, is_trusted}
-use Rattle.rows.specs.Rows.{rows_of}
-use Rattle.runs.specs.laws.Trusted.{PassFrom, pass-bad, pass-more, pass_all}
+use Rattle.runs.specs.laws.Trusted.{pass-bad, pass-more, pass_all}
 use Rattle.runs.proofs.trusted_from.Invariants.{trusted}
 use Rattle.runs.proofs.trusted_from.Goals as goal
 
@@ -20,12 +14,11 @@ returns-then-not-is_trusted c =
     (sym c.if-not-is_trusted.true ∙ c.is_trusted.ensures)
 
 pub loop-i-preserved : goal.loop-i-preserved
-loop-i-preserved c =
-    (
-      omega arith,
-      pass-more (trusted c.args.t.now) c.args.file.now c.args.start c.args.roles c.loop-i.i c.loop-i.invariant.1 c.agent_of.ensures.0 c.loop-i-test.true
-          (sym c.if-not-is_trusted.false ∙ c.is_trusted.ensures),
-    )
+loop-i-preserved c = (
+  omega arith,
+  pass-more (trusted c.args.t.now) c.args.file.now c.args.start c.args.roles c.loop-i.i c.loop-i.invariant.1 c.agent_of.ensures.0 c.loop-i-test.true
+      (sym c.if-not-is_trusted.false ∙ c.is_trusted.ensures),
+)
 
 pub returns : goal.returns
 returns c =

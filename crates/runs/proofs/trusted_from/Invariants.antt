@@ -1,13 +1,10 @@
 -- `runs::trusted_from` meets its contract. The loop's invariant: all agents are trusted exactly if those from agent i on are. The measure is how many agents are left. Assumes nothing.
 use Prim.Native.Nat.{ℕ, ◌-◌, ◌≤◌}
-use native.Mathlib.Omega.{arith}
-use mathlib.Core.Path.{refl, sym, ◌∙◌}
 use mathlib.Core.Bool.{Bool}
 use mathlib.Core.List.{List}
-use borrow.Author.Rules.{rules}
 use Rattle.semantics.specs.Runs.{atom_at, is_trusted}
 use Rattle.rows.specs.Rows.{rows_of}
-use Rattle.runs.specs.laws.Trusted.{PassFrom, pass-bad, pass-more, pass_all}
+use Rattle.runs.specs.laws.Trusted.{PassFrom}
 use Rattle.runs.proofs.trusted_from.Given as goal
 
 -- whether a row is a trusted agent's

@@ -1,6 +1,5 @@
 -- `judged` is refusals 6 and 7, then what follows them. Assumes nothing.
 use native.Mathlib.Omega.{arith}
-use borrow.Author.Rules.{rules}
 use mathlib.Core.Path.{◌∙◌}
 use Rattle.scenario.specs.laws.Open.{roles-refused, no-bad-role, events-refused, events-passed}
 use Rattle.scenario.specs.laws.Blocks.{rows_in, terms-shape, roles-good, events-read}

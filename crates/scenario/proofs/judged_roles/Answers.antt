@@ -1,6 +1,5 @@
 -- `judged_roles` is refusal 6, of a record or of a row that names an absent role. Assumes nothing.
 use native.Mathlib.Omega.{arith}
-use borrow.Author.Rules.{rules}
 use Rattle.scenario.specs.laws.Open.{records-refused, names-judged}
 use Rattle.scenario.specs.laws.Blocks.{rows_in, terms-sized, roles-read, count-read, names-read}
 use Rattle.scenario.proofs.judged_roles.Goals as goal

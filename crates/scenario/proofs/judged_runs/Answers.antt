@@ -1,6 +1,5 @@
 -- `judged_runs` is refusals 8 and 9, or the layout of the accepted file. Assumes nothing.
 use native.Mathlib.Omega.{arith}
-use borrow.Author.Rules.{rules}
 use Rattle.scenario.specs.laws.Open.{runs-refused, known-refused, all-accepted}
 use Rattle.scenario.specs.laws.Blocks.{rows_in, terms-sized, count-read, count-few, runs-read, known_read}
 use Rattle.scenario.proofs.judged_runs.Goals as goal

@@ -1,6 +1,5 @@
 -- `scenario::open` meets its contract: the frame, the table, then refusals 6 to 9. Assumes nothing.
 use native.Mathlib.Omega.{arith}
-use borrow.Author.Rules.{rules}
 use Rattle.frame.specs.laws.Frame.{framing-framed}
 use Rattle.scenario.specs.laws.Open.{frame_refused, table-refused, terms-shape, opened_rows}
 use Rattle.scenario.specs.laws.Blocks.{table-read}

@@ -1,6 +1,5 @@
 -- `parts_of` is the layout of a file. Assumes nothing.
 use native.Mathlib.Omega.{arith}
-use borrow.Author.Rules.{rules}
 use Rattle.scenario.specs.laws.Open.{layout-right}
 use Rattle.scenario.specs.laws.Blocks.{rows_in, count-few, run-count-read}
 use Prim.Native.Nat.{ℕ}

@@ -1,9 +1,6 @@
 -- `run_count` counts the run records of a block. The measure is what is left of its bytes. Assumes nothing.
 use native.Mathlib.Omega.{arith}
-use borrow.Author.Rules.{rules}
-use Prim.Native.Nat.{◌+◌, ◌-◌, ◌≤◌}
-use lib.ListN.{length}
-use Rattle.scenario.specs.laws.Open.{CountedTo, counted_none, counted-more, counted-all}
+use Rattle.scenario.specs.laws.Open.{counted_none, counted-more, counted-all}
 use Rattle.scenario.proofs.run_count.Goals as goal
 
 pub loop-at-init : goal.loop-at-init

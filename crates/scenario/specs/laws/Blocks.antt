@@ -1,14 +1,14 @@
 -- What is read of a file's blocks, as what the definitions say of the file. Assumes nothing.
-use Rattle.std.specs.Prelude.{ℕ, ◌+◌, ◌*◌, ◌<◌, ◌≤◌, ◌≡◌, refl, List, [], length}
+use Rattle.std.specs.Prelude.{ℕ, ◌≤◌, ◌≡◌, refl, List, [], length}
 use Rattle.std.proofs.Common.{arith, sym, ap, subst, ◌∙◌}
-use Rattle.std.proofs.Math.Option.{Option, none}
+use Rattle.std.proofs.Math.Option.{none}
 use Rattle.semantics.specs.Table.{Row, rows_from}
-use Rattle.semantics.specs.Frame.{Part, budget_of, block}
+use Rattle.semantics.specs.Frame.{Part}
 use Rattle.semantics.specs.Roles.{bad_role, absent_role_from, role_records, roles_present, roles_from}
 use Rattle.semantics.specs.WellFormed.{ill_formed}
 use Rattle.semantics.specs.Runs.{run_records, bad_run, bad_knowledge_from}
-use Rattle.semantics.specs.Scenario.{term_part, role_part, run_part, knowledge_part, role_parts, role_count, run_parts, scenario_of}
-use Rattle.rows.specs.Rows.{IsTable, Sized, rows_of, place_as, Shape}
+use Rattle.semantics.specs.Scenario.{term_part, role_part, run_part, knowledge_part, role_parts, role_count, run_parts}
+use Rattle.rows.specs.Rows.{Sized, rows_of, place_as, Shape}
 use Rattle.rows.specs.declared.Place.{Place}
 use Rattle.table.specs.Check.{judged_as}
 use Rattle.table.specs.declared.Judged.{Judged}

@@ -1,12 +1,12 @@
 -- The laws of Open's sequence of conditions, as the code goes through it. Assumes nothing.
-use Rattle.std.specs.Prelude.{ℕ, zero, suc, ◌+◌, ◌*◌, ◌<◌, ◌≤◌, ◌≡◌, length}
+use Rattle.std.specs.Prelude.{ℕ, suc, ◌+◌, ◌<◌, ◌≤◌, ◌≡◌, length}
 use Rattle.std.proofs.Common.{arith, sym, ◌∙◌}
 use Rattle.std.proofs.Math.Path.{refl, ap, fun_ext}
 use mathlib.Core.List.{List, [], ◌∷◌}
 use Rattle.std.proofs.Math.Option.{Option, none, some}
 use Rattle.std.proofs.lemmas.List.{length-map}
 use Rattle.semantics.specs.Basic.{first_of}
-use Rattle.semantics.specs.Answer.{Answer, refused, accepted, refuse, checked, ◌>>=◌, ◌>>◌}
+use Rattle.semantics.specs.Answer.{Answer, refuse, checked, ◌>>=◌, ◌>>◌}
 use Rattle.semantics.specs.Table.{Row, rows_from}
 use Rattle.semantics.specs.Frame.{Part, records, unversioned, too_long, misframed, budget_of}
 use Rattle.semantics.specs.Roles.{bad_role, absent_role_from, role_in, roles_from}

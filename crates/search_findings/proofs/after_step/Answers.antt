@@ -1,6 +1,5 @@
 -- `after_step` puts a step in front of what is found, by its case. Assumes nothing.
 use native.Mathlib.Omega.{arith}
-use borrow.Author.Rules.{rules}
 use mathlib.Core.Path.{refl, ap}
 use Rattle.answers.specs.declared.Walked.TheVariants.{Broken}
 use Rattle.search_findings.specs.Findings.{length_of}

@@ -1,6 +1,5 @@
 -- `behind` puts what is found behind a count, by its case. Assumes nothing.
 use native.Mathlib.Omega.{arith}
-use borrow.Author.Rules.{rules}
 use mathlib.Core.Path.{refl, ap}
 use Rattle.answers.specs.declared.Walked.TheVariants.{Broken}
 use Rattle.search_findings.specs.Findings.{size_of}

@@ -1,5 +1,4 @@
 -- `goes_on` answers by the case of what was found. Assumes nothing.
-use borrow.Author.Rules.{rules}
 use mathlib.Core.Path.{refl}
 use Rattle.search_findings.proofs.goes_on.Goals as goal
 

@@ -1,6 +1,5 @@
 -- `own` answers by the budget, then by the claim. Assumes nothing.
-use borrow.Author.Rules.{rules}
-use mathlib.Core.Path.{◌≡◌, refl, sym, ap, ◌∙◌}
+use mathlib.Core.Path.{sym, ap, ◌∙◌}
 use Rattle.answers.specs.declared.Walked.TheVariants.{Broken}
 use Rattle.search_findings.specs.Findings.{own_of}
 use Rattle.search_findings.specs.laws.Findings.{own-some}

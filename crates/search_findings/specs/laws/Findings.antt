@@ -2,7 +2,7 @@
 use Rattle.std.specs.Prelude.{ℕ, zero, suc, ◌<◌, ◌≤◌, ◌≡◌, refl, Bool}
 use Rattle.std.proofs.Common.{ap, lt-ltb, le-ltb}
 use Rattle.answers.specs.declared.Claimed.{Claimed}
-use Rattle.answers.specs.declared.Walked.TheVariants.{Broken, Clean, Cut}
+use Rattle.answers.specs.declared.Walked.TheVariants.{Clean, Cut}
 use Rattle.search_findings.specs.Findings.{own_of, own_as, known_by, known_as}
 
 -- a state's own trace, while the budget is not at its end

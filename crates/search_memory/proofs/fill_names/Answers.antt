@@ -1,10 +1,9 @@
 -- `fill_names` writes the names of a run into a key. The loop's invariant: the first i names are written, and nothing else. Assumes nothing.
 use native.Mathlib.Omega.{arith}
-use borrow.Author.Rules.{rules}
-use Prim.Native.Nat.{ℕ, ◌+◌, ◌*◌, ◌-◌, ◌≤◌}
+use Prim.Native.Nat.{ℕ}
 use mathlib.Core.Path.{◌≡◌, ap}
 use lib.ListN.{get_or}
-use Rattle.search_memory.specs.Memory.{Written, name_of}
+use Rattle.search_memory.specs.Memory.{name_of}
 use Rattle.search_memory.specs.laws.Words.{written-more}
 use Rattle.search_memory.proofs.fill_names.Goals as goal
 
@@ -13,7 +12,6 @@ cell-requires c = (c.requires.1.1.1 c.loop-i.i c.loop-i-test.true, omega (arith,
 
 pub loop-i-preserved : goal.loop-i-preserved
 loop-i-preserved c =
-    
     let low = c.loop-i-test.true in
     let name : get_or c.args.names.now c.cell.result 0 ≡ name_of c.args.variables.now c.args.names.now c.args.k c.loop-i.i = ap (λ (m : ℕ). get_or c.args.names.now m 0) c.cell.ensures.0 in
     (omega (arith, low), written-more _ c.loop-i.invariant.1 (omega (arith, low, c.requires.0, c.requires.1.1.0)) name)

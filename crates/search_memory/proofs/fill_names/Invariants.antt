@@ -1,11 +1,6 @@
 -- `fill_names` writes the names of a run into a key. The loop's invariant: the first i names are written, and nothing else. Assumes nothing.
-use native.Mathlib.Omega.{arith}
-use borrow.Author.Rules.{rules}
-use Prim.Native.Nat.{ℕ, ◌+◌, ◌*◌, ◌-◌, ◌≤◌}
-use mathlib.Core.Path.{◌≡◌, ap}
-use lib.ListN.{get_or}
+use Prim.Native.Nat.{◌+◌, ◌*◌, ◌-◌, ◌≤◌}
 use Rattle.search_memory.specs.Memory.{Written, name_of}
-use Rattle.search_memory.specs.laws.Words.{written-more}
 use Rattle.search_memory.proofs.fill_names.Given as goal
 
 abbrev pub invariant-loop-i : goal.invariant-loop-i

@@ -1,5 +1,4 @@
 -- `hash` mixes the words of a key. The loop's invariant: the hash is below 2 to the 32. Assumes nothing.
-use borrow.Author.Rules.{rules}
 use Prim.Native.Nat.{◌-◌, ◌<◌, ◌≤◌}
 use Rattle.search_memory.proofs.hash.Given as goal
 

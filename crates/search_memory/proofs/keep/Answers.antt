@@ -1,6 +1,5 @@
 -- `keep` stores a count that is not 0. Assumes nothing.
 use native.Mathlib.Omega.{arith}
-use borrow.Author.Rules.{rules}
 use mathlib.Core.Path.{refl}
 use Rattle.search_memory.proofs.keep.Goals as goal
 

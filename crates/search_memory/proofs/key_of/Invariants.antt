@@ -1,8 +1,6 @@
 -- `key_of` makes the key of a state. The loop's invariant: the names of the first k runs are filled in. Assumes nothing.
-use native.Mathlib.Omega.{arith}
-use borrow.Author.Rules.{rules}
 use Prim.Native.Nat.{◌-◌, ◌≤◌}
-use Rattle.search_memory.specs.laws.Keys.{FilledWords, filled_more, filled-all}
+use Rattle.search_memory.specs.laws.Keys.{FilledWords}
 use Rattle.search_memory.proofs.key_of.Given as goal
 
 abbrev pub invariant-loop-k : goal.invariant-loop-k

@@ -1,8 +1,5 @@
 -- `look_up` finds the count of a key. The loop's invariant: the way is one of four. Assumes nothing.
-use native.Mathlib.Omega.{arith}
-use borrow.Author.Rules.{rules}
 use Prim.Native.Nat.{◌-◌, ◌≤◌}
-use Rattle.search_memory.specs.laws.Slots.{slot-found, none_found}
 use Rattle.search_memory.proofs.look_up.Given as goal
 
 abbrev pub invariant-loop-way : goal.invariant-loop-way

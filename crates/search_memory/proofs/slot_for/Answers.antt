@@ -1,7 +1,5 @@
 -- `slot_for` chooses the slot of an entry. The loop's invariant: the slot is one of the memory's. Assumes nothing.
 use native.Mathlib.Omega.{arith}
-use borrow.Author.Rules.{rules}
-use Prim.Native.Nat.{◌-◌, ◌<◌, ◌≤◌}
 use mathlib.Core.Logic.{⊎_elim}
 use Rattle.search_memory.proofs.slot_for.Goals as goal
 

@@ -1,6 +1,5 @@
 -- `search_memory::variable_rows` meets its contract: the variables among all rows. Assumes nothing.
 use Rattle.search_memory.specs.laws.Variables.{among-all}
-use borrow.Author.Rules.{rules}
 use Rattle.search_memory.proofs.variable_rows.Goals as goal
 
 pub returns : goal.returns

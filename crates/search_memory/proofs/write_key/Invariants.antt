@@ -1,11 +1,7 @@
 -- `write_key` writes a key from a place on. The loop's invariant: the first i words are written, and nothing else. Assumes nothing.
-use native.Mathlib.Omega.{arith}
-use borrow.Author.Rules.{rules}
 use Prim.Native.Nat.{◌-◌, ◌≤◌}
-use mathlib.Core.Path.{◌≡◌, refl}
 use lib.ListN.{get_or}
 use Rattle.search_memory.specs.Memory.{Written}
-use Rattle.search_memory.specs.laws.Words.{written-more}
 use Rattle.search_memory.proofs.write_key.Given as goal
 
 abbrev pub invariant-loop-i : goal.invariant-loop-i

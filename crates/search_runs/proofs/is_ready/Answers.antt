@@ -1,6 +1,5 @@
 -- `is_ready` tells whether a run's next event is a send or claim, by its kind. Assumes nothing.
 use native.Mathlib.Omega.{arith}
-use borrow.Author.Rules.{rules}
 use Rattle.search_runs.specs.laws.Runs.{ready-ended, ready_read, ready-other}
 use Rattle.search_runs.proofs.is_ready.Goals as goal
 

@@ -1,8 +1,6 @@
 -- `lowest_ready` finds the lowest run whose next event is a send or claim. The loop's invariant: none of the runs passed has such an event. The measure is how many runs are left. Assumes nothing.
 use Prim.Native.Nat.{◌-◌, ◌≤◌}
-use native.Mathlib.Omega.{arith}
-use borrow.Author.Rules.{rules}
-use Rattle.search_runs.specs.laws.Runs.{NoneReady, none_more, lowest-here, lowest-none}
+use Rattle.search_runs.specs.laws.Runs.{NoneReady}
 use Rattle.search_runs.proofs.lowest_ready.Given as goal
 
 abbrev pub invariant-loop-k : goal.invariant-loop-k

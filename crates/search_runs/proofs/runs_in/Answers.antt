@@ -1,6 +1,5 @@
 -- `runs_in` gives the runs that a list goes on with: all, or the lowest that sends or claims next. Assumes nothing.
 use native.Mathlib.Omega.{arith}
-use borrow.Author.Rules.{rules}
 use Rattle.search_runs.specs.laws.Runs.{goes-full, goes-all, goes_one}
 use Rattle.search_runs.proofs.runs_in.Goals as goal
 

@@ -1,7 +1,6 @@
 -- `agents_of` gives the agents of a run as the file has them. Assumes nothing.
 use native.Mathlib.Omega.{arith}
-use borrow.Author.Rules.{rules}
-use mathlib.Core.Path.{◌≡◌, refl}
+use mathlib.Core.Path.{refl}
 use Rattle.state.specs.laws.Start.{agents-none, agents-part, agents-inside}
 use Rattle.state.proofs.agents_of.Goals as goal
 

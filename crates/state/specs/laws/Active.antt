@@ -1,10 +1,8 @@
 -- Whether a run has an event to come, by how far it has come, and what its next move then is. Assumes nothing.
 use Rattle.std.specs.Prelude.{ℕ, zero, suc, ◌<◌, ◌≤◌, ◌≡◌, refl, List, [], ◌∷◌, T, length, get_or}
 use Rattle.std.proofs.Common.{arith, sym, ap, ◌∙◌}
-use Rattle.std.proofs.Math.Option.{Option, none, some, none-ne-some}
+use Rattle.std.proofs.Math.Option.{Option, none, some}
 use Rattle.std.proofs.Math.ListN.{get_elem?}
-use Rattle.semantics.specs.Basic.{and_then, mapped}
-use Rattle.semantics.specs.Term.{Atom}
 use Rattle.semantics.specs.Table.{Row}
 use Rattle.semantics.specs.Roles.{Event}
 use Rattle.semantics.specs.Runs.{Run, atom_of, atom_at, is_agent}
@@ -13,7 +11,7 @@ use Rattle.semantics.specs.State.{Progress, State, Active, active, events_of}
 use Rattle.semantics.proofs.laws.List.{get_elem-below, get_elem-there}
 use Rattle.runs.specs.declared.RunEvent.{RunEvent}
 use Rattle.runs.specs.declared.Runs.{Runs}
-use Rattle.runs.specs.Runs.{RunsAt, RunAt, EventRead}
+use Rattle.runs.specs.Runs.{EventRead}
 use Rattle.state.specs.declared.State.{State as CodeState}
 use Rattle.state.specs.State.{Given, Due, IsState, NextMove}
 

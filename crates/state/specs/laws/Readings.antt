@@ -1,20 +1,18 @@
 -- Readings of runs: what a run's next event changes in them, and what its agents stand for. Assumes nothing.
-use Rattle.std.specs.Prelude.{ℕ, zero, suc, ◌<◌, ◌≤◌, ◌≡◌, refl, Bool, true, false, ◌||◌, List, [], ◌∷◌, ◌++◌, T, eqb, length, set}
+use Rattle.std.specs.Prelude.{ℕ, zero, suc, ◌<◌, ◌≡◌, refl, List, ◌++◌, length, set}
 use Rattle.std.proofs.Math.Decide.{ℕ_discrete}
-use Rattle.std.proofs.Common.{arith, sym, ap, ◌∙◌, subst, eq-eqb, ne_eqb}
+use Rattle.std.proofs.Common.{sym, ap, ◌∙◌, subst, eq-eqb, ne_eqb}
 use Rattle.std.proofs.Math.Path.{fun_ext}
-use Rattle.std.proofs.Math.Option.{Option, none, some, some-injective, none-ne-some}
+use Rattle.std.proofs.Math.Option.{Option, none, some, none-ne-some}
 use Rattle.std.proofs.Math.ListN.{get_elem?}
 use Rattle.semantics.specs.Basic.{and_then}
 use Rattle.semantics.specs.Term.{Atom, trusted, untrusted, global, intruder, role, variable, local, Term}
 use Rattle.semantics.specs.Table.{Row}
-use Rattle.semantics.specs.Value.{Reading, value_of, without_run}
-use Rattle.semantics.specs.Runs.{Run, atom_at, is_agent}
+use Rattle.semantics.specs.Runs.{Run}
 use Rattle.semantics.specs.Scenario.{Scenario}
 use Rattle.semantics.specs.State.{Value, Progress, term_of, assigned, reading_in}
 use Rattle.semantics.proofs.laws.List.{set_same, set_other}
 use Rattle.semantics.proofs.laws.Reached.{assigned-stays}
-use Rattle.cells.specs.Cells.{Readings}
 use Rattle.classes.specs.Classes.{Grows}
 use Rattle.state.specs.Readings.{SetsOf, sets_in, sets_of, with_sets, run_reading, readings}
 

@@ -6,7 +6,6 @@ use native.Mathlib.Omega.{arith}
 use Rattle.std.proofs.Math.Path.{sym, ap, fun_ext}
 use Rattle.std.proofs.Math.Logic.{inr, ⊎_elim}
 use mathlib.Core.List.Memᴰ
-use mathlib.Core.List.Memᴰ.{head as here}
 use mathlib.Core.List.{List, [], ◌∷◌, map, Memᴰ}
 use Rattle.std.proofs.Math.Option.{Option, none, some, some-injective, none-ne-some}
 use Rattle.std.proofs.Math.ListN.{get_elem?, get_or-eq_default}

@@ -1,11 +1,10 @@
 -- `entered` fills in the names of a run. Assumes nothing.
 use native.Mathlib.Omega.{arith}
 use borrow.Author.Rules.{rules}
-use Prim.Native.Nat.{ℕ, ◌-◌, ◌≤◌}
 use mathlib.Core.Path.{◌≡◌}
 use lib.ListN.{length}
 use Rattle.rows.specs.Rows.{rows_of}
-use Rattle.state_start.specs.laws.Start.{EnteredTo, entered-none, entered-more, entered_all}
+use Rattle.state_start.specs.laws.Start.{entered-none, entered-more, entered_all}
 use Rattle.state_start.proofs.entered.Goals as goal
 
 pub loop-r-init : goal.loop-r-init

@@ -1,10 +1,8 @@
 -- `intruder_marks` marks the intruder constants. Assumes nothing.
 use native.Mathlib.Omega.{arith}
-use borrow.Author.Rules.{rules}
-use Prim.Native.Nat.{ℕ, ◌-◌, ◌≤◌}
-use mathlib.Core.Path.{◌≡◌, sym, ◌∙◌}
+use mathlib.Core.Path.{sym, ◌∙◌}
 use mathlib.Core.Logic.{⊎_elim}
-use Rattle.state_start.specs.laws.Start.{IntrudersTo, intruders-none, intruders-set, intruders-skip, intruders-all}
+use Rattle.state_start.specs.laws.Start.{intruders-none, intruders-set, intruders-skip, intruders-all}
 use Rattle.state_start.proofs.intruder_marks.Goals as goal
 
 pub loop-r-init : goal.loop-r-init

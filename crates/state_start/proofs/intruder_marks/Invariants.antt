@@ -1,10 +1,6 @@
 -- `intruder_marks` marks the intruder constants. Assumes nothing.
-use native.Mathlib.Omega.{arith}
-use borrow.Author.Rules.{rules}
-use Prim.Native.Nat.{ℕ, ◌-◌, ◌≤◌}
-use mathlib.Core.Path.{◌≡◌, sym, ◌∙◌}
-use mathlib.Core.Logic.{⊎_elim}
-use Rattle.state_start.specs.laws.Start.{IntrudersTo, intruders-none, intruders-set, intruders-skip, intruders-all}
+use Prim.Native.Nat.{◌-◌, ◌≤◌}
+use Rattle.state_start.specs.laws.Start.{IntrudersTo}
 use Rattle.state_start.proofs.intruder_marks.Given as goal
 
 abbrev pub invariant-loop-r : goal.invariant-loop-r

@@ -1,8 +1,4 @@
 -- `name_of` gives an atom's row its name. Assumes nothing.
-use native.Mathlib.Omega.{arith}
-use borrow.Author.Rules.{rules}
-use mathlib.Core.Path.{◌≡◌, sym, ◌∙◌, subst}
-use Prim.Native.Nat.{ℕ}
 use Rattle.state_start.specs.laws.Names.{name-itself, name-without-run, name-agent, name-no-agent, name-local, name-none}
 use Rattle.state_start.proofs.name_of.Goals as goal
 

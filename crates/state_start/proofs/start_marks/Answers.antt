@@ -1,10 +1,6 @@
 -- `start_marks` marks the intruder constants and the listed rows. Assumes nothing.
 use native.Mathlib.Omega.{arith}
-use borrow.Author.Rules.{rules}
-use Prim.Native.Nat.{ℕ, ◌-◌, ◌≤◌}
-use lib.ListN.{length, take}
 use Rattle.role_level.specs.laws.Loops.{at_mem}
-use Rattle.state_start.specs.Start.{StartMarks}
 use Rattle.state_start.specs.laws.Start.{listed_more, listed-all}
 use Rattle.state_start.proofs.start_marks.Goals as goal
 

@@ -4,7 +4,7 @@ use Rattle.std.proofs.Common.{zero-add, arith, sym, ap, ◌∙◌}
 use Rattle.std.proofs.Math.Option.{Option, none, some, some-injective, none-ne-some}
 use Rattle.std.proofs.Math.ListN.{get_elem?}
 use Rattle.semantics.specs.Basic.{and_then}
-use Rattle.semantics.specs.Term.{VariableType, agent_type, fresh_type, Atom, trusted, untrusted, global, intruder, role, variable, local, Term, atom}
+use Rattle.semantics.specs.Term.{agent_type, fresh_type, Atom, trusted, untrusted, global, intruder, role, variable, local, Term, atom}
 use Rattle.semantics.specs.Table.{Row, atomic, pk_of, sk_of, shared_of, pair_of, encrypted_of}
 use Rattle.semantics.specs.Value.{without_run}
 use Rattle.semantics.specs.Runs.{Run, atom_of, atom_at, is_agent}

@@ -1,13 +1,12 @@
 -- What a scenario starts with: names row by row, and marks of what is known. Assumes nothing.
-use Rattle.std.specs.Prelude.{ℕ, zero, suc, ◌+◌, ◌*◌, ◌-◌, ◌<◌, ◌≤◌, ◌≡◌, refl, Bool, true, false, List, [], ◌∷◌, ◌++◌, length, get_or, set, take, replicate}
-use Rattle.std.proofs.Common.{eq-or-lt_of_le, add-one, arith, sym, ap, ◌∙◌, subst, inl, inr, ⊎_elim, lt-ltb, le-ltb, length-set, take-suc, take_all, get_or-set_same, get_or-set_other}
+use Rattle.std.specs.Prelude.{ℕ, ◌+◌, ◌<◌, ◌≤◌, ◌≡◌, refl, Bool, true, false, List, [], ◌∷◌, ◌++◌, length, get_or, set, take, replicate}
+use Rattle.std.proofs.Common.{eq-or-lt_of_le, add-one, arith, sym, ap, ◌∙◌, subst, inl, inr, ⊎_elim, length-set, take-suc, take_all, get_or-set_same, get_or-set_other}
 use Rattle.std.proofs.Math.Decide.{dec_lt}
 use Rattle.std.proofs.lemmas.Bool.{false≢true}
 use mathlib.Core.List.Memᴰ
 use mathlib.Core.List.Memᴰ.{head as here}
 use Rattle.std.proofs.lemmas.List.{get_or-replicate, length-replicate}
 use Rattle.std.proofs.Math.ListN.{get_or-eq_default}
-use Rattle.semantics.specs.Term.{intruder}
 use Rattle.semantics.specs.Table.{Row}
 use Rattle.cells.specs.Cells.{cell_of, cell_count, absent}
 use Rattle.knowledge.specs.Steps.{On, kind_at}

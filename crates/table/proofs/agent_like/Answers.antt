@@ -3,7 +3,6 @@ use Prim.Native.Nat.{ℕ, ◌+◌, ◌*◌}
 use native.Mathlib.Omega.{arith}
 use mathlib.Core.Path.{◌≡◌, sym, ap, ◌∙◌}
 use lib.ListN.{get_or, get_elem?}
-use borrow.Author.Rules.{rules}
 use Rattle.semantics.specs.Table.{agent_like}
 use Rattle.rows.specs.laws.Decode.{agent_kind, agent-kinds, other-kinds}
 use Rattle.table.specs.laws.Below.{rows_below, below_none, below-agent}

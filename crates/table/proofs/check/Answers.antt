@@ -1,11 +1,8 @@
 -- `table::check` meets its contract. The loop's invariant: i rows are passed, a table with so many variables.
 -- The measure is what is left of the bytes. Assumes nothing.
-use Prim.Native.Nat.{◌*◌, ◌-◌}
 use native.Mathlib.Omega.{arith}
 use mathlib.Core.Path.{sym, ◌∙◌}
-use lib.ListN.{length}
-use borrow.Author.Rules.{rules}
-use Rattle.table.specs.laws.Passed.{PassedRows, passed_none, passed-all, passed-short, passed-refused, passed-more}
+use Rattle.table.specs.laws.Passed.{passed_none, passed-all, passed-short, passed-refused, passed-more}
 use Rattle.table.proofs.check.Goals as goal
 
 pub loop-at-init : goal.loop-at-init

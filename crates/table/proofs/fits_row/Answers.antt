@@ -6,7 +6,6 @@ use mathlib.Core.Logic.{⊎_elim, inl, inr}
 use mathlib.Core.List.{List}
 use lib.Dec.{ltb}
 use lib.ListN.{length, get_or, take, get_elem?}
-use borrow.Author.Rules.{rules}
 use borrow.Author.Tests.{lt-ltb, le-ltb}
 use Rattle.semantics.specs.Basic.{present}
 use Rattle.semantics.specs.Table.{Row, decode}

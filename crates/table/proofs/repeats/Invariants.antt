@@ -1,11 +1,7 @@
 -- `table::repeats` meets its contract. The loop's invariant: no row below j has the bytes of row i. The measure is how many rows are left. Assumes nothing.
 use Prim.Native.Nat.{ℕ, ◌≤◌, ◌<◌, ◌-◌}
-use native.Mathlib.Omega.{arith}
-use mathlib.Core.Path.{◌≡◌, sym, ◌∙◌}
+use mathlib.Core.Path.{◌≡◌}
 use mathlib.Core.Bool.{false}
-use borrow.Author.Count.{below_none, below_more}
-use borrow.Author.Rules.{rules}
-use Rattle.table.specs.laws.Repeats.{repeats-yes, repeats-no}
 use Rattle.table.specs.Check.{same_bytes}
 use Rattle.table.proofs.repeats.Given as goal
 

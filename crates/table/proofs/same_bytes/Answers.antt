@@ -1,5 +1,4 @@
 -- `table::same_bytes` meets its contract: the three bytes are compared one by one. Assumes nothing.
-use borrow.Author.Rules.{rules}
 use borrow.Author.Tests.{eq-eqb, ne_eqb}
 use Rattle.table.proofs.same_bytes.Goals as goal
 

@@ -6,6 +6,7 @@ use Rattle.packing.specs.Packing.{packed_searching, packed-searched}
 use Rattle.tejorva.proofs.tejorva_search.Goals as goal
 
 pub returns : goal.returns
-returns c =
-    let w = c.search.ensures in
-    (c.verdict.ensures ∙ ap packed_searching w.0 ∙ packed-searched (searched c.args.file.now c.args.trace.now), w.1)
+returns c = record {
+  value = c.verdict.ensures ∙ ap packed_searching c.search.ensures.value ∙ packed-searched (searched c.args.file.now c.args.trace.now);
+  trace_after = c.search.ensures.trace_after;
+}

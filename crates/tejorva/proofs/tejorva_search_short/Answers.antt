@@ -7,6 +7,7 @@ use Rattle.packing.specs.Packing.{packed_searching, packed-searched}
 use Rattle.tejorva.proofs.tejorva_search_short.Goals as goal
 
 pub returns : goal.returns
-returns c =
-    let w = c.search_short.ensures in
-    (c.verdict.ensures ∙ ap packed_searching w.0 ∙ packed-searched (searched_in short c.args.file.now c.args.trace.now), w.1)
+returns c = record {
+  value = c.verdict.ensures ∙ ap packed_searching c.search_short.ensures.value ∙ packed-searched (searched_in short c.args.file.now c.args.trace.now);
+  trace_after = c.search_short.ensures.trace_after;
+}

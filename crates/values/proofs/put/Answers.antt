@@ -1,7 +1,5 @@
 -- `put` stores a value's cell as the name of a variable. Assumes nothing.
-use native.Mathlib.Omega.{arith}
-use borrow.Author.Rules.{rules}
-use mathlib.Core.Path.{◌≡◌, refl}
+use mathlib.Core.Path.{refl}
 use Rattle.values.proofs.put.Goals as goal
 
 pub returns : goal.returns

@@ -1,6 +1,5 @@
 -- `tried` puts a value into copies of the names and classes, and works it into the marks. Assumes nothing.
 use native.Mathlib.Omega.{arith}
-use borrow.Author.Rules.{rules}
 use Rattle.values.proofs.tried.Goals as goal
 
 pub with_names-requires : goal.with_names-requires

@@ -1,26 +1,26 @@
 -- New values of a read: which variables are unset, none set yet, one more set, and all set. Assumes nothing.
-use Rattle.std.specs.Prelude.{ℕ, zero, suc, ◌+◌, ◌*◌, ◌<◌, ◌≤◌, ◌≡◌, refl, ◌↔◌, Bool, true, false, T, length, get_or, set}
+use Rattle.std.specs.Prelude.{ℕ, zero, suc, ◌+◌, ◌<◌, ◌≤◌, ◌≡◌, refl, ◌↔◌, T, length, get_or, set}
 use Rattle.std.proofs.Math.Decide.{ℕ_discrete}
 use Rattle.std.proofs.Common.{arith, ◌∙◌, length-set, length-append, get_or-set_same, get_or-set_other}
 use Rattle.std.proofs.Math.Path.{sym, ap, subst}
 use mathlib.Core.List.{List, [], ◌∷◌, ◌++◌, append-nil, append_assoc}
 use Rattle.std.proofs.Math.Option.{Option, none, some, some-injective, none-ne-some}
 use Rattle.std.proofs.Math.ListN.{get_elem?}
-use Rattle.semantics.specs.Basic.{and_then, decided}
-use Rattle.semantics.specs.Term.{VariableType, Atom, trusted, untrusted, global, intruder, role, variable, local, atom?, Term, atom}
+use Rattle.semantics.specs.Basic.{and_then}
+use Rattle.semantics.specs.Term.{Atom, trusted, untrusted, global, intruder, role, variable, local, atom?, Term, atom}
 use Rattle.semantics.specs.Table.{Row, atomic, pk_of, sk_of, shared_of, pair_of, encrypted_of, variable_atom}
 use Rattle.semantics.specs.Value.{Reading}
 use Rattle.semantics.specs.Roles.{EventKind, read}
 use Rattle.semantics.specs.Runs.{Run, atom_of, atom_at}
 use Rattle.semantics.specs.Scenario.{Scenario}
-use Rattle.semantics.specs.Guarantee.{Guarantee, GoodTable}
+use Rattle.semantics.specs.Guarantee.{Guarantee}
 use Rattle.semantics.specs.State.{Value, State, Active, active, assigned, term_of, in_run, reading_in, unset_beneath, new_variables, paired}
 use Rattle.semantics.specs.Moves.{to_set, set_after}
-use Rattle.semantics.proofs.laws.Test.{There, holds-decided}
+use Rattle.semantics.proofs.laws.Test.{There}
 use Rattle.semantics.proofs.laws.Reached.{Standing, standing-append, or_else, assigned-first, assigned-later, assigned-append, assigned-new}
 use Rattle.semantics.proofs.laws.List.{get_elem-below, get_elem-there}
 use Rattle.semantics.proofs.laws.Moves.{ActiveIn, active-in}
-use Rattle.cells.specs.Cells.{cell_of, cell_count, absent, Within, Canonical}
+use Rattle.cells.specs.Cells.{cell_of, absent}
 use Rattle.classes.specs.Classes.{Named, unnamed, named, NamesRight}
 use Rattle.knowledge.specs.laws.Values.{cells-apart}
 use Rattle.state.specs.declared.State.{State as CodeState}

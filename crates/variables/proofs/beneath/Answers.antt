@@ -1,13 +1,11 @@
 -- `variables::beneath` meets its contract. The loop's invariant: the marks are of rows beneath row x, and closed under parts from row r on.
 -- The measure is the row. Assumes nothing.
-use Prim.Native.Nat.{◌+◌, ◌-◌, ◌≤◌}
+use Prim.Native.Nat.{◌+◌, ◌-◌}
 use mathlib.Core.Path.{◌≡◌}
 use Rattle.rows.specs.Rows.{rows_of}
 use Rattle.rows.specs.laws.Table.{table-good}
-use Rattle.variables.specs.Variables.{ClosedFrom}
 use Rattle.variables.specs.laws.Beneath.{closed-start, closed_all}
 use native.Mathlib.Omega.{arith}
-use borrow.Author.Rules.{rules}
 use Rattle.variables.proofs.beneath.Goals as goal
 
 pub loop-r-init : goal.loop-r-init
@@ -15,7 +13,6 @@ loop-r-init c = (omega arith, closed-start (rows_of c.args.t.now) c.args.x (tabl
 
 pub loop-r-preserved : goal.loop-r-preserved
 loop-r-preserved c =
-    
     let next : c.loop-r.r ≡ c.loop-r.r - 1 + 1 = omega arith in
     (omega arith, c.mark_parts.ensures c.args.x (rw next at c.loop-r.invariant.1))
 

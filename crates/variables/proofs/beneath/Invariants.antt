@@ -1,13 +1,8 @@
 -- `variables::beneath` meets its contract. The loop's invariant: the marks are of rows beneath row x, and closed under parts from row r on.
 -- The measure is the row. Assumes nothing.
-use Prim.Native.Nat.{◌+◌, ◌-◌, ◌≤◌}
-use mathlib.Core.Path.{◌≡◌}
+use Prim.Native.Nat.{◌≤◌}
 use Rattle.rows.specs.Rows.{rows_of}
-use Rattle.rows.specs.laws.Table.{table-good}
 use Rattle.variables.specs.Variables.{ClosedFrom}
-use Rattle.variables.specs.laws.Beneath.{closed-start, closed_all}
-use native.Mathlib.Omega.{arith}
-use borrow.Author.Rules.{rules}
 use Rattle.variables.proofs.beneath.Given as goal
 
 abbrev pub invariant-loop-r : goal.invariant-loop-r

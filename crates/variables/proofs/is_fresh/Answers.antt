@@ -1,5 +1,4 @@
 -- `variables::is_fresh` meets its contract: the right byte is the type. Assumes nothing.
-use borrow.Author.Rules.{rules}
 use Rattle.variables.proofs.is_fresh.Goals as goal
 
 pub returns : goal.returns

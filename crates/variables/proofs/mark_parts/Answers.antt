@@ -2,7 +2,6 @@
 use Rattle.cells.specs.laws.Cells.{left-small, second-small}
 use Rattle.variables.specs.laws.Beneath.{closed-unmarked, closed-atom, closed_parts}
 use native.Mathlib.Omega.{arith}
-use borrow.Author.Rules.{rules}
 use Rattle.variables.proofs.mark_parts.Goals as goal
 
 pub returns-then-not-below-r : goal.returns-then-not-below-r

@@ -1,7 +1,6 @@
 -- `variables::may_take` meets its contract: the run is one of those with which the row is a value. Assumes nothing.
 use mathlib.Core.Path.{refl}
 use Rattle.variables.specs.laws.Spans.{may-absent, may-below, may-counted, first_read, count-read}
-use borrow.Author.Rules.{rules}
 use Rattle.variables.proofs.may_take.Goals as goal
 
 pub returns-then-n-r : goal.returns-then-n-r
@@ -15,8 +14,6 @@ returns-then-w-first c =
 
 pub returns : goal.returns
 returns c =
-    
-    
     λ a e. may-counted c.args.t.now c.args.n c.args.runs c.requires.0 c.args.x c.requires.1.0 c.requires.1.1 c.args.r c.args.w e c.if-n-r.false
     (first_read c.args.t.now c.args.n c.args.runs c.requires.0 c.args.x c.requires.1.0 c.args.r c.kind_of-kind.ensures.0 c.first_run-first.ensures.0)
     (count-read c.args.t.now c.args.n c.args.runs c.requires.0 c.args.x c.requires.1.0 c.args.r c.kind_of-kind.ensures.0 c.is_fresh.ensures c.run_count.ensures.0) c.if-w-first.false refl

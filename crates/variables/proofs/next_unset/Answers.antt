@@ -1,26 +1,20 @@
 -- `variables::next_unset` meets its contract. The loop's invariant: no unset variable beneath the pattern has a row from the given one up to row y.
 -- The measure is how many rows are left. Assumes nothing.
-use Prim.Native.Nat.{◌-◌, ◌≤◌}
 use mathlib.Core.Path.{sym, ◌∙◌}
 use mathlib.Core.Logic.{⊎_elim}
-use Rattle.rows.specs.Rows.{rows_of}
 use Rattle.cells.specs.laws.Cells.{class-read}
-use Rattle.variables.specs.laws.Unset.{NoneUnset, none-unset, passed-outside, passed-other, passed-set, next-unset}
+use Rattle.variables.specs.laws.Unset.{none-unset, passed-outside, passed-other, passed-set, next-unset}
 use native.Mathlib.Omega.{arith}
-use borrow.Author.Rules.{rules}
 use Rattle.variables.proofs.next_unset.Goals as goal
 
 pub returns-then-names-cell-eq-ABSENT : goal.returns-then-names-cell-eq-ABSENT
 returns-then-names-cell-eq-ABSENT c =
-    
-    
     next-unset c.args.t.now c.args.n c.requires.0 c.args.names.now c.args.u c.args.below.now c.args.from c.loop-y.y c.loop-y-test.true c.loop-y.invariant.1.1
     c.if-below-y.true (sym c.kind_of.ensures.0 ∙ c.if-kind_of-eq-VARIABLE.true)
     (class-read c.args.names.now c.requires.1.0 c.cell.ensures.0 c.cell.ensures.1) c.if-names-cell-eq-ABSENT.true c.loop-y.invariant.0
 
 pub loop-y-preserved : goal.loop-y-preserved
 loop-y-preserved c =
-    
     let low = c.loop-y-test.true in (
       omega arith,
       (
@@ -36,5 +30,4 @@ loop-y-preserved c =
 
 pub returns : goal.returns
 returns c =
-    
     none-unset c.args.t.now c.args.n c.requires.0 c.args.names.now c.args.u c.args.below.now c.args.from c.loop-y-test.false c.loop-y.invariant.1.1

@@ -1,13 +1,8 @@
 -- `variables::next_unset` meets its contract. The loop's invariant: no unset variable beneath the pattern has a row from the given one up to row y.
 -- The measure is how many rows are left. Assumes nothing.
 use Prim.Native.Nat.{◌-◌, ◌≤◌}
-use mathlib.Core.Path.{sym, ◌∙◌}
-use mathlib.Core.Logic.{⊎_elim}
 use Rattle.rows.specs.Rows.{rows_of}
-use Rattle.cells.specs.laws.Cells.{class-read}
-use Rattle.variables.specs.laws.Unset.{NoneUnset, none-unset, passed-outside, passed-other, passed-set, next-unset}
-use native.Mathlib.Omega.{arith}
-use borrow.Author.Rules.{rules}
+use Rattle.variables.specs.laws.Unset.{NoneUnset}
 use Rattle.variables.proofs.next_unset.Given as goal
 
 abbrev pub invariant-loop-y : goal.invariant-loop-y

@@ -1,12 +1,9 @@
 -- `variables::next_value` meets its contract. The loop's invariant: row y with run v is not before the given row and run, and no value of the variable lies between the two.
 -- The measure is how many rows are left. Assumes nothing.
-use Prim.Native.Nat.{◌-◌, ◌≤◌}
 use mathlib.Core.Path.{refl}
 use mathlib.Core.Logic.{inr}
-use Rattle.rows.specs.Rows.{rows_of}
-use Rattle.variables.specs.laws.Spans.{Ahead, first_read, count-read, next-none, next_here, ahead_more}
+use Rattle.variables.specs.laws.Spans.{first_read, count-read, next-none, next_here, ahead_more}
 use native.Mathlib.Omega.{arith}
-use borrow.Author.Rules.{rules}
 use Rattle.variables.proofs.next_value.Goals as goal
 
 pub loop-y-init : goal.loop-y-init
@@ -14,9 +11,6 @@ loop-y-init c = (c.requires.1.1, record { later = inr (refl, omega arith); same 
 
 pub returns-then-run-first : goal.returns-then-run-first
 returns-then-run-first c =
-    
-    
-    
     let first = first_read c.args.t.now c.args.n c.args.runs c.requires.0 c.args.x c.requires.1.0 c.loop-y.y c.kind_of-kind.ensures.0 c.first_run-first.ensures.0 in
     let count = count-read c.args.t.now c.args.n c.args.runs c.requires.0 c.args.x c.requires.1.0 c.loop-y.y c.kind_of-kind.ensures.0 c.is_fresh-fresh.ensures c.run_count.ensures.0 in
     next_here c.args.t.now c.args.n c.args.runs c.requires.0 c.args.x c.requires.1.0 c.args.r c.args.w c.loop-y.y c.loop-y.v c.loop-y.invariant.1 c.loop-y-test.true first count c.higher-run.ensures c.if-run-first.true
@@ -26,14 +20,10 @@ loop-y-smaller c = omega (arith, c.loop-y-test.true)
 
 pub loop-y-preserved : goal.loop-y-preserved
 loop-y-preserved c =
-    
-    
-    
     let first = first_read c.args.t.now c.args.n c.args.runs c.requires.0 c.args.x c.requires.1.0 c.loop-y.y c.kind_of-kind.ensures.0 c.first_run-first.ensures.0 in
     let count = count-read c.args.t.now c.args.n c.args.runs c.requires.0 c.args.x c.requires.1.0 c.loop-y.y c.kind_of-kind.ensures.0 c.is_fresh-fresh.ensures c.run_count.ensures.0 in
     (omega (arith, c.loop-y-test.true), ahead_more c.args.t.now c.args.n c.args.runs c.requires.0 c.args.x c.requires.1.0 c.args.r c.args.w c.loop-y.y c.loop-y.v c.loop-y.invariant.1 c.loop-y-test.true first count c.higher-run.ensures c.if-run-first.false)
 
 pub returns : goal.returns
 returns c =
-    
     next-none c.args.t.now c.args.n c.args.runs c.requires.0 c.args.x c.requires.1.0 c.args.r c.args.w c.loop-y.y c.loop-y.v c.loop-y.invariant.1 c.loop-y-test.false

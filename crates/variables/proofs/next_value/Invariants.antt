@@ -1,12 +1,8 @@
 -- `variables::next_value` meets its contract. The loop's invariant: row y with run v is not before the given row and run, and no value of the variable lies between the two.
 -- The measure is how many rows are left. Assumes nothing.
 use Prim.Native.Nat.{◌-◌, ◌≤◌}
-use mathlib.Core.Path.{refl}
-use mathlib.Core.Logic.{inr}
 use Rattle.rows.specs.Rows.{rows_of}
-use Rattle.variables.specs.laws.Spans.{Ahead, first_read, count-read, next-none, next_here, ahead_more}
-use native.Mathlib.Omega.{arith}
-use borrow.Author.Rules.{rules}
+use Rattle.variables.specs.laws.Spans.{Ahead}
 use Rattle.variables.proofs.next_value.Given as goal
 
 abbrev pub invariant-loop-y : goal.invariant-loop-y

@@ -1,6 +1,5 @@
 -- `variables::unset_rows` meets its contract: the variables of what is left of the set. Assumes nothing.
 use Rattle.variables.specs.laws.Rows.{unset-among}
-use borrow.Author.Rules.{rules}
 use Rattle.variables.proofs.unset_rows.Goals as goal
 
 pub returns : goal.returns

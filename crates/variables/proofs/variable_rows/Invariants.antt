@@ -1,11 +1,6 @@
 -- `variables::variable_rows` meets its contract. The loop's invariant: the variables of the set among the first x rows are gathered. The measure is how many rows are left. Assumes nothing.
 use Prim.Native.Nat.{◌-◌, ◌≤◌}
-use mathlib.Core.Bool.{false≢true}
-use mathlib.Core.Logic.{⊎_elim}
-use mathlib.Core.Path.{sym, ◌∙◌}
-use Rattle.variables.specs.laws.Rows.{GatheredRows, gathered_none, gathered-other, gathered-variable, gathered-all, place-left}
-use native.Mathlib.Omega.{arith}
-use borrow.Author.Rules.{rules}
+use Rattle.variables.specs.laws.Rows.{GatheredRows}
 use Rattle.variables.proofs.variable_rows.Given as goal
 
 abbrev pub invariant-loop-x : goal.invariant-loop-x

@@ -1,11 +1,6 @@
 -- `variables::without_value` meets its contract. The loop's invariant: the rows below x that have a value are out. The measure is how many rows are left. Assumes nothing.
 use Prim.Native.Nat.{◌-◌, ◌≤◌}
-use mathlib.Core.Logic.{⊎_elim}
-use mathlib.Core.Path.{◌∙◌, sym}
-use Rattle.variables.specs.laws.Rows.{ClearedRows, cleared-none, cleared-kept, cleared-gone}
-use Rattle.cells.specs.laws.Cells.{class-read}
-use native.Mathlib.Omega.{arith}
-use borrow.Author.Rules.{rules}
+use Rattle.variables.specs.laws.Rows.{ClearedRows}
 use Rattle.variables.proofs.without_value.Given as goal
 
 abbrev pub invariant-loop-x : goal.invariant-loop-x

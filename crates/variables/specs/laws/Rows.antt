@@ -14,7 +14,7 @@ use Rattle.rows.specs.laws.Decode.{six-variable}
 use Rattle.rows.specs.laws.Table.{table-good, table-row}
 use Rattle.cells.specs.Cells.{cell_of, absent}
 use Rattle.variables.specs.declared.VariableRows.{VariableRows}
-use Rattle.variables.specs.Variables.{In, AreVariables, Among, Unset}
+use Rattle.variables.specs.Variables.{In, Among, Unset}
 
 -- how many of the first rows are variables
 abbrev pub variables_below : List ℕ → ℕ → ℕ

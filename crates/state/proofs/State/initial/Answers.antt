@@ -1,9 +1,7 @@
 -- `State::initial` is the state before any move. Assumes nothing.
 use native.Mathlib.Omega.{arith}
-use borrow.Author.Rules.{rules}
-use Prim.Native.Nat.{ℕ, suc, ◌+◌, ◌-◌, ◌≤◌}
-use mathlib.Core.Path.{◌≡◌, refl, sym, ap}
-use lib.ListN.{length, length-set}
+use Prim.Native.Nat.{◌+◌}
+use mathlib.Core.Path.{refl}
 use Rattle.semantics.specs.Scenario.{Scenario}
 use Rattle.state.specs.State.{Given}
 use Rattle.cells.specs.laws.Shape.{shape-sized}
@@ -25,13 +23,11 @@ entered-more-requires c =
 
 pub refill-requires : goal.refill-requires
 refill-requires c =
-    
     let given = c.requires.1.0 in
     (given.shape, (c.loop-u.invariant.1, (c.entered-more.ensures.size, c.loop-u-test.true)))
 
 pub loop-u-preserved : goal.loop-u-preserved
 loop-u-preserved c =
-    
     let agents = c.agents_of-agents in
     let entered = c.entered-more in
     let refill = c.refill in

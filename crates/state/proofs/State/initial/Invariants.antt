@@ -1,13 +1,10 @@
 -- `State::initial` is the state before any move. Assumes nothing.
-use native.Mathlib.Omega.{arith}
-use borrow.Author.Rules.{rules}
-use Prim.Native.Nat.{ℕ, suc, ◌+◌, ◌-◌, ◌≤◌}
-use mathlib.Core.Path.{◌≡◌, refl, sym, ap}
-use lib.ListN.{length, length-set}
+use Prim.Native.Nat.{◌+◌, ◌-◌, ◌≤◌}
+use mathlib.Core.Path.{◌≡◌}
+use lib.ListN.{length}
 use Rattle.semantics.specs.Scenario.{Scenario}
 use Rattle.state.specs.State.{Given}
-use Rattle.cells.specs.laws.Shape.{shape-sized}
-use Rattle.state.specs.laws.Start.{Begun, given-none, given-agents, given-more, given-listed, given-start}
+use Rattle.state.specs.laws.Start.{Begun}
 use Rattle.state.proofs.State.initial.Given as goal
 
 abbrev pub invariant-loop-u : goal.invariant-loop-u
