@@ -1,7 +1,7 @@
 -- What a walk through a part of the list finds, as the code answers it. Assumes nothing.
-use Rattle.std.specs.Prelude.{ℕ, zero, suc, ◌+◌, ◌*◌, ◌<◌, ◌≤◌, ◌≡◌, Bool, true, List, [], ◌∷◌, ◌++◌, map, length, get_or, take, drop}
+use Rattle.std.specs.Prelude.{ℕ, suc, ◌+◌, ◌*◌, ◌<◌, ◌≤◌, ◌≡◌, Bool, true, List, [], ◌∷◌, ◌++◌, map, length, get_or, take, drop}
 use Rattle.std.proofs.Math.Option.{Option, none, some}
-use Rattle.semantics.specs.Basic.{joined, present_ones, mapped, numbers_from}
+use Rattle.semantics.specs.Basic.{joined, present_ones, mapped}
 use Rattle.semantics.specs.Term.{Atom}
 use Rattle.semantics.specs.Answer.{accepted}
 use Rattle.semantics.specs.Scenario.{Scenario, opened}
@@ -18,7 +18,6 @@ use Rattle.state.specs.State.{Given, Due, IsState, NextMove, Ready}
 use Rattle.values.specs.Values.{Setting, PartArrays}
 use Rattle.answers.specs.Answers.{walked_as}
 use Rattle.variables.specs.Variables.{Beneath, unset_from}
-use Rattle.answers.specs.declared.Break.{Break}
 use Rattle.answers.specs.declared.Walked.{Walked}
 use Rattle.answers.specs.declared.Walked.TheVariants.{Broken, Clean, Cut}
 use Rattle.search_findings.specs.Findings.{is_broken}

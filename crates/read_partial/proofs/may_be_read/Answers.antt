@@ -1,6 +1,5 @@
 -- `may_be_read` says no only where no completion of the choice is allowed. Assumes nothing.
 use native.Mathlib.Omega.{arith}
-use borrow.Author.Rules.{rules}
 use Rattle.read_partial.specs.laws.Refused.{own-refused, peer-refused, row-refused, values-refused}
 use Rattle.read_partial.proofs.may_be_read.Goals as goal
 

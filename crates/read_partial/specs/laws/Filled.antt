@@ -7,7 +7,7 @@ use mathlib.Core.List.{List, [], ◌∷◌, ◌++◌, append_assoc, Memᴰ}
 use Rattle.std.proofs.Math.Option.{Option, none, some, none-ne-some}
 use Rattle.std.proofs.Math.ListN.{length, get_elem?}
 use Rattle.semantics.specs.Basic.{and_then, mapped}
-use Rattle.semantics.specs.Term.{Atom, trusted, untrusted, global, intruder, role, variable, local, atom?, Term, atom}
+use Rattle.semantics.specs.Term.{Atom, trusted, untrusted, global, intruder, role, variable, local, Term, atom}
 use Rattle.semantics.specs.Table.{Row, variable_atom}
 use Rattle.semantics.specs.Value.{Reading, without_run}
 use Rattle.semantics.specs.Roles.{EventKind, read}
@@ -18,7 +18,7 @@ use Rattle.semantics.specs.Moves.{candidates, to_set, set_after}
 use Rattle.semantics.specs.Replay.{is_value_of, suits}
 use Rattle.semantics.specs.Allowed.{MayTake, an_agent, an_intruder, a_local, Takes, takes_none, takes_more}
 use Rattle.semantics.proofs.laws.Test.{There, both_left, passes-true}
-use Rattle.semantics.proofs.laws.List.{mem-cases, get_elem-below, get_elem-there}
+use Rattle.semantics.proofs.laws.List.{get_elem-there}
 use Rattle.semantics.proofs.laws.Moves.{atom_at-bound, suits-exact, ActiveIn, active-in}
 use Rattle.semantics.proofs.laws.Reached.{paired-set, takes-length, takes-may, assigned-append, assigned-new, or_else, unset-iff, unset-mem}
 use Rattle.rows.specs.Rows.{rows_of, Shape}

@@ -1,5 +1,4 @@
 -- `replay` opens a file and follows a trace through it. Assumes nothing.
-use borrow.Author.Rules.{rules}
 use mathlib.Core.Path.{sym, ap, ◌∙◌}
 use Rattle.answers.specs.Answers.{replayed_as}
 use Rattle.answers.specs.laws.Answers.{opened-accepts}

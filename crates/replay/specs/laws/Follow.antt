@@ -5,7 +5,7 @@ use Rattle.std.proofs.Math.Path.{refl, ap}
 use Rattle.std.proofs.Math.Option.{Option, none, some, some-injective, none-ne-some}
 use Rattle.std.proofs.Math.ListN.{length-drop}
 use Rattle.semantics.specs.Basic.{provided}
-use Rattle.semantics.specs.Answer.{Answer, refused, accepted, refuse, ◌>>=◌}
+use Rattle.semantics.specs.Answer.{Answer, accepted, refuse, ◌>>=◌}
 use Rattle.semantics.specs.Scenario.{Scenario, opened}
 use Rattle.semantics.specs.State.{State, initial}
 use Rattle.semantics.specs.Moves.{Move}

@@ -1,28 +1,18 @@
 -- `chosen` says whether values suit a read, and gives the names with them. Assumes nothing.
 use native.Mathlib.Omega.{arith}
-use native.Mathlib.Numerals.{add-one}
 use borrow.Author.Rules.{rules}
-use Prim.Native.Nat.{ℕ, suc, ◌+◌, ◌*◌, ◌-◌, ◌<◌, ◌≤◌}
-use mathlib.Core.Path.{◌≡◌, refl, sym, ap, subst, ◌∙◌}
+use Prim.Native.Nat.{ℕ, ◌+◌}
+use mathlib.Core.Path.{◌≡◌, sym, ap, subst, ◌∙◌}
 use mathlib.Core.List.{List}
-use lib.ListN.{length, get_or, set}
-use Rattle.semantics.specs.Term.{Atom}
+use lib.ListN.{length, get_or}
 use Rattle.semantics.specs.Table.{Row}
 use Rattle.semantics.specs.Runs.{atom_at}
-use Rattle.semantics.specs.Scenario.{Scenario}
-use Rattle.semantics.specs.State as definitions
-use Rattle.semantics.specs.State.{Active}
 use Rattle.rows.specs.Rows.{rows_of}
-use Rattle.cells.specs.Cells.{cell_of, cell_count}
+use Rattle.cells.specs.Cells.{cell_count}
 use Rattle.cells.specs.laws.Shape.{shape-sized}
-use Rattle.runs.specs.declared.RunEvent.{RunEvent}
-use Rattle.state.specs.declared.State.{State}
-use Rattle.state.specs.State.{NextMove}
-use Rattle.variables.specs.Variables.{Beneath, NextUnset, TellsValue}
+use Rattle.variables.specs.Variables.{NextUnset, TellsValue}
 use Rattle.values.specs.laws.Next.{no_more, another, variable-found}
 use Rattle.replay_choices.specs.laws.Values.{ValuesPart, part_none, part-suits, part-long, part-short, part-not, part-more, value-fits, taken-value, no_value, may-carry, part-carry}
-use borrow.Author.Tests.{not-true, not-false}
-use Rattle.replay_choices.proofs.chosen.Invariants.{Parted}
 use Rattle.replay_choices.proofs.chosen.Goals as goal
 
 pub beneath-below-requires : goal.beneath-below-requires
@@ -43,14 +33,12 @@ overflow_add-i c = record { fits = omega (arith, c.loop-names.invariant.0, c.loo
 
 pub returns-then-values-i : goal.returns-then-values-i
 returns-then-values-i c e sc d s a next same row kind =
-    
     let view = c.next_unset-x.ensures _ c.beneath-below.ensures in
     let view' : NextUnset (rows_of c.args.t.now) s.names (c.args.k + 1) e.row c.loop-names.from c.next_unset-x.result = rw (← same, ← row) view in
     part-suits next kind _ c.loop-names.from c.loop-names.i c.loop-names.more (c.loop-names.invariant.2 e sc d s a next same row kind) (no_more next c.requires.0.count c.loop-names.from _ view' c.if-x-n.true) c.if-values-i.true
 
 pub returns-then-x-n : goal.returns-then-x-n
 returns-then-x-n c e sc d s a next same row kind =
-    
     let view = c.next_unset-x.ensures _ c.beneath-below.ensures in
     let view' : NextUnset (rows_of c.args.t.now) s.names (c.args.k + 1) e.row c.loop-names.from c.next_unset-x.result = rw (← same, ← row) view in
     part-long next kind _ c.loop-names.from c.loop-names.i c.loop-names.more (c.loop-names.invariant.2 e sc d s a next same row kind) (no_more next c.requires.0.count c.loop-names.from _ view' c.if-x-n.true) c.if-values-i.false
@@ -60,7 +48,6 @@ overflow_add-i-in-loop-names c = record { fits = omega (arith, c.loop-names.inva
 
 pub returns-then-values-i-2 : goal.returns-then-values-i-2
 returns-then-values-i-2 c e sc d s a next same row kind =
-    
     let view = c.next_unset-x.ensures _ c.beneath-below.ensures in
     let view' : NextUnset (rows_of c.args.t.now) s.names (c.args.k + 1) e.row c.loop-names.from c.next_unset-x.result = rw (← same, ← row) view in
     let more = another next c.requires.0.count c.loop-names.from _ view' c.if-x-n.false in
@@ -74,7 +61,6 @@ may_take-requires c =
 
 pub returns-then-not-may_take : goal.returns-then-not-may_take
 returns-then-not-may_take c e sc d s a next same row kind =
-    
     let view = c.next_unset-x.ensures _ c.beneath-below.ensures in
     let view' : NextUnset (rows_of c.args.t.now) s.names (c.args.k + 1) e.row c.loop-names.from c.next_unset-x.result = rw (← same, ← row) view in
     let more = another next c.requires.0.count c.loop-names.from _ view' c.if-x-n.false in
@@ -110,7 +96,6 @@ loop-names-smaller c =
 
 pub loop-names-preserved : goal.loop-names-preserved
 loop-names-preserved c =
-    
     let view = c.next_unset-x.ensures _ c.beneath-below.ensures in
     let w = variable-found c.args.t.now c.args.n c.args.runs c.requires.0 _ _ _ _ _ view c.if-x-n.false in (
       omega (arith, w.0),

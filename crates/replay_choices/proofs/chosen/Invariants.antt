@@ -1,27 +1,16 @@
 -- `chosen` says whether values suit a read, and gives the names with them. Assumes nothing.
-use native.Mathlib.Omega.{arith}
-use native.Mathlib.Numerals.{add-one}
-use borrow.Author.Rules.{rules}
-use Prim.Native.Nat.{ℕ, suc, ◌+◌, ◌*◌, ◌-◌, ◌<◌, ◌≤◌}
-use mathlib.Core.Path.{◌≡◌, refl, sym, ap, subst, ◌∙◌}
+use Prim.Native.Nat.{ℕ, ◌*◌, ◌-◌, ◌≤◌}
+use mathlib.Core.Path.{◌≡◌}
 use mathlib.Core.List.{List}
-use lib.ListN.{length, get_or, set}
-use Rattle.semantics.specs.Term.{Atom}
-use Rattle.semantics.specs.Table.{Row}
-use Rattle.semantics.specs.Runs.{atom_at}
+use lib.ListN.{length}
 use Rattle.semantics.specs.Scenario.{Scenario}
 use Rattle.semantics.specs.State as definitions
 use Rattle.semantics.specs.State.{Active}
-use Rattle.rows.specs.Rows.{rows_of}
-use Rattle.cells.specs.Cells.{cell_of, cell_count}
-use Rattle.cells.specs.laws.Shape.{shape-sized}
+use Rattle.cells.specs.Cells.{cell_count}
 use Rattle.runs.specs.declared.RunEvent.{RunEvent}
 use Rattle.state.specs.declared.State.{State}
 use Rattle.state.specs.State.{NextMove}
-use Rattle.variables.specs.Variables.{Beneath, NextUnset, TellsValue}
-use Rattle.values.specs.laws.Next.{no_more, another, variable-found}
-use Rattle.replay_choices.specs.laws.Values.{ValuesPart, part_none, part-suits, part-long, part-short, part-not, part-more, value-fits, taken-value, no_value, may-carry, part-carry}
-use borrow.Author.Tests.{not-true, not-false}
+use Rattle.replay_choices.specs.laws.Values.{ValuesPart}
 use Rattle.replay_choices.proofs.chosen.Given as goal
 
 abbrev pub Parted : List ℕ → ℕ → ℕ → ℕ → List ℕ → List ℕ → List ℕ → ℕ → ℕ → Type 0

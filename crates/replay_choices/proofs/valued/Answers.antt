@@ -1,7 +1,5 @@
 -- `valued` says whether values suit the next event of a run. Assumes nothing.
-use native.Mathlib.Omega.{arith}
-use borrow.Author.Rules.{rules}
-use mathlib.Core.Path.{◌≡◌, refl}
+use mathlib.Core.Path.{refl}
 use Rattle.replay_choices.specs.laws.Values.{none-suit, some-suit-not}
 use Rattle.replay_choices.proofs.valued.Goals as goal
 

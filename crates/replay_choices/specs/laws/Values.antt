@@ -1,5 +1,5 @@
 -- New values in a trace, taken one after the other: whether they suit a read, and the names with them. Assumes nothing.
-use Rattle.std.specs.Prelude.{ℕ, suc, ◌+◌, ◌<◌, ◌≤◌, ◌≡◌, refl, Bool, true, false, ◌&&◌, List, [], ◌∷◌, ◌++◌, T, length, get_or, drop, set}
+use Rattle.std.specs.Prelude.{ℕ, suc, ◌+◌, ◌<◌, ◌≤◌, ◌≡◌, refl, Bool, true, false, List, [], ◌∷◌, ◌++◌, T, length, get_or, drop, set}
 use Rattle.std.proofs.Common.{add-one, arith, sym, ap, ◌∙◌, subst, true≢false, append_assoc, append-nil, length-drop, drop-cons}
 use Rattle.std.proofs.Math.Option.{some, some-injective}
 use Rattle.semantics.specs.Term.{Atom}
@@ -13,13 +13,12 @@ use Rattle.semantics.specs.Replay.{is_value_of, suits, values_in}
 use Rattle.cells.specs.Cells.{cell_of, absent}
 use Rattle.runs.specs.declared.RunEvent.{RunEvent}
 use Rattle.state.specs.declared.State.{State as CodeState}
-use Rattle.state.specs.State.{IsState, NextMove, Sets}
+use Rattle.state.specs.State.{NextMove, Sets}
 use Rattle.state.specs.laws.Ready.{none-set}
 use Rattle.variables.specs.Variables.{unset_from, TellsValue, takes, takes_not, NamesAtom}
 use Rattle.values.specs.Values.{Setting}
 use Rattle.values.specs.laws.Values.{setting-none, setting-more, setting-all}
 use Rattle.values.specs.laws.Next.{nothing-set}
-use Rattle.replay_choices.specs.declared.Choice.{Choice}
 use Rattle.replay_choices.specs.Choices.{Suited, is_suited, not_suited}
 
 -- the values in some bytes, from the first on

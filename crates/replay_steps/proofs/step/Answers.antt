@@ -3,18 +3,17 @@ use native.Mathlib.Omega.{arith}
 use borrow.Author.Rules.{rules}
 use Prim.Native.Nat.{ℕ, suc, ◌+◌, ◌*◌, ◌-◌, ◌<◌, ◌≤◌}
 use mathlib.Core.Path.{◌≡◌, refl, sym, ap, ◌∙◌}
-use mathlib.Core.Option.{none, some}
-use mathlib.Core.Bool.{Bool, true, false}
+use mathlib.Core.Option.{some}
+use mathlib.Core.Bool.{Bool, true}
 use mathlib.Core.List.{List}
 use lib.ListN.{length, get_or, take, drop}
 use Rattle.semantics.specs.Scenario.{Scenario}
 use Rattle.semantics.specs.State as definitions
 use Rattle.semantics.specs.State.{Active, active}
-use Rattle.semantics.specs.Moves.{to_set, performed}
 use Rattle.semantics.specs.Replay.{suits, values_in}
 use Rattle.rows.specs.Rows.{rows_of}
 use Rattle.state.specs.declared.State.{State}
-use Rattle.state.specs.State.{Given, Due, IsState, NextMove, Sets}
+use Rattle.state.specs.State.{Given, Due, IsState, NextMove}
 use Rattle.state.specs.laws.Active.{active-zero, active-high, run-ended, Coming, run-coming, coming-move, coming-due}
 use Rattle.runs.specs.declared.RunEvent.{RunEvent}
 use Rattle.runs.specs.declared.Runs.{Runs}
@@ -23,8 +22,8 @@ use Rattle.moves.specs.Moves.{AtEvent}
 use Rattle.moves.specs.laws.Allowed.{told-some, told_none}
 use Rattle.replay_choices.specs.Choices.{Suited}
 use Rattle.replay_choices.specs.declared.Choice.{Choice}
-use Rattle.replay_steps.specs.Steps.{StepDone, Worked}
-use Rattle.replay_steps.specs.laws.Steps.{Refuses, refuses-short, refuses-cut, refuses-inactive, refuses-unsuited, suited-sets, step-refused, step-performed, suited-none, worked-ready}
+use Rattle.replay_steps.specs.Steps.{Worked}
+use Rattle.replay_steps.specs.laws.Steps.{refuses-short, refuses-cut, refuses-inactive, refuses-unsuited, suited-sets, step-refused, step-performed, suited-none, worked-ready}
 use Rattle.replay_steps.proofs.step.Goals as goal
 
 -- a run's number and its index

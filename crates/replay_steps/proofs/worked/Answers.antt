@@ -1,8 +1,6 @@
 -- `worked` works on classes and marks for a read, and leaves them for any other event. Assumes nothing.
-use native.Mathlib.Omega.{arith}
-use borrow.Author.Rules.{rules}
-use mathlib.Core.Path.{◌≡◌, refl}
-use Rattle.replay_steps.specs.Steps.{Worked, for_read, for_other}
+use mathlib.Core.Path.{refl}
+use Rattle.replay_steps.specs.Steps.{for_read, for_other}
 use Rattle.replay_steps.proofs.worked.Goals as goal
 
 pub returns-then-kind-eq-READ : goal.returns-then-kind-eq-READ

@@ -1,5 +1,5 @@
 -- `event_count` sums the events of the runs. The loop's invariant: the sum is that of the runs passed. The measure is how many runs are left. Assumes nothing.
-use Prim.Native.Nat.{ℕ, ◌*◌, ◌-◌, ◌≤◌}
+use Prim.Native.Nat.{ℕ}
 use native.Mathlib.Omega.{arith}
 use borrow.Author.Rules.{rules}
 use mathlib.Core.Path.{◌≡◌, ap, ◌∙◌}

@@ -1,6 +1,4 @@
 -- `judged` is the verdict on an accepted file, by the walk through its list. Assumes nothing.
-use native.Mathlib.Omega.{arith}
-use borrow.Author.Rules.{rules}
 use Rattle.answers.specs.Answers.{scenario_in}
 use Rattle.search_runs.specs.Runs.{list_as}
 use Rattle.runs.specs.laws.Blocks.{opened-framed}

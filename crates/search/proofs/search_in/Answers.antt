@@ -1,5 +1,4 @@
 -- `search_in` opens a file, asks for the buffer's length and judges the file. Assumes nothing.
-use borrow.Author.Rules.{rules}
 use mathlib.Core.Path.{sym, ap, ◌∙◌}
 use Rattle.answers.specs.Answers.{searched_as}
 use Rattle.search_runs.specs.Runs.{list_as}

@@ -4,7 +4,6 @@ use borrow.Author.Rules.{rules}
 use Rattle.cells.specs.laws.Shape.{shape-sized}
 use mathlib.Core.Path.{◌≡◌, refl, ◌∙◌}
 use lib.ListN.{length}
-use Rattle.semantics.specs.Scenario.{Scenario}
 use Rattle.runs.specs.laws.Blocks.{opened-framed}
 use Rattle.state.specs.laws.Given.{opened-knowledge, given-layout}
 use Rattle.search_same.specs.laws.Memory.{remembers-start}

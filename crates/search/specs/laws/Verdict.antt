@@ -1,18 +1,14 @@
 -- The verdict by what the walk through a whole list finds, and Search by the verdict. Assumes nothing.
-use Rattle.std.specs.Prelude.{ℕ, zero, suc, ◌+◌, ◌<◌, ◌≤◌, ◌≡◌, Bool, true, false, List, [], ◌∷◌, ◌++◌, map, ltb, length, drop, replicate}
+use Rattle.std.specs.Prelude.{ℕ, ◌+◌, ◌≤◌, ◌≡◌, Bool, true, false, List, ◌++◌, ltb, length, drop}
 use Rattle.std.proofs.Common.{arith, ◌∙◌, ltb-false}
 use Rattle.std.proofs.Math.Path.{refl, sym, ap}
-use Rattle.std.proofs.Math.Option.{some, some-injective, none-ne-some}
-use Rattle.std.proofs.Math.ListN.{get_elem?}
 use Rattle.semantics.specs.Basic.{provided}
-use Rattle.semantics.specs.Answer.{Answer, refused, accepted, checked, ◌>>=◌, ◌>>◌}
+use Rattle.semantics.specs.Answer.{Answer, refused, accepted, checked, ◌>>◌}
 use Rattle.semantics.specs.Frame.{budget_of}
 use Rattle.semantics.specs.Scenario.{Scenario, scenario_of, opened}
-use Rattle.semantics.specs.Runs.{Run}
-use Rattle.semantics.specs.State.{Progress, initial, events_left}
+use Rattle.semantics.specs.State.{initial, events_left}
 use Rattle.semantics.specs.Moves.{Listing, moves_in}
-use Rattle.semantics.specs.Tree.{listed, stays}
-use Rattle.semantics.specs.Verdict.{Entry, Finding, found, nothing, cut, walked, Verdict, verdict_from, verdict, trace_list, trace_bytes, short_buffer, written, searched_in, buffer_in}
+use Rattle.semantics.specs.Verdict.{Finding, found, nothing, cut, walked, Verdict, verdict_from, verdict, trace_list, trace_bytes, short_buffer, written, searched_in, buffer_in}
 use Rattle.semantics.proofs.laws.Open.{opened-inverts}
 use Rattle.answers.specs.Answers.{scenario_in, checked_as, opened_as, verdict_as, searched_as, answered}
 use Rattle.answers.specs.laws.Answers.{opened-refused, answer-found}

@@ -1,6 +1,5 @@
 -- `write_before` writes a step before a break's trace, and nothing otherwise. Assumes nothing.
 use native.Mathlib.Omega.{arith}
-use borrow.Author.Rules.{rules}
 use mathlib.Core.Bool.{false}
 use mathlib.Core.Path.{◌≡◌, refl, sym, ap, ◌∙◌}
 use Rattle.answers.specs.declared.Break.{Break}

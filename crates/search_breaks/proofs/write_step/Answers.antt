@@ -1,7 +1,7 @@
 -- `write_step` writes a step over the bytes from a place on. Assumes nothing.
 use native.Mathlib.Omega.{arith}
 use borrow.Author.Rules.{rules}
-use Prim.Native.Nat.{ℕ, ◌+◌, ◌*◌, ◌-◌, ◌≤◌}
+use Prim.Native.Nat.{ℕ, ◌+◌, ◌*◌}
 use mathlib.Core.Path.{◌≡◌, refl, sym, ap, ◌∙◌}
 use mathlib.Core.List.{List}
 use lib.ListN.{length, get_or, take, set, length-set}
@@ -24,7 +24,6 @@ bounds-trace-at-in-loop-i c = omega (arith, c.loop-i.invariant.1, c.loop-i.invar
 
 pub loop-i-preserved : goal.loop-i-preserved
 loop-i-preserved c =
-    
     let size : length c.args.values.bytes ≡ 16 = search rules in
     let low = c.loop-i-test.true in (
       omega (arith, low),
@@ -38,7 +37,6 @@ shape_of-trace c = c.loop-i.invariant.2 ∙ lengths c.args.trace.now _ _ _ _
 
 pub returns : goal.returns
 returns c =
-    
     let end : c.loop-i.i ≡ 2 * c.args.values.count = omega (arith, c.loop-i-test.false, c.loop-i.invariant.0) in
     c.loop-i.invariant.3 ∙ ap (λ (m : ℕ). over (set (set c.args.trace.now c.args.at c.args.run) (c.args.at + 1) c.args.values.count) (c.args.at + 2) (take m c.args.values.bytes)) end
     ∙ over-step c.args.trace.now c.args.at c.args.run c.args.values.count (take (2 * c.args.values.count) c.args.values.bytes) (omega (arith, c.requires.0))

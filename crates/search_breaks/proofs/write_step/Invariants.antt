@@ -1,12 +1,8 @@
 -- `write_step` writes a step over the bytes from a place on. Assumes nothing.
-use native.Mathlib.Omega.{arith}
-use borrow.Author.Rules.{rules}
-use Prim.Native.Nat.{ℕ, ◌+◌, ◌*◌, ◌-◌, ◌≤◌}
-use mathlib.Core.Path.{◌≡◌, refl, sym, ap, ◌∙◌}
-use mathlib.Core.List.{List}
-use lib.ListN.{length, get_or, take, set, length-set}
+use Prim.Native.Nat.{◌+◌, ◌-◌, ◌≤◌}
+use mathlib.Core.Path.{◌≡◌}
+use lib.ListN.{length, take}
 use Rattle.search_breaks.specs.Walk.{over}
-use Rattle.search_breaks.specs.laws.Bytes.{over_none, over-next, over-step}
 use Rattle.search_breaks.proofs.write_step.Given as goal
 
 abbrev pub invariant-loop-i : goal.invariant-loop-i

@@ -1,7 +1,7 @@
 -- Bytes written over others, and the bytes of values. Assumes nothing.
-use Rattle.std.specs.Prelude.{ℕ, zero, suc, ◌+◌, ◌*◌, ◌-◌, ◌<◌, ◌≤◌, ◌≡◌, refl, true, false, List, [], ◌∷◌, ◌++◌, length, get_or, take, drop, set}
-use Rattle.std.proofs.Common.{add-one, arith, sym, ap, ◌∙◌, subst, true≢false, append_assoc, append-nil, length-append, length-take, length-drop, length-set, take-append-drop, take-suc, take-suc-set, drop-cons, length-take-le, take_at, drop_at, take-take, drop-drop}
-use Rattle.std.proofs.lemmas.List.{take-set-le, set_at, take-append-le, set_split}
+use Rattle.std.specs.Prelude.{ℕ, suc, ◌+◌, ◌*◌, ◌<◌, ◌≤◌, ◌≡◌, refl, true, false, List, [], ◌∷◌, ◌++◌, length, get_or, take, drop, set}
+use Rattle.std.proofs.Common.{add-one, arith, sym, ap, ◌∙◌, true≢false, append_assoc, length-append, length-drop, length-set, take-append-drop, take-suc, take-suc-set, drop-cons, length-take-le, take_at, drop_at, take-take, drop-drop}
+use Rattle.std.proofs.lemmas.List.{set_at, take-append-le}
 use Rattle.semantics.specs.State.{Value}
 use Rattle.semantics.specs.Verdict.{value_bytes}
 use Rattle.search_breaks.specs.declared.Values.{Values}

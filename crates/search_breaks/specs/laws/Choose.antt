@@ -1,13 +1,10 @@
 -- The walk through the values of one more variable of a read. Assumes nothing.
-use Rattle.std.specs.Prelude.{ℕ, zero, suc, ◌+◌, ◌*◌, ◌-◌, ◌<◌, ◌≤◌, ◌≡◌, refl, Bool, true, false, ◌&&◌, not, T, length, get_or, set}
+use Rattle.std.specs.Prelude.{ℕ, suc, ◌+◌, ◌-◌, ◌<◌, ◌≤◌, ◌≡◌, refl, Bool, true, false, T, length, set}
 use Rattle.std.proofs.Common.{add-one, arith, sym, ap, ◌∙◌, subst, length-append}
 use mathlib.Core.List.Memᴰ
 use mathlib.Core.List.Memᴰ.{head as first}
-use mathlib.Core.List.{List, [], ◌∷◌, ◌++◌, map, append_assoc, append-nil, Memᴰ}
-use Rattle.std.proofs.Math.Option.{Option, none, some}
-use Rattle.std.proofs.Math.ListN.{get_elem?}
-use Rattle.semantics.specs.Basic.{joined, present, keep, present_ones, numbers_from}
-use Rattle.semantics.specs.Limits.{most_variables}
+use mathlib.Core.List.{List, [], ◌∷◌, ◌++◌, append_assoc, append-nil, Memᴰ}
+use Rattle.std.proofs.Math.Option.{some}
 use Rattle.semantics.specs.Term.{VariableType, Atom, trusted, untrusted, global, intruder, role, variable, local}
 use Rattle.semantics.specs.Table.{Row, variable_atom}
 use Rattle.semantics.specs.Runs.{atom_at}
@@ -23,7 +20,6 @@ use Rattle.cells.specs.Cells.{cell_of}
 use Rattle.classes.specs.Classes.{Refilled}
 use Rattle.knowledge.specs.Marks.{Settled}
 use Rattle.runs.specs.declared.RunEvent.{RunEvent}
-use Rattle.runs.specs.declared.Runs.{Runs}
 use Rattle.state.specs.declared.State.{State as CodeState}
 use Rattle.variables.specs.declared.NextValue.{NextValue}
 use Rattle.variables.specs.declared.NextValue.TheVariants.{Value as is_value, Nothing}
@@ -35,14 +31,14 @@ use Rattle.values.specs.laws.Arrays.{part-more, part-ready}
 use Rattle.values.specs.laws.Next.{no_more, Another, another}
 use Rattle.search_breaks.specs.declared.Values.{Values}
 use Rattle.answers.specs.declared.Walked.{Walked}
-use Rattle.answers.specs.declared.Walked.TheVariants.{Broken, Clean, Cut}
+use Rattle.answers.specs.declared.Walked.TheVariants.{Clean}
 use Rattle.search_findings.specs.Findings.{behind_as, is_clean, count_of, size_of}
 use Rattle.search_breaks.specs.declared.Choice.{Choice}
 use Rattle.search_breaks.specs.declared.Course.{Course}
 use Rattle.search_breaks.specs.declared.Plan.{Plan}
 use Rattle.search_breaks.specs.declared.Reach.{Reach}
 use Rattle.search_breaks.specs.Walk.{Finds, below, branches, ValuesAre, AtMove, Choosing, Chosen, SomeChoice, SomeMove, read_branches, FindsRead, FindsChoice, FindsMove}
-use Rattle.search_breaks.specs.laws.Entries.{values_of, branches-more, branches-pruned}
+use Rattle.search_breaks.specs.laws.Entries.{values_of, branches-more}
 use Rattle.search_breaks.specs.laws.Finds.{Passed, passed_none, passed-all, finds-size, passed_on, passed-stops}
 use Rattle.search_breaks.specs.laws.Walk.{finds-same}
 

@@ -1,5 +1,5 @@
 -- The entries below a state: by run, by the values of one variable after the other, and after a move. Assumes nothing.
-use Rattle.std.specs.Prelude.{ℕ, zero, suc, ◌+◌, ◌-◌, ◌<◌, ◌≤◌, ◌≡◌, refl, length}
+use Rattle.std.specs.Prelude.{ℕ, suc, ◌-◌, ◌<◌, ◌≤◌, ◌≡◌, refl, length}
 use Rattle.std.proofs.Common.{arith, sym, ◌∙◌}
 use Rattle.std.proofs.Math.Path.{ap, fun_ext}
 use mathlib.Core.List.{List, [], ◌∷◌, ◌++◌, map, append_assoc, append-nil, Memᴰ}
@@ -16,7 +16,7 @@ use Rattle.semantics.proofs.laws.Traces.{step_in}
 use Rattle.semantics.proofs.laws.Tree.{listed_suc}
 use Rattle.search_runs.specs.Runs.{list_as}
 use Rattle.search_breaks.specs.declared.Plan.{Plan}
-use Rattle.search_breaks.specs.Walk.{next_in, entries_from, after_move, below, of_run, branches}
+use Rattle.search_breaks.specs.Walk.{next_in, entries_from, after_move, below, branches}
 
 module _ {A B : Type 0} (f : A → List B) where
   joined-append : (xs ys : List A) → joined f (xs ++ ys) ≡ joined f xs ++ joined f ys

@@ -1,11 +1,11 @@
 -- A walk in parts: what is passed so far, and what the next part adds. Assumes nothing.
-use Rattle.std.specs.Prelude.{ℕ, zero, suc, ◌+◌, ◌-◌, ◌<◌, ◌≤◌, List, [], ◌∷◌, ◌++◌, length, Bool, true, false}
-use Rattle.std.proofs.Common.{arith, sym, ap, ◌∙◌, subst, append_assoc, append-nil, length-append, true≢false}
+use Rattle.std.specs.Prelude.{ℕ, zero, suc, ◌+◌, ◌-◌, ◌<◌, ◌≤◌, List, [], ◌∷◌, ◌++◌, length, true, false}
+use Rattle.std.proofs.Common.{arith, sym, ap, ◌∙◌, append_assoc, append-nil, length-append, true≢false}
 use Rattle.std.proofs.Math.Path.{◌≡◌, refl}
 use Rattle.std.proofs.Math.Option.{Option, none, some, none-ne-some}
 use Rattle.semantics.specs.State.{Claim}
 use Rattle.semantics.specs.Scenario.{Scenario}
-use Rattle.semantics.specs.Verdict.{Entry, Finding, found, nothing, cut, later, walked}
+use Rattle.semantics.specs.Verdict.{Entry, Finding, found, nothing, cut, walked}
 use Rattle.answers.specs.declared.Break.{Break}
 use Rattle.answers.specs.declared.Walked.{Walked}
 use Rattle.answers.specs.declared.Walked.TheVariants.{Broken, Clean, Cut}

@@ -9,7 +9,7 @@ use Rattle.semantics.specs.Scenario.{Scenario}
 use Rattle.semantics.specs.State.{Value, State, Claim}
 use Rattle.semantics.specs.Moves.{Move, performed}
 use Rattle.semantics.specs.Tree.{stays, moves}
-use Rattle.semantics.specs.Verdict.{Entry, found, nothing, walked, value_bytes, move_bytes, trace_bytes}
+use Rattle.semantics.specs.Verdict.{Entry, found, walked, value_bytes, move_bytes, trace_bytes}
 use Rattle.semantics.specs.Allowed.{Step, step, AllowedTrace}
 use Rattle.semantics.proofs.laws.Tree.{follows-append, follows-map, listed-sound}
 use Rattle.semantics.proofs.laws.Moves.{performed-exact}

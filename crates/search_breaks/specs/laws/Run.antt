@@ -1,38 +1,37 @@
 -- The walk through the traces that go on with one run: no event to come, a read whose values are to be chosen, or another event. Assumes nothing.
-use Rattle.std.specs.Prelude.{ℕ, zero, suc, ◌+◌, ◌*◌, ◌<◌, ◌≤◌, ◌≡◌, refl, Bool, length, get_or}
+use Rattle.std.specs.Prelude.{ℕ, suc, ◌<◌, ◌≤◌, ◌≡◌, refl, Bool, length, get_or}
 use Rattle.std.proofs.Common.{arith, sym, ◌∙◌, subst}
 use Rattle.std.proofs.Math.Path.{ap}
-use mathlib.Core.List.{List, [], ◌∷◌, ◌++◌}
-use Rattle.std.proofs.Math.Option.{Option, none, some, some-injective}
+use mathlib.Core.List.{List, []}
+use Rattle.std.proofs.Math.Option.{some, some-injective}
 use Rattle.std.proofs.Math.ListN.{get_elem?}
 use Rattle.semantics.specs.Term.{Atom}
-use Rattle.semantics.specs.Roles.{Event, EventKind, read, event_kinds}
+use Rattle.semantics.specs.Roles.{Event, read, event_kinds}
 use Rattle.semantics.specs.Runs.{Run}
 use Rattle.semantics.specs.Scenario.{Scenario}
 use Rattle.semantics.specs.Guarantee.{Guarantee}
-use Rattle.semantics.specs.State.{Value, State, Active, active, events_of}
+use Rattle.semantics.specs.State.{Active, events_of}
 use Rattle.semantics.specs.Allowed.{Takes, takes_none}
 use Rattle.runs.specs.declared.RunEvent.{RunEvent}
 use Rattle.runs.specs.declared.Runs.{Runs}
 use Rattle.runs.specs.Runs.{RunsAt, EventRead}
-use Rattle.state.specs.State.{Given, NextMove}
+use Rattle.state.specs.State.{Given}
 use Rattle.state.specs.laws.Active.{run-ended, Coming, run-coming, coming-move, coming-due}
 use Rattle.state.specs.laws.Ready.{none-ready}
 use Rattle.rows.specs.Rows.{rows_of}
-use Rattle.variables.specs.Variables.{Beneath, unset_from}
+use Rattle.variables.specs.Variables.{Beneath}
 use Rattle.values.specs.Values.{Setting}
-use Rattle.values.specs.laws.Values.{setting-none, setting-all}
+use Rattle.values.specs.laws.Values.{setting-none}
 use Rattle.values.specs.laws.Next.{nothing-set}
 use Rattle.values.specs.laws.Arrays.{part_none}
 use Rattle.search_breaks.specs.declared.Values.{Values}
 use Rattle.answers.specs.declared.Walked.{Walked}
 use Rattle.answers.specs.declared.Walked.TheVariants.{Clean}
-use Rattle.search_breaks.specs.declared.Choice.{Choice}
 use Rattle.search_breaks.specs.declared.Course.{Course}
 use Rattle.search_breaks.specs.declared.Plan.{Plan}
 use Rattle.search_breaks.specs.declared.Reach.{Reach}
 use Rattle.search_breaks.specs.declared.Turn.{Turn}
-use Rattle.search_breaks.specs.Walk.{Finds, below, of_run, branches, ValuesAre, state_of, Here, AtMove, Choosing, Chosen, SomeClear, SomeChoice, SomeMove, FindsChoice, FindsMove}
+use Rattle.search_breaks.specs.Walk.{Finds, below, of_run, branches, ValuesAre, state_of, Here, AtMove, SomeClear, SomeChoice, SomeMove, FindsChoice, FindsMove}
 use Rattle.search_breaks.specs.laws.Entries.{run_none, run-some}
 use Rattle.search_breaks.specs.laws.Walk.{finds-nil, finds-same}
 

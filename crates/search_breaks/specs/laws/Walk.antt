@@ -1,5 +1,5 @@
 -- The walk from a state: its own trace, then those that go on with each run in order. Assumes nothing.
-use Rattle.std.specs.Prelude.{ℕ, zero, suc, ◌+◌, ◌-◌, ◌<◌, ◌≤◌, ◌≡◌, Bool, true, false, List, [], ◌∷◌, ◌++◌, eqb, length}
+use Rattle.std.specs.Prelude.{ℕ, zero, suc, ◌+◌, ◌-◌, ◌<◌, ◌≤◌, ◌≡◌, true, false, List, [], ◌∷◌, ◌++◌, eqb}
 use Rattle.std.proofs.Common.{add-one, arith, sym, ap, ◌∙◌, subst, true≢false, eqb-true}
 use Rattle.std.proofs.Math.Path.{refl}
 use Rattle.std.proofs.Math.Option.{Option, none, some, some-injective, none-ne-some}
@@ -9,14 +9,14 @@ use Rattle.semantics.specs.State.{State}
 use Rattle.semantics.specs.Basic.{numbers_from}
 use Rattle.semantics.specs.Moves.{Move, runs_in}
 use Rattle.semantics.specs.Tree.{listed}
-use Rattle.semantics.specs.Verdict.{Entry, Finding, found, nothing, cut, later, walked, broken, trace_bytes}
+use Rattle.semantics.specs.Verdict.{Entry, Finding, found, later, walked, broken, trace_bytes}
 use Rattle.semantics.specs.State as states
 use Rattle.semantics.proofs.laws.Tree.{listed-zero, listed_suc}
-use Rattle.answers.specs.Answers.{claim_as, claimed_as, walked_as}
+use Rattle.answers.specs.Answers.{claimed_as, walked_as}
 use Rattle.answers.specs.declared.Claimed.{Claimed}
 use Rattle.answers.specs.declared.Walked.{Walked}
-use Rattle.answers.specs.declared.Walked.TheVariants.{Broken, Clean, Cut}
-use Rattle.search_findings.specs.Findings.{own_break, own_as, goes_on, count_of}
+use Rattle.answers.specs.declared.Walked.TheVariants.{Clean, Cut}
+use Rattle.search_findings.specs.Findings.{own_as, goes_on, count_of}
 use Rattle.search_runs.specs.Runs.{list_as, Standing}
 use Rattle.state.specs.declared.State.{State as CodeState}
 use Rattle.search_breaks.specs.declared.Plan.{Plan}

@@ -6,7 +6,6 @@ use Rattle.std.proofs.Math.Option.{none, none-ne-some}
 use Rattle.semantics.specs.Scenario.{Scenario}
 use Rattle.semantics.specs.State.{State}
 use Rattle.semantics.specs.Moves.{Move}
-use Rattle.semantics.specs.Verdict as verdicts
 use Rattle.semantics.specs.Verdict.{Entry, Finding, nothing, cut, walked}
 use Rattle.semantics.specs.Allowed.{AllowedTrace}
 use Rattle.semantics.specs.Guarantee.{Guarantee}
@@ -19,7 +18,6 @@ use Rattle.search_runs.specs.Runs.{list_as}
 use Rattle.search_breaks.specs.declared.Plan.{Plan}
 use Rattle.answers.specs.Answers.{walked_as}
 use Rattle.search_breaks.specs.Walk.{judged, buffer_as, Finds, next_in, entries_from}
-use Rattle.search_breaks.specs.laws.Walked.{nothing-within}
 use Rattle.search_breaks.specs.laws.Finds.{answer-clean}
 use Rattle.semantics.specs.Same.{Each, nil, cons, Same, SameEntry}
 use Rattle.state.specs.State.{Placed}

@@ -1,9 +1,6 @@
 -- A move to a state that the memory may know: what is answered if it does, and that the memory stays right once the state is stored. Assumes nothing.
-use Rattle.std.specs.Prelude.{ℕ, suc, ◌+◌, ◌<◌, ◌≤◌, ◌≡◌, refl, Bool, true, false, not, List, [], ◌∷◌, ◌++◌, T, ltb, length, get_or, set}
-use Rattle.std.proofs.Common.{arith, sym, ◌∙◌, subst, ltb-true, ltb-false}
-use Rattle.std.proofs.Math.Option.{Option, none, some}
-use Rattle.semantics.specs.Basic.{present}
-use Rattle.semantics.proofs.laws.Test.{present-some, absent_none}
+use Rattle.std.specs.Prelude.{ℕ, ◌+◌, ◌<◌, ◌≡◌, refl, Bool, true, false, List, [], ◌∷◌, ◌++◌, ltb, length, get_or, set}
+use Rattle.std.proofs.Common.{◌∙◌, ltb-true, ltb-false}
 use Rattle.search_memory.specs.Memory.{IsKey, LookedUp, Kept}
 use Rattle.answers.specs.declared.Walked.{Walked}
 use Rattle.answers.specs.declared.Walked.TheVariants as answers
@@ -13,7 +10,7 @@ use Rattle.search_breaks.specs.declared.Course.{Course}
 use Rattle.search_breaks.specs.declared.Plan.{Plan}
 use Rattle.search_breaks.specs.declared.Reach.{Reach}
 use Rattle.search_breaks.specs.declared.Turn.{Turn}
-use Rattle.search_breaks.specs.Walk.{Finds, ReachedBy, entries_from, step_size, SomeMove, SomeStep, FindsAfter}
+use Rattle.search_breaks.specs.Walk.{Finds, ReachedBy, entries_from, step_size, SomeStep, FindsAfter}
 use Rattle.search_breaks.specs.laws.Move.{taken, move-allowed, move-clean, move-cut}
 use Rattle.state.specs.State.{Placed}
 use Rattle.search_same.specs.Clean.{Clean}

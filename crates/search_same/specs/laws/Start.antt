@@ -1,6 +1,6 @@
 -- The state before any move, where the walk begins, and what is found from there. Assumes nothing.
-use Rattle.std.specs.Prelude.{ℕ, zero, suc, ◌<◌, ◌≤◌, ◌≡◌, refl, List, [], ◌∷◌, map, replicate}
-use Rattle.std.proofs.Common.{arith, sym, ap, ◌∙◌}
+use Rattle.std.specs.Prelude.{ℕ, zero, suc, ◌≡◌, refl, List, [], ◌∷◌, map, replicate}
+use Rattle.std.proofs.Common.{arith, ap, ◌∙◌}
 use Rattle.std.proofs.Math.Option.{some, some-injective, none-ne-some}
 use Rattle.std.proofs.Math.ListN.{get_elem?}
 use Rattle.semantics.specs.Answer.{accepted}
@@ -15,7 +15,6 @@ use Rattle.search_memory.specs.laws.Words.{zeros-read}
 use Rattle.answers.specs.declared.Walked.{Walked}
 use Rattle.search_runs.specs.Runs.{list_as}
 use Rattle.search_breaks.specs.declared.Plan.{Plan}
-use Rattle.search_breaks.specs.declared.Reach.{Reach}
 use Rattle.search_breaks.specs.Walk.{state_of, next_in, FindsAll, SomeState, FindsFrom}
 
 -- no run has made an event before any move

@@ -2,23 +2,19 @@
 -- The measure is the depth, and within it the functions in their order and the rows left. Assumes nothing.
 use native.Mathlib.Omega.{arith}
 use borrow.Author.Rules.{rules}
-use borrow.Author.Tests.{not-true, not-false}
-use Prim.Native.Nat.{ℕ, suc, ◌+◌, ◌*◌, ◌-◌, ◌<◌, ◌≤◌}
+use Prim.Native.Nat.{ℕ, suc, ◌-◌}
 use mathlib.Core.Path.{◌≡◌, refl, sym, ap, ◌∙◌}
 use mathlib.Core.List.{List}
-use mathlib.Core.Option.{none}
-use lib.ListN.{length, get_or, length-set}
-use Rattle.semantics.specs.Verdict.{broken}
+use lib.ListN.{length, get_or}
 use Rattle.cells.specs.laws.Shape.{shape-sized}
 use Rattle.variables.specs.laws.Values.{value-falls}
-use Rattle.search_breaks.specs.Walk.{state_of, entries_from, SomeState, SomeChoice, state_clear}
-use Rattle.search_breaks.specs.laws.Finds.{Passed, finds-size, finds-count, passed_on, passed-stops}
-use Rattle.search_breaks.specs.laws.Entries.{runs_from, branches-pruned}
+use Rattle.search_breaks.specs.Walk.{state_clear}
+use Rattle.search_breaks.specs.laws.Finds.{finds-size, finds-count, passed_on, passed-stops}
+use Rattle.search_breaks.specs.laws.Entries.{branches-pruned}
 use Rattle.search_breaks.specs.laws.Walk as from-state
 use Rattle.search_breaks.specs.laws.Run as of-run
 use Rattle.search_breaks.specs.laws.Choose as of_values
 use Rattle.search_breaks.specs.laws.Move as of-move
-use Rattle.search_same.specs.Memory.{Remembers}
 use Rattle.search_same.specs.laws.Memory.{room-on}
 use Rattle.search_same.specs.laws.Known as known
 use Rattle.search_walk.proofs.+walk_walk_after_walk_move_walk_run_walk_values.Goals as goal
@@ -118,9 +114,9 @@ pub walk_after-returns-then-known-gt0 : goal.walk_after-returns-then-known-gt0
 walk_after-returns-then-known-gt0 t c =
     let many : length c.args.course.done ≡ 4 = search (rules, c.well_formed) in
     record {
-  finds_step = λ m. known.known-finds c.args.reach m many c.advance-next.ensures c.requires.room.remembers c.key_of-key.ensures c.look_up-known.ensures c.if-known-gt0.true c.known.ensures c.args.trace.now;
-  remembers = c.requires.room.remembers;
-}
+      finds_step = λ m. known.known-finds c.args.reach m many c.advance-next.ensures c.requires.room.remembers c.key_of-key.ensures c.look_up-known.ensures c.if-known-gt0.true c.known.ensures c.args.trace.now;
+      remembers = c.requires.room.remembers;
+    }
 
 pub walk_after-perform-after-requires : goal.walk_after-perform-after-requires
 walk_after-perform-after-requires t c = let m = c.requires.some_step.of in (m.move.clear.here.reached.given.shape, (m.move.due, m.chosen.ready.arrays.classed.size))
@@ -160,10 +156,10 @@ pub walk_after-returns : goal.walk_after-returns
 walk_after-returns t c =
     let many : length c.args.course.done ≡ 4 = search (rules, c.well_formed) in
     record {
-  finds_step = λ m. of-move.step-finds c.args.reach m c.perform-after.ensures many c.advance-next.ensures c.walk-found.ensures.finds_from c.requires.room.buffer c.write_before.ensures c.after_step.ensures;
-  remembers = let found = of-move.found_after c.args.reach c.requires.some_step c.perform-after.ensures many c.advance-next.ensures c.walk-found.ensures.finds_from in
-      known.kept-right c.args.reach c.requires.some_step many c.advance-next.ensures c.walk-found.ensures.remembers c.key_of-key.ensures _ found (rw c.count_of.ensures at c.keep.ensures);
-}
+      finds_step = λ m. of-move.step-finds c.args.reach m c.perform-after.ensures many c.advance-next.ensures c.walk-found.ensures.finds_from c.requires.room.buffer c.write_before.ensures c.after_step.ensures;
+      remembers = let found = of-move.found_after c.args.reach c.requires.some_step c.perform-after.ensures many c.advance-next.ensures c.walk-found.ensures.finds_from in
+          known.kept-right c.args.reach c.requires.some_step many c.advance-next.ensures c.walk-found.ensures.remembers c.key_of-key.ensures _ found (rw c.count_of.ensures at c.keep.ensures);
+    }
 
 pub walk_move-is_allowed-requires : goal.walk_move-is_allowed-requires
 walk_move-is_allowed-requires t c =
@@ -175,9 +171,9 @@ pub walk_move-returns-then-not-is_allowed : goal.walk_move-returns-then-not-is_a
 walk_move-returns-then-not-is_allowed t c =
     let many : length c.args.course.done ≡ 4 = search (rules, c.well_formed) in
     record {
-  finds_move = λ m. of-move.move-refused m c.is_allowed.ensures many (c.if-not-is_allowed.true) c.args.reach c.args.trace.now;
-  remembers = c.requires.room.remembers;
-}
+      finds_move = λ m. of-move.move-refused m c.is_allowed.ensures many (c.if-not-is_allowed.true) c.args.reach c.args.trace.now;
+      remembers = c.requires.room.remembers;
+    }
 
 pub walk_move-walk_after-requires : goal.walk_move-walk_after-requires
 walk_move-walk_after-requires t c =
@@ -188,9 +184,9 @@ pub walk_move-returns : goal.walk_move-returns
 walk_move-returns t c =
     let many : length c.args.course.done ≡ 4 = search (rules, c.well_formed) in
     record {
-  finds_move = λ m. of-move.move-done c.args.reach m c.is_allowed.ensures many (c.if-not-is_allowed.false) c.walk_after.ensures.finds_step;
-  remembers = c.walk_after.ensures.remembers;
-}
+      finds_move = λ m. of-move.move-done c.args.reach m c.is_allowed.ensures many (c.if-not-is_allowed.false) c.walk_after.ensures.finds_step;
+      remembers = c.walk_after.ensures.remembers;
+    }
 
 pub walk_run-returns-then-runs-k : goal.walk_run-returns-then-runs-k
 walk_run-returns-then-runs-k t c = record {

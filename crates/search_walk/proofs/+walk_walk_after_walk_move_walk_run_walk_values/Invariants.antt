@@ -1,26 +1,14 @@
 -- The walk finds what the definitions list, in their order: `walk` from a state, `walk_run` for a run, `walk_values` for the values of a read, `walk_move` and `walk_after` for one move.
 -- The measure is the depth, and within it the functions in their order and the rows left. Assumes nothing.
-use native.Mathlib.Omega.{arith}
-use borrow.Author.Rules.{rules}
-use borrow.Author.Tests.{not-true, not-false}
-use Prim.Native.Nat.{ℕ, suc, ◌+◌, ◌*◌, ◌-◌, ◌<◌, ◌≤◌}
-use mathlib.Core.Path.{◌≡◌, refl, sym, ap, ◌∙◌}
-use mathlib.Core.List.{List}
+use Prim.Native.Nat.{◌+◌, ◌*◌, ◌-◌, ◌<◌, ◌≤◌}
+use mathlib.Core.Path.{◌≡◌}
 use mathlib.Core.Option.{none}
-use lib.ListN.{length, get_or, length-set}
 use Rattle.semantics.specs.Verdict.{broken}
-use Rattle.cells.specs.laws.Shape.{shape-sized}
-use Rattle.variables.specs.laws.Values.{value-falls}
-use Rattle.search_breaks.specs.Walk.{state_of, entries_from, SomeState, SomeChoice, state_clear}
-use Rattle.search_breaks.specs.laws.Finds.{Passed, finds-size, finds-count, passed_on, passed-stops}
-use Rattle.search_breaks.specs.laws.Entries.{runs_from, branches-pruned}
-use Rattle.search_breaks.specs.laws.Walk as from-state
-use Rattle.search_breaks.specs.laws.Run as of-run
+use Rattle.search_breaks.specs.Walk.{state_of, entries_from, SomeState, SomeChoice}
+use Rattle.search_breaks.specs.laws.Finds.{Passed}
+use Rattle.search_breaks.specs.laws.Entries.{runs_from}
 use Rattle.search_breaks.specs.laws.Choose as of_values
-use Rattle.search_breaks.specs.laws.Move as of-move
 use Rattle.search_same.specs.Memory.{Remembers}
-use Rattle.search_same.specs.laws.Memory.{room-on}
-use Rattle.search_same.specs.laws.Known as known
 use Rattle.search_walk.proofs.+walk_walk_after_walk_move_walk_run_walk_values.Given as goal
 
 abbrev pub decreases-walk : goal.decreases-walk
