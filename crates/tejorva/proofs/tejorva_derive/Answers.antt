@@ -1,5 +1,4 @@
 -- `tejorva_derive` is the number of Derive's answer to a table, a list and a target. Assumes nothing.
-use borrow.Author.Rules.{rules}
 use mathlib.Core.Path.{ap, ◌∙◌}
 use Rattle.semantics.specs.Derive.{derived}
 use Rattle.packing.specs.Packing.{packed_deriving, packed-derived}

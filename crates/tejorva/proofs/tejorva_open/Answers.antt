@@ -1,5 +1,4 @@
 -- `tejorva_open` is the number of Open's answer to a file. Assumes nothing.
-use borrow.Author.Rules.{rules}
 use mathlib.Core.Path.{ap, ◌∙◌}
 use Rattle.semantics.specs.Scenario.{opened}
 use Rattle.packing.specs.Packing.{packed_opening, packed-opened}

@@ -1,5 +1,4 @@
 -- `tejorva_replay` is the number of Replay's answer to a file and a trace. Assumes nothing.
-use borrow.Author.Rules.{rules}
 use mathlib.Core.Path.{ap, ◌∙◌}
 use Rattle.semantics.specs.Replay.{replayed}
 use Rattle.packing.specs.Packing.{packed_replaying, packed-replayed}

@@ -1,5 +1,4 @@
 -- `tejorva_search` is the number of Search's answer to a file and a buffer. Assumes nothing.
-use borrow.Author.Rules.{rules}
 use mathlib.Core.Path.{ap, ◌∙◌}
 use Rattle.semantics.specs.Verdict.{searched}
 use Rattle.packing.specs.Packing.{packed_searching, packed-searched}

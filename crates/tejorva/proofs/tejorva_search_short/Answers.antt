@@ -1,5 +1,4 @@
 -- `tejorva_search_short` is the number of Search's answer by the short list to a file and a buffer. Assumes nothing.
-use borrow.Author.Rules.{rules}
 use mathlib.Core.Path.{ap, ◌∙◌}
 use Rattle.semantics.specs.Moves.{short}
 use Rattle.semantics.specs.Verdict.{searched_in}
