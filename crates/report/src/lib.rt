@@ -37,7 +37,7 @@ fn read_full<R: Read>(reader: &mut R, buffer: &mut [u8]) -> io::Result<usize>
     Ok(done)
 }
 
-// Reads a scenario file on standard input and prints the verdict on it. It answers what it prints: the text of the verdict on some file, or nothing. That this file is what was read, and that the
+// Reads a scenario file on standard input and prints the verdict on it. It answers what it prints: the text of the verdict on some file. That this file is what was read, and that the
 // text is what is written, no contract can say. Of a read that failed nothing is printed: the error is answered, and also that of a write that failed.
 pub fn print_verdict<R: Input + Print>(rt: &R, list: Listing) -> io::Result<Text>
     ensures { IfOk result (Prints (list_as list)) }

@@ -1,5 +1,4 @@
 -- `main` prints a text whose length counts its bytes. Assumes nothing.
-use borrow.Author.Rules.{rules}
 use Rattle.text.specs.laws.Adds.{holds_fits, holds-count}
 use Rattle.limits.proofs.main.Goals as goal
 

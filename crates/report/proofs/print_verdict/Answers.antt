@@ -1,6 +1,5 @@
 -- `print_verdict` prints a text whose length counts its bytes. Assumes nothing.
 use native.Mathlib.Omega.{arith}
-use borrow.Author.Rules.{rules}
 use Prim.Native.Nat.{ℕ, ◌≤◌}
 use mathlib.Core.Logic.{inr}
 use mathlib.Core.List.{List}

@@ -1,7 +1,6 @@
 -- `put_steps` adds one step after the other. The measure is how many bytes there are. Assumes nothing.
 use native.Mathlib.Omega.{arith}
-use borrow.Author.Rules.{rules}
-use Prim.Native.Nat.{ℕ, ◌+◌, ◌*◌, ◌-◌, ◌<◌}
+use Prim.Native.Nat.{ℕ, ◌+◌, ◌*◌, ◌-◌}
 use mathlib.Core.Path.{◌≡◌, ap, ◌∙◌}
 use mathlib.Core.List.{List}
 use lib.ListN.{length, get_or, take, drop, length-take, length-drop}
@@ -11,7 +10,6 @@ use Rattle.semantics.specs.Verdict.{value_bytes, trace_bytes}
 use Rattle.text.specs.laws.Adds.{adds_none, adds_on, adds-as}
 use Rattle.text.specs.laws.Steps.{steps-none, FirstStep, first-step}
 use Rattle.text.proofs.+put_steps.Goals as goal
-
 
 -- the values of the first step, and the bytes after it
 module _ {bytes : List ℕ} {ms : List Move} (f : FirstStep bytes ms) {count : ℕ} (e : count ≡ get_or bytes 1 0) where

@@ -1,7 +1,6 @@
 -- `put_values` adds the values two bytes at a time. The measure is how many bytes there are. Assumes nothing.
 use native.Mathlib.Omega.{arith}
-use borrow.Author.Rules.{rules}
-use Prim.Native.Nat.{ℕ, ◌-◌, ◌<◌}
+use Prim.Native.Nat.{ℕ, ◌-◌}
 use mathlib.Core.Path.{◌≡◌, ap, ◌∙◌}
 use mathlib.Core.List.{List, ◌++◌}
 use lib.ListN.{length, take, drop, length-drop}
@@ -12,7 +11,6 @@ use Rattle.text.specs.laws.Decimal.{decimal-few}
 use Rattle.text.specs.laws.Adds.{adds_none, adds_on, adds-as}
 use Rattle.text.specs.laws.Steps.{values-none, first-value}
 use Rattle.text.proofs.+put_values.Goals as goal
-
 
 -- the bytes after the first two
 rest-length : (bytes : List ℕ) → length (take (length bytes - 2) (drop 2 bytes)) ≡ length bytes - 2

@@ -1,7 +1,6 @@
 -- `answer_text` is the text of Search's answer. Assumes nothing.
 use native.Mathlib.Omega.{arith}
-use borrow.Author.Rules.{rules}
-use mathlib.Core.Path.{◌≡◌, sym, ◌∙◌}
+use mathlib.Core.Path.{sym, ◌∙◌}
 use lib.Seq.{length-take-le}
 use Rattle.text.specs.laws.Adds.{adds_on, adds-all, holds_as}
 use Rattle.text.specs.laws.Verdict.{text-refused, text-held, text-stopped, text-broken}

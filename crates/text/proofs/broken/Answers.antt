@@ -1,6 +1,5 @@
 -- `broken` is the text of a break. Assumes nothing.
 use native.Mathlib.Omega.{arith}
-use borrow.Author.Rules.{rules}
 use Rattle.text.specs.Text.{broken_text}
 use Rattle.text.specs.laws.Adds.{adds_on, adds-all}
 use Rattle.text.proofs.broken.Goals as goal

@@ -1,5 +1,4 @@
 -- `limits_text` has the limits one a line. Assumes nothing.
-use borrow.Author.Rules.{rules}
 use Rattle.text.specs.Text.{limits_text}
 use Rattle.text.specs.laws.Adds.{adds_none, adds_on, adds-all}
 use Rattle.text.proofs.limits_text.Goals as goal

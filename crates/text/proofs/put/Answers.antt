@@ -1,11 +1,7 @@
 -- `put` adds a word byte by byte. The measure is how many bytes are left. Assumes nothing.
-use Prim.Native.Nat.{◌-◌, ◌≤◌}
-use lib.ListN.{length, take}
 use lib.Seq.{length-take-le}
-use Rattle.text.specs.Text.{Adds}
 use Rattle.text.specs.laws.Adds.{adds_none, adds-next, adds-whole}
 use native.Mathlib.Omega.{arith}
-use borrow.Author.Rules.{rules}
 use Rattle.text.proofs.put.Goals as goal
 
 pub loop-i-init : goal.loop-i-init

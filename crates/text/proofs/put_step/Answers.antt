@@ -1,6 +1,5 @@
 -- `put_step` adds the line of a step. Assumes nothing.
 use native.Mathlib.Omega.{arith}
-use borrow.Author.Rules.{rules}
 use mathlib.Core.List.{◌++◌}
 use Rattle.semantics.specs.Basic.{joined}
 use Rattle.text.specs.Text.{word, decimal, value_text, step_text}

@@ -1,6 +1,5 @@
 -- `put_with` adds a word and a number. Assumes nothing.
 use native.Mathlib.Omega.{arith}
-use borrow.Author.Rules.{rules}
 use Rattle.text.specs.laws.Decimal.{decimal-few}
 use Rattle.text.specs.laws.Adds.{adds_on}
 use Rattle.text.proofs.put_with.Goals as goal

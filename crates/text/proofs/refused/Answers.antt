@@ -1,6 +1,5 @@
 -- `refused` is the text of a refusal. Assumes nothing.
 use native.Mathlib.Omega.{arith}
-use borrow.Author.Rules.{rules}
 use Rattle.text.specs.Text.{refused_text}
 use Rattle.text.specs.laws.Adds.{adds_on, adds-all}
 use Rattle.text.proofs.refused.Goals as goal
