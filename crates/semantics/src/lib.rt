@@ -1,2 +1,2 @@
-// The meaning of every answer: the definitions and their laws stand in specs/, and this crate has no code.
+// The meaning of every answer: the definitions stand in specs/, their laws and theorems in proofs/, and this crate has no code.
 #![tactic(auto)]

@@ -4,7 +4,7 @@ use Rattle.read_domains.proofs.with_value.Goals as goal
 
 pub returns-then-not-marks-c : goal.returns-then-not-marks-c
 returns-then-not-marks-c c t n runs q =
-    listed-unmarked t n runs c.args.classes.now c.args.marks.now c.args.only q c.args.c c.args.set c.if-only.true c.if-not-marks-c.true
+    listed-unmarked t n runs c.args.classes.now c.args.marks.now c.args.only q c.args.c c.args.set (cc) c.if-not-marks-c.true
 
 pub returns-then-class-lt-ABSENT : goal.returns-then-class-lt-ABSENT
 returns-then-class-lt-ABSENT c t n runs q =

@@ -6,16 +6,16 @@ use Rattle.read_fits.proofs.follow.Goals as goal
 
 pub returns-then-scope-y : goal.returns-then-scope-y
 returns-then-scope-y c =
-    followed-row c.args.t.now c.args.scope.rows c.args.scope.runs c.args.classes.now c.args.scope.run c.args.q c.args.need.now c.requires.0.few c.requires.1.1.1 _ refl c.if-class-ge-ABSENT.false _ _ c.if-scope-y.true
+    followed-row c.args.t.now c.args.scope.rows c.args.scope.runs c.args.classes.now c.args.scope.run c.args.q c.args.need.now c.requires.0.few c.requires.1.1.1 _ refl (omega arith) _ _ c.if-scope-y.true
 
 pub returns-then-scope-w : goal.returns-then-scope-w
 returns-then-scope-w c =
-    followed-run c.args.t.now c.args.scope.rows c.args.scope.runs c.args.classes.now c.args.scope.run c.args.q c.args.need.now c.requires.0.few c.requires.1.1.1 _ refl c.if-class-ge-ABSENT.false _ _ c.if-scope-w.true
+    followed-run c.args.t.now c.args.scope.rows c.args.scope.runs c.args.classes.now c.args.scope.run c.args.q c.args.need.now c.requires.0.few c.requires.1.1.1 _ refl (omega arith) _ _ c.if-scope-w.true
 
 pub returns-then-kind_of-kind : goal.returns-then-kind_of-kind
 returns-then-kind_of-kind c =
     let k = c.kind_of-kind.ensures.0 in
-    followed-kind c.args.t.now c.args.scope.rows c.args.scope.runs c.args.classes.now c.args.scope.run c.args.q c.args.need.now c.requires.0.few c.requires.1.1.1 _ refl c.if-class-ge-ABSENT.false (omega (arith, c.if-kind-lt-FIRST_MADE.false)) _ _ (λ p. c.if-kind_of-kind.true (c.kind_of.ensures.0 ∙ p ∙ sym k))
+    followed-kind c.args.t.now c.args.scope.rows c.args.scope.runs c.args.classes.now c.args.scope.run c.args.q c.args.need.now c.requires.0.few c.requires.1.1.1 _ refl (omega arith) (omega (arith, c.if-kind-lt-FIRST_MADE.false)) _ _ (λ p. c.if-kind_of-kind.true (c.kind_of.ensures.0 ∙ p ∙ sym k))
 
 pub share-requires : goal.share-requires
 share-requires c =
@@ -27,4 +27,4 @@ share-requires c =
 
 pub returns : goal.returns
 returns c =
-    followed-parts c.args.t.now c.args.scope.rows c.args.scope.runs c.args.classes.now c.args.scope.run c.args.q c.args.need.now c.requires.0.few c.requires.1.1.1 _ refl c.if-class-ge-ABSENT.false (omega (arith, c.kind_of-kind.ensures.0, c.if-kind-lt-FIRST_MADE.false)) c.share.ensures
+    followed-parts c.args.t.now c.args.scope.rows c.args.scope.runs c.args.classes.now c.args.scope.run c.args.q c.args.need.now c.requires.0.few c.requires.1.1.1 _ refl (omega arith) (omega (arith, c.kind_of-kind.ensures.0, c.if-kind-lt-FIRST_MADE.false)) c.share.ensures
