@@ -1,7 +1,8 @@
 // The text of the verdict on a scenario file by a list, and a program's way from standard input to that text.
 #![tactic(auto)]
 
-ghost use Rattle.std.specs.Prelude.{List, ℕ, ◌≤◌, length, IfOk};
+ghost use Rattle.std.specs.Prelude.{List, ℕ, ◌<◌, ◌≤◌, length, take, IfOk};
+ghost use Rattle.std.specs.Io.KnownBytes.{Consumes, IsAtEnd};
 ghost use Rattle.semantics.specs.Verdict.{searched_in};
 ghost use Rattle.search_runs.specs.Runs.{list_as};
 ghost use Rattle.text.specs.Text.{verdict_text, HoldsText};
@@ -22,9 +23,11 @@ pub fn verdict_text(file: &[u8], list: Listing) -> Text
     text::answer_text(answer, &trace)
 }
 
-// Reads until the buffer is full or the input ends. Answers how many bytes it put at the buffer's front.
+// Reads until the buffer is full or the input ends. Answers how many bytes it put at the buffer's front: those are what it took, in order, and where there is room left the input has no more.
 fn read_full<R: Read>(reader: &mut R, buffer: &mut [u8]) -> io::Result<usize>
-    ensures { IfOk result (λ n. n ≤ length buffer.new) }
+    ensures within { IfOk result (λ n. n ≤ length buffer.new) }
+    ensures bytes { IfOk result (λ n. Consumes (R.remaining reader.old) (R.remaining reader.new) (take n buffer.new)) }
+    ensures end { IfOk result (λ n. n < length buffer.new → IsAtEnd (R.remaining reader.new)) }
 {
     let mut done = 0;
     while done < buffer.len() {
