@@ -9,7 +9,7 @@ use lib.Dec.{ltb}
 use lib.ListN.{length, get_or, take, get_elem?}
 use borrow.Author.Tests.{lt-ltb, le-ltb}
 use Rattle.semantics.specs.Basic.{present}
-use Rattle.semantics.specs.Table.{Row, decode}
+use Rattle.semantics.specs.Table.{decode}
 use Rattle.rows.specs.Rows.{IsTable, decoded_at}
 use Rattle.table.specs.Check.{fits_decoded}
 use Rattle.table.specs.laws.Below.{rows_below, below_length, present-below}
