@@ -1,3 +1,4 @@
+-- `found` looks for a cell of a kind with given parts, row by row. The loop's invariant: no row passed has one; its measure is how many rows are left. Assumes nothing.
 use Prim.Native.Nat.{◌-◌, ◌≤◌}
 use Rattle.cells.specs.laws.Cells.{NoneBelow}
 use Rattle.cells.proofs.found.Given as goal

@@ -1,3 +1,4 @@
+-- `found_in_row` looks for such a cell in one row, run by run. The loop's invariant: none of the runs passed has one; its measure is how many are left. Assumes nothing.
 use native.Mathlib.Omega.{arith}
 use borrow.Author.Rules.{rules}
 use mathlib.Core.Path.{refl, sym, ◌∙◌}
@@ -5,50 +6,21 @@ use Rattle.cells.specs.Cells.{Matches, has_run, has_no_run}
 use Rattle.cells.specs.laws.Cells.{class-read, none_more, tells-true, tells-false}
 use Rattle.cells.proofs.found_in_row.Goals as goal
 
--- src/lib.rt:83:8
-pub kind_of-requires : goal.kind_of-requires
-kind_of-requires c = search rules
-
--- src/lib.rt:84:9
 pub returns-then-kind_of-kind : goal.returns-then-kind_of-kind
 returns-then-kind_of-kind c = has_no_run (λ w l e m. c.if-kind_of-kind.true (c.kind_of.ensures.0 ∙ e)) refl
 
--- src/lib.rt:87:5
 pub loop-w-init : goal.loop-w-init
 loop-w-init c = (omega arith, λ v l. absurd (omega arith))
 
--- src/lib.rt:88:12
-pub matches_at-requires : goal.matches_at-requires
-matches_at-requires c = search rules
-
--- src/lib.rt:89:28
-pub cell-requires : goal.cell-requires
-cell-requires c = search rules
-
--- src/lib.rt:89:20
-pub offset_bounds-classes-cell : goal.offset_bounds-classes-cell
-offset_bounds-classes-cell c = search rules
-
--- src/lib.rt:89:20
-pub bounds-classes-cell : goal.bounds-classes-cell
-bounds-classes-cell c = search rules
-
--- src/lib.rt:89:13
 pub returns-then-matches_at : goal.returns-then-matches_at
 returns-then-matches_at c =
     has_run c.loop-w.w c.loop-w-test.true (sym c.kind_of.ensures.0 ∙ c.if-kind_of-kind.false)
     (tells-true c.matches_at.ensures c.if-matches_at.true)
     (class-read c.args.classes.now c.requires.1.0 c.cell.ensures.0 c.cell.ensures.1)
 
--- src/lib.rt:91:9
-pub overflow_add-w : goal.overflow_add-w
-overflow_add-w c = search rules
-
--- src/lib.rt:87:5
 pub loop-w-smaller : goal.loop-w-smaller
 loop-w-smaller c = omega arith
 
--- src/lib.rt:87:5
 pub loop-w-preserved : goal.loop-w-preserved
 loop-w-preserved c = (
   omega arith,
@@ -56,6 +28,5 @@ loop-w-preserved c = (
       (tells-false c.matches_at.ensures c.if-matches_at.false),
 )
 
--- src/lib.rt:70:1
 pub returns : goal.returns
 returns c = has_no_run (λ w l e. c.loop-w.invariant.1 w (omega arith)) refl

@@ -1,3 +1,4 @@
+-- `found_in_row` looks for such a cell in one row, run by run. The loop's invariant: none of the runs passed has one; its measure is how many are left. Assumes nothing.
 use Prim.Native.Nat.{ℕ, ◌+◌, ◌-◌, ◌<◌, ◌≤◌}
 use Rattle.cells.specs.Cells.{Matches}
 use Rattle.cells.proofs.found_in_row.Given as goal

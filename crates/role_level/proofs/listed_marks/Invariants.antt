@@ -1,3 +1,4 @@
+-- `listed_marks` marks the listed rows. The loop's invariant: those passed are marked, and no other; its measure is how many are left. Assumes nothing.
 use Prim.Native.Nat.{◌-◌, ◌≤◌}
 use mathlib.Core.Path.{◌≡◌}
 use lib.ListN.{length}

@@ -1,18 +1,10 @@
+-- `marks_of` gives the marks of what derives from the listed rows. Assumes nothing.
 use borrow.Author.Rules.{rules}
 use Rattle.rows.specs.Rows.{rows_of}
 use Rattle.role_level.specs.RoleLevel.{role_readings, listed_terms}
 use Rattle.role_level.specs.laws.RoleLevel.{listed-cover}
 use Rattle.role_level.proofs.marks_of.Goals as goal
 
--- src/lib.rt:56:23
-pub listed_marks-requires : goal.listed_marks-requires
-listed_marks-requires c = search rules
-
--- src/lib.rt:56:5
-pub settle-requires : goal.settle-requires
-settle-requires c = search rules
-
--- src/lib.rt:52:1
 pub returns : goal.returns
 returns c =
     c.settle.ensures role_readings (listed_terms (rows_of c.args.t.now) c.args.list.now) c.requires.1.0

@@ -1,3 +1,4 @@
+-- `own_names` gives each row its own name. The loop's invariant: the rows passed have theirs; its measure is how many are left. Assumes nothing.
 use Prim.Native.Nat.{◌-◌, ◌≤◌}
 use mathlib.Core.Path.{◌≡◌}
 use lib.ListN.{length}
