@@ -1,20 +1,24 @@
 -- `followed` follows a trace through an accepted file. Assumes nothing.
 use native.Mathlib.Omega.{arith}
 use borrow.Author.Tests.{not-true, not-false}
-use Prim.Native.Nat.{ℕ, ◌+◌, ◌≤◌}
+use Prim.Native.Nat.{ℕ, ◌+◌, ◌-◌, ◌<◌, ◌≤◌}
 use mathlib.Core.List.{List}
 use mathlib.Core.Path.{◌≡◌, refl, sym, ap, ◌∙◌}
 use lib.ListN.{length}
-use Rattle.semantics.specs.Scenario.{term_part}
+use Rattle.std.specs.Prelude.{true, take, drop}
+use Rattle.semantics.specs.Scenario.{Scenario, term_part}
+use Rattle.semantics.specs.State.{State}
 use Rattle.answers.specs.Answers.{Accepts, scenario_in, replayed_as}
 use Rattle.answers.specs.declared.Layout.{Layout}
 use Rattle.runs.specs.declared.Runs.{Runs}
 use Rattle.runs.specs.Runs.{RunsAt}
 use Rattle.runs.specs.laws.Blocks.{opened-framed}
-use Rattle.state.specs.State.{Given}
+use Rattle.state.specs.State.{Given, IsState}
+use Rattle.state.specs.declared.State.{State as CodeState}
 use Rattle.state.specs.laws.Given.{opened-knowledge, given-layout}
+use Rattle.replay_steps.specs.declared.Stepped.{Stepped}
+use Rattle.replay_steps.specs.Steps.{StepDone}
 use Rattle.replay.specs.laws.Follow.{FollowedSteps, follow-start, follow-end, follow-refused, follow-size, follow-on, claim-broken, claim-none}
-use Rattle.replay.proofs.followed.Goals.{After-struct_known-in-loop-at-1}
 use Rattle.replay.proofs.followed.Goals as goal
 
 -- what the accepted file gives to a step and to the claims
@@ -22,15 +26,14 @@ given : {file : List ℕ} {l : Layout} → Accepts file l → {r : Runs} → Run
 given p runs bytes = given-layout _ _ p.is_opened p.layout runs bytes
 
 -- an allowed step: it has two bytes at least, it ends inside the trace, and the trace is followed past it
-taken : (c : After-struct_known-in-loop-at-1)
-    → (2 ≤ c.step-stepped.result.length) × (c.loop-at.at + c.step-stepped.result.length ≤ length c.args.trace.now)
-    × FollowedSteps (scenario_in c.args.file.now) c.args.trace.now (c.loop-at.at + c.step-stepped.result.length) c.step-stepped.result.state
-taken c =
-    let f = c.loop-at.invariant.1 in
-    let done = c.step-stepped.ensures _ f.d (given c.requires c.runs_of-r.ensures c.block_of-t.ensures) f.is_state in
-    let allowed = not-false _ c.if-not-stepped.false in
-    let w = follow-size f c.loop-at-test.true refl done allowed in
-    (w.0, w.1, follow-on f c.loop-at-test.true refl done allowed)
+taken : {file : List ℕ} {n : ℕ} {t : List ℕ} {r : Runs} → Given file t n r (scenario_in file) → {trace : List ℕ} {at : ℕ} {s : CodeState} → FollowedSteps (scenario_in file) trace at s
+    → at < length trace → {p : Stepped}
+    → ((sc : Scenario) (d : State) → Given file t n r sc → IsState sc d s → StepDone sc d (take (length trace - at) (drop at trace)) p) → p.allowed ≡ true
+    → (2 ≤ p.length) × (at + p.length ≤ length trace) × FollowedSteps (scenario_in file) trace (at + p.length) p.state
+taken g f more step allowed =
+    let done = step _ f.d g f.is_state in
+    let w = follow-size f more refl done allowed in
+    (w.0, w.1, follow-on f more refl done allowed)
 
 pub block_of-t-requires : goal.block_of-t-requires
 block_of-t-requires c = (opened-framed _ _ c.requires.is_opened, omega arith)
@@ -57,17 +60,17 @@ returns-then-not-stepped c =
 
 pub overflow_add-at : goal.overflow_add-at
 overflow_add-at c =
-    let w = taken (goal.at.overflow_add-at c).After-struct_known-in-loop-at-1 in
+    let w = taken (given c.requires c.runs_of-r.ensures c.block_of-t.ensures) c.loop-at.invariant.1 c.loop-at-test.true c.step-stepped.ensures (not-false _ c.if-not-stepped.false) in
     record { fits = omega (arith, w.1) }
 
 pub loop-at-smaller : goal.loop-at-smaller
 loop-at-smaller c =
-    let w = taken (goal.at.loop-at-smaller c).After-struct_known-in-loop-at-1 in
+    let w = taken (given c.requires c.runs_of-r.ensures c.block_of-t.ensures) c.loop-at.invariant.1 c.loop-at-test.true c.step-stepped.ensures (not-false _ c.if-not-stepped.false) in
     omega (arith, w.0, w.1)
 
 pub loop-at-preserved : goal.loop-at-preserved
 loop-at-preserved c =
-    let w = taken (goal.at.loop-at-preserved c).After-struct_known-in-loop-at-1 in
+    let w = taken (given c.requires c.runs_of-r.ensures c.block_of-t.ensures) c.loop-at.invariant.1 c.loop-at-test.true c.step-stepped.ensures (not-false _ c.if-not-stepped.false) in
     (w.1, w.2)
 
 pub broken-claimed-requires : goal.broken-claimed-requires
