@@ -1,24 +1,16 @@
 -- `runs::event_of` meets its contract: the four bytes of the event, and the agents of the run's own role and of the peer. Assumes nothing.
-use Prim.Native.Nat.{◌+◌, ◌*◌, ◌<◌}
 use native.Mathlib.Omega.{arith}
-use lib.ListN.{length, get_or}
 use Rattle.runs.specs.laws.Event.{record-inside, own-inside, bytes_inside, peer-inside, event-read}
 use Rattle.runs.proofs.event_of.Goals as goal
 
 pub overflow_mul-at : goal.overflow_mul-at
-overflow_mul-at c =
-    let bytes : get_or c.args.r.firsts c.args.k 0 + 4 * c.args.j + 3 < length c.args.file.now = bytes_inside c.args.file.now c.args.r c.args.k c.args.j c.requires in
-    omega (arith, bytes)
+overflow_mul-at c = omega (arith, bytes_inside c.args.file.now c.args.r c.args.k c.args.j c.requires)
 
 pub overflow_add-at : goal.overflow_add-at
-overflow_add-at c =
-    let bytes : get_or c.args.r.firsts c.args.k 0 + 4 * c.args.j + 3 < length c.args.file.now = bytes_inside c.args.file.now c.args.r c.args.k c.args.j c.requires in
-    omega (arith, bytes)
+overflow_add-at c = omega (arith, bytes_inside c.args.file.now c.args.r c.args.k c.args.j c.requires)
 
 pub bounds-file-at : goal.bounds-file-at
-bounds-file-at c =
-    let bytes : get_or c.args.r.firsts c.args.k 0 + 4 * c.args.j + 3 < length c.args.file.now = bytes_inside c.args.file.now c.args.r c.args.k c.args.j c.requires in
-    omega (arith, bytes)
+bounds-file-at c = omega (arith, bytes_inside c.args.file.now c.args.r c.args.k c.args.j c.requires)
 
 pub bounds-file-start : goal.bounds-file-start
 bounds-file-start c = record-inside c.args.file.now c.args.r c.args.k c.args.j c.requires
@@ -28,28 +20,20 @@ agent_of-requires c =
     own-inside c.args.file.now c.args.r c.args.k c.args.j c.requires c.wide-2.ensures.0
 
 pub overflow_add-at-2 : goal.overflow_add-at-2
-overflow_add-at-2 c =
-    let bytes : get_or c.args.r.firsts c.args.k 0 + 4 * c.args.j + 3 < length c.args.file.now = bytes_inside c.args.file.now c.args.r c.args.k c.args.j c.requires in
-    omega (arith, bytes)
+overflow_add-at-2 c = omega (arith, bytes_inside c.args.file.now c.args.r c.args.k c.args.j c.requires)
 
 pub bounds-file-at-2 : goal.bounds-file-at-2
-bounds-file-at-2 c =
-    let bytes : get_or c.args.r.firsts c.args.k 0 + 4 * c.args.j + 3 < length c.args.file.now = bytes_inside c.args.file.now c.args.r c.args.k c.args.j c.requires in
-    omega (arith, bytes)
+bounds-file-at-2 c = omega (arith, bytes_inside c.args.file.now c.args.r c.args.k c.args.j c.requires)
 
 pub agent_of-requires-2 : goal.agent_of-requires-2
 agent_of-requires-2 c =
     peer-inside c.args.file.now c.args.r c.args.k c.args.j c.requires c.wide-3.ensures.0
 
 pub overflow_add-at-3 : goal.overflow_add-at-3
-overflow_add-at-3 c =
-    let bytes : get_or c.args.r.firsts c.args.k 0 + 4 * c.args.j + 3 < length c.args.file.now = bytes_inside c.args.file.now c.args.r c.args.k c.args.j c.requires in
-    omega (arith, bytes)
+overflow_add-at-3 c = omega (arith, bytes_inside c.args.file.now c.args.r c.args.k c.args.j c.requires)
 
 pub bounds-file-at-3 : goal.bounds-file-at-3
-bounds-file-at-3 c =
-    let bytes : get_or c.args.r.firsts c.args.k 0 + 4 * c.args.j + 3 < length c.args.file.now = bytes_inside c.args.file.now c.args.r c.args.k c.args.j c.requires in
-    omega (arith, bytes)
+bounds-file-at-3 c = omega (arith, bytes_inside c.args.file.now c.args.r c.args.k c.args.j c.requires)
 
 pub returns : goal.returns
 returns c =

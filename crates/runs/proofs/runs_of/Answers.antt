@@ -1,35 +1,35 @@
 -- `runs::runs_of` meets its contract. The loop's invariant: the runs below k are found, and run k begins at the offset. The measure is how many runs are left. Assumes nothing.
 use native.Mathlib.Omega.{arith}
-use mathlib.Core.Path.{◌≡◌, ap}
-use Rattle.semantics.specs.Answer.{accepted}
-use Rattle.semantics.specs.Scenario.{Scenario, opened}
-use Rattle.answers.specs.Answers.{layout_of, scenario_in}
+use mathlib.Core.Path.{ap}
+use Rattle.answers.specs.Answers.{scenario_in}
 use Rattle.answers.specs.declared.Layout.{Layout}
 use Rattle.runs.specs.laws.Found.{SomeRun, start-inside}
 use Rattle.runs.specs.laws.Listed.{few-runs, few-roles, found_none, found-run, found-more, found_all}
+use Rattle.runs.proofs.runs_of.Goals.{In-loop-k}
 use Rattle.runs.proofs.runs_of.Goals as goal
+
+-- in the loop, run k begins at the offset
+some-run : (c : In-loop-k) → SomeRun c.args.file.now c.loop-k.start
+some-run c =
+    let e = c.requires.is_opened in
+    (scenario_in c.args.file.now, c.loop-k.k, found-run c.args.file.now _ e (c.loop-k.invariant.3 _ e) c.loop-k-test.true)
 
 pub loop-k-init : goal.loop-k-init
 loop-k-init c =
-    let accepts : (sc : Scenario) × (opened c.args.file.now ≡ accepted sc) × (c.args.l ≡ layout_of c.args.file.now sc) = (scenario_in c.args.file.now, c.requires.is_opened, c.requires.layout) in
-    let file = c.args.file.now in (
+    let file = c.args.file.now in
+    let p = c.requires in (
       omega arith,
-      omega (arith, few-runs file (accepts).0 (accepts).1, ap (λ (l : Layout). l.runs.count) (accepts).2),
-      omega (arith, few-roles file (accepts).0 (accepts).1, ap (λ (l : Layout). l.roles.count) (accepts).2),
-      λ sc e. found_none file sc e (accepts),
+      omega (arith, few-runs file _ p.is_opened, ap (λ (l : Layout). l.runs.count) p.layout),
+      omega (arith, few-roles file _ p.is_opened, ap (λ (l : Layout). l.roles.count) p.layout),
+      λ sc e. found_none file sc e (scenario_in file, p.is_opened, p.layout),
     )
 
 pub events_from-found-requires : goal.events_from-found-requires
-events_from-found-requires c =
-    let accepts : (sc : Scenario) × (opened c.args.file.now ≡ accepted sc) × (c.args.l ≡ layout_of c.args.file.now sc) = (scenario_in c.args.file.now, c.requires.is_opened, c.requires.layout) in
-    let some_run : SomeRun c.args.file.now c.loop-k.start = ((accepts).0, c.loop-k.k, found-run c.args.file.now (accepts).0 (accepts).1 (c.loop-k.invariant.3 (accepts).0 (accepts).1) c.loop-k-test.true) in
-    some_run
+events_from-found-requires c = some-run (goal.at.events_from-found-requires c).In-loop-k
 
 pub overflow_add-start-in-loop-k : goal.overflow_add-start-in-loop-k
 overflow_add-start-in-loop-k c =
-    let accepts : (sc : Scenario) × (opened c.args.file.now ≡ accepted sc) × (c.args.l ≡ layout_of c.args.file.now sc) = (scenario_in c.args.file.now, c.requires.is_opened, c.requires.layout) in
-    let some_run : SomeRun c.args.file.now c.loop-k.start = ((accepts).0, c.loop-k.k, found-run c.args.file.now (accepts).0 (accepts).1 (c.loop-k.invariant.3 (accepts).0 (accepts).1) c.loop-k-test.true) in
-    omega (arith, start-inside c.args.file.now c.loop-k.start (some_run))
+    omega (arith, start-inside c.args.file.now c.loop-k.start (some-run (goal.at.overflow_add-start-in-loop-k c).In-loop-k))
 
 pub loop-k-preserved : goal.loop-k-preserved
 loop-k-preserved c =
@@ -37,6 +37,5 @@ loop-k-preserved c =
 
 pub returns : goal.returns
 returns c =
-    let accepts : (sc : Scenario) × (opened c.args.file.now ≡ accepted sc) × (c.args.l ≡ layout_of c.args.file.now sc) = (scenario_in c.args.file.now, c.requires.is_opened, c.requires.layout) in
-    let w = accepts in
-    found_all c.args.file.now w.0 w.1 (c.loop-k.invariant.3 w.0 w.1) c.loop-k-test.false
+    let e = c.requires.is_opened in
+    found_all c.args.file.now _ e (c.loop-k.invariant.3 _ e) c.loop-k-test.false
