@@ -1,35 +1,65 @@
 -- `is_readable` tells whether a row's term is readable. The measure is the row, since its parts are lower rows. Assumes nothing.
-use Prim.Native.Nat.{ℕ, ◌<◌, ◌≤◌}
+use Prim.Native.Nat.{ℕ, ◌<◌}
 use native.Mathlib.Omega.{arith}
 use mathlib.Core.Path.{◌≡◌, refl, sym, ◌∙◌}
-use mathlib.Core.Bool.{Bool}
+use mathlib.Core.Bool.{Bool, true}
 use mathlib.Core.List.{List}
 use borrow.Author.Rules.{rules}
 use Rattle.rows.specs.Rows.{rows_of, Shape}
 use Rattle.knowledge.specs.Steps.{kind_at, left_at, right_at}
-use Rattle.open_marks.specs.Sure.{Sure, SureRows, Gains, Shared}
+use Rattle.open_marks.specs.Sure.{Sure, SureRows, Gains, Shared, Added}
 use Rattle.open_marks.specs.laws.Rows.{parts-lower}
 use Rattle.open_marks.specs.laws.Readable.{unreadable, unreadable-first, readable-second, unreadable-closed, readable-content}
 use Rattle.open_marks.specs.laws.Sure.{sure-readable, sure-marked, sure-variable, sure-pair, sure-content, answer-yes, answer-no, rows-sure, rows-added, common-before, common-one, common-other}
 use Rattle.open_marks.specs.laws.Kept.{notes-hinted, kept-sure, notes-kept}
+use Rattle.open_readable.proofs.+is_readable.Goals.{After-is_kept, After-right_of, After-right_of-s}
 use Rattle.open_readable.proofs.+is_readable.Goals as goal
 
--- the parts of a pair or an encryption are lower rows
-lower : (bytes : List ℕ) (n : ℕ) → Shape bytes n 0 → (x kind l s : ℕ) → x < n → kind ≡ kind_at bytes x → 11 ≤ kind → l ≡ left_at bytes x → s ≡ right_at bytes x → (l < x) × (s < x)
-lower bytes n shape x kind l s below is high left right = let low = parts-lower bytes n shape x below is high in (omega (arith, low.0, left), omega (arith, low.1, right))
+-- a row of a table is less than 96
+fits : (bytes : List ℕ) (n : ℕ) → Shape bytes n 0 → (x : ℕ) → x < n → x < 96
+fits bytes n shape x below = omega (arith, below, shape.few)
+
+-- the row is a pair
+is-pair : (t : ℕ) (c : After-right_of-s t) → kind_at c.args.t.now c.args.x ≡ 11
+is-pair t c = sym c.kind_of-kind.ensures.0 ∙ c.if-kind-eq-PAIR.true
+
+-- what stands at the places of the pair's parts are lower rows
+low-pair : (t : ℕ) (c : After-is_kept t) → (left_at c.args.t.now c.args.x < c.args.x) × (right_at c.args.t.now c.args.x < c.args.x)
+low-pair t c = parts-lower c.args.t.now c.args.n c.requires.0 c.args.x c.requires.1.1.1.1 c.kind_of-kind.ensures.0 (omega (arith, c.if-kind-eq-PAIR.true))
+
+-- the parts of the pair are lower rows
+low-parts : (t : ℕ) (c : After-right_of-s t) → (c.left_of-l.result < c.args.x) × (c.right_of-s.result < c.args.x)
+low-parts t c =
+    let low = low-pair t (goal.at.learned-with_second-requires t c).After-is_kept in
+    (omega (arith, low.0, c.left_of-l.ensures.0), omega (arith, low.1, c.right_of-s.ensures.0))
+
+-- the row is an encryption
+is-encrypted : (t : ℕ) (c : After-right_of t) → kind_at c.args.t.now c.args.x ≡ 12
+is-encrypted t c = sym c.kind_of-kind.ensures.0 ∙ c.if-kind-eq-ENCRYPTED.true
+
+-- the content and the key of the encryption are lower rows
+low-content : (t : ℕ) (c : After-right_of t) → (left_at c.args.t.now c.args.x < c.args.x) × (right_at c.args.t.now c.args.x < c.args.x)
+low-content t c = parts-lower c.args.t.now c.args.n c.requires.0 c.args.x c.requires.1.1.1.1 c.kind_of-kind.ensures.0 (omega (arith, c.if-kind-eq-ENCRYPTED.true))
 
 module _ (bytes : List ℕ) {n : ℕ} (shape : Shape bytes n 0) {marks one other both : List Bool} {s l : ℕ} (gains : Gains (rows_of bytes) s marks one) (gains' : Gains (rows_of bytes) l marks other)
-    (common : Shared n one other both) (sure : List Bool) where
+    (common : Shared n one other both) (sure : List Bool) (are : SureRows (rows_of bytes) marks sure) where
   -- the rows that were sure are sure with the common marks
-  sure-both : SureRows (rows_of bytes) marks sure → SureRows (rows_of bytes) both sure
-  sure-both are = rows-sure (rows_of bytes) marks sure are both (common-before bytes n shape marks one other both gains gains' common)
+  sure-both : SureRows (rows_of bytes) both sure
+  sure-both = rows-sure (rows_of bytes) marks sure are both (common-before bytes n shape marks one other both gains gains' common)
 
-  -- and what is sure with these is with the marks of either way
-  sure-one : SureRows (rows_of bytes) both sure → SureRows (rows_of bytes) one sure
-  sure-one are = rows-sure (rows_of bytes) both sure are one (common-one bytes n shape marks one other both gains gains' common)
+  module _ (more : List Bool) {c : ℕ} {found : Bool} (is-added : Added c found sure more) (is-found : found ≡ true → Sure (rows_of bytes) both c) where
+    -- and so are these with what was found beneath the first part
+    sure-more : SureRows (rows_of bytes) both more
+    sure-more = rows-added (rows_of bytes) both sure sure-both more c found is-added is-found
 
-  sure-other : SureRows (rows_of bytes) both sure → SureRows (rows_of bytes) other sure
-  sure-other are = rows-sure (rows_of bytes) both sure are other (common-other bytes n shape marks one other both gains gains' common)
+    -- with what was found beneath the second too, they are sure with the marks of either way
+    sure-parts : (most : List Bool) {d : ℕ} {found_too : Bool} → Added d found_too more most → (found_too ≡ true → Sure (rows_of bytes) both d)
+        → SureRows (rows_of bytes) one most × SureRows (rows_of bytes) other most
+    sure-parts most {d} {found_too} is-added' is-found' =
+        let all = rows-added (rows_of bytes) both more sure-more most d found_too is-added' is-found' in (
+          rows-sure (rows_of bytes) both most all one (common-one bytes n shape marks one other both gains gains' common),
+          rows-sure (rows_of bytes) both most all other (common-other bytes n shape marks one other both gains gains' common),
+        )
 
 pub returns-then-marks-x : goal.returns-then-marks-x
 returns-then-marks-x t c =
@@ -41,101 +71,96 @@ returns-then-kind-eq-VARIABLE t c =
 
 pub returns-then-is_kept : goal.returns-then-is_kept
 returns-then-is_kept t c =
-    let low = parts-lower c.args.t.now c.args.n c.requires.0 c.args.x c.requires.1.1.1.1 c.kind_of-kind.ensures.0 (omega (arith, c.if-kind-eq-PAIR.true)) in
+    let low = low-pair t (goal.at.returns-then-is_kept t c).After-is_kept in
     (answer-yes c.args.t.now c.args.n c.requires.0 c.args.marks c.args.x c.args.quick (kept-sure c.args.t.now c.args.n c.requires.0 c.args.notes.now c.requires.1.1.1.0 c.args.marks c.args.x (omega (arith, low.0)) (c.is_kept.ensures c.if-is_kept.true)), c.requires.1.1.1.0)
 
 pub learned-with_second-requires : goal.learned-with_second-requires
 learned-with_second-requires t c =
-    let low = lower c.args.t.now c.args.n c.requires.0 c.args.x c.kind_of-kind.result c.left_of-l.result c.right_of-s.result c.requires.1.1.1.1 c.kind_of-kind.ensures.0 (omega (arith, c.if-kind-eq-PAIR.true)) c.left_of-l.ensures.0 c.right_of-s.ensures.0 in
+    let low = low-parts t (goal.at.learned-with_second-requires t c).After-right_of-s in
     (c.requires.0, (c.requires.1.0, omega (arith, low.1, c.requires.1.1.1.1)))
 
 pub learned-with_first-requires : goal.learned-with_first-requires
 learned-with_first-requires t c =
-    let low = lower c.args.t.now c.args.n c.requires.0 c.args.x c.kind_of-kind.result c.left_of-l.result c.right_of-s.result c.requires.1.1.1.1 c.kind_of-kind.ensures.0 (omega (arith, c.if-kind-eq-PAIR.true)) c.left_of-l.ensures.0 c.right_of-s.ensures.0 in
+    let low = low-parts t (goal.at.learned-with_first-requires t c).After-right_of-s in
     (c.requires.0, (c.requires.1.0, omega (arith, low.0, c.requires.1.1.1.1)))
 
 pub content_of-c-requires : goal.content_of-c-requires
 content_of-c-requires t c =
-    let low = lower c.args.t.now c.args.n c.requires.0 c.args.x c.kind_of-kind.result c.left_of-l.result c.right_of-s.result c.requires.1.1.1.1 c.kind_of-kind.ensures.0 (omega (arith, c.if-kind-eq-PAIR.true)) c.left_of-l.ensures.0 c.right_of-s.ensures.0 in
+    let low = low-parts t (goal.at.content_of-c-requires t c).After-right_of-s in
     (c.requires.0, (search rules, omega (arith, low.0, c.requires.1.1.1.1)))
 
 pub is_readable-found-requires : goal.is_readable-found-requires
 is_readable-found-requires t c =
-    let low = lower c.args.t.now c.args.n c.requires.0 c.args.x c.kind_of-kind.result c.left_of-l.result c.right_of-s.result c.requires.1.1.1.1 c.kind_of-kind.ensures.0 (omega (arith, c.if-kind-eq-PAIR.true)) c.left_of-l.ensures.0 c.right_of-s.ensures.0 in
-    let both : SureRows (rows_of c.args.t.now) c.shared-both.result c.args.sure = sure-both c.args.t.now c.requires.0 c.learned-with_second.ensures.1 c.learned-with_first.ensures.1 c.shared-both.ensures c.args.sure c.requires.1.1.0 in
+    let low = low-parts t (goal.at.is_readable-found-requires t c).After-right_of-s in
+    let both = sure-both c.args.t.now c.requires.0 c.learned-with_second.ensures.1 c.learned-with_first.ensures.1 c.shared-both.ensures c.args.sure c.requires.1.1.0 in
     (omega (arith, c.content_of-c.ensures, low.0), (c.requires.0, (c.requires.1.0, (both, (c.requires.1.1.1.0, omega (arith, c.content_of-c.ensures, low.0, c.requires.1.1.1.1))))))
 
 pub added-more-requires : goal.added-more-requires
 added-more-requires t c =
-    let low = lower c.args.t.now c.args.n c.requires.0 c.args.x c.kind_of-kind.result c.left_of-l.result c.right_of-s.result c.requires.1.1.1.1 c.kind_of-kind.ensures.0 (omega (arith, c.if-kind-eq-PAIR.true)) c.left_of-l.ensures.0 c.right_of-s.ensures.0 in
+    let low = low-parts t (goal.at.added-more-requires t c).After-right_of-s in
     omega (arith, c.content_of-c.ensures, low.0, c.requires.1.1.1.1, c.requires.0.few)
 
 pub content_of-d-requires : goal.content_of-d-requires
 content_of-d-requires t c =
-    let low = lower c.args.t.now c.args.n c.requires.0 c.args.x c.kind_of-kind.result c.left_of-l.result c.right_of-s.result c.requires.1.1.1.1 c.kind_of-kind.ensures.0 (omega (arith, c.if-kind-eq-PAIR.true)) c.left_of-l.ensures.0 c.right_of-s.ensures.0 in
+    let low = low-parts t (goal.at.content_of-d-requires t c).After-right_of-s in
     (c.requires.0, (search rules, omega (arith, low.1, c.requires.1.1.1.1)))
 
 pub is_readable-found_too-requires : goal.is_readable-found_too-requires
 is_readable-found_too-requires t c =
-    let low = lower c.args.t.now c.args.n c.requires.0 c.args.x c.kind_of-kind.result c.left_of-l.result c.right_of-s.result c.requires.1.1.1.1 c.kind_of-kind.ensures.0 (omega (arith, c.if-kind-eq-PAIR.true)) c.left_of-l.ensures.0 c.right_of-s.ensures.0 in
-    let both : SureRows (rows_of c.args.t.now) c.shared-both.result c.args.sure = sure-both c.args.t.now c.requires.0 c.learned-with_second.ensures.1 c.learned-with_first.ensures.1 c.shared-both.ensures c.args.sure c.requires.1.1.0 in
-    let first : SureRows (rows_of c.args.t.now) c.shared-both.result c.added-more.result = rows-added (rows_of c.args.t.now) c.shared-both.result c.args.sure both c.added-more.result c.content_of-c.result c.is_readable-found.result c.added-more.ensures c.is_readable-found.ensures.0.yes in
+    let low = low-parts t (goal.at.is_readable-found_too-requires t c).After-right_of-s in
+    let first = sure-more c.args.t.now c.requires.0 c.learned-with_second.ensures.1 c.learned-with_first.ensures.1 c.shared-both.ensures c.args.sure c.requires.1.1.0 c.added-more.result c.added-more.ensures c.is_readable-found.ensures.0.yes in
     (omega (arith, c.content_of-d.ensures, low.1), (c.requires.0, (c.requires.1.0, (first, (c.is_readable-found.ensures.1, omega (arith, c.content_of-d.ensures, low.1, c.requires.1.1.1.1))))))
 
 pub added-most-requires : goal.added-most-requires
 added-most-requires t c =
-    let low = lower c.args.t.now c.args.n c.requires.0 c.args.x c.kind_of-kind.result c.left_of-l.result c.right_of-s.result c.requires.1.1.1.1 c.kind_of-kind.ensures.0 (omega (arith, c.if-kind-eq-PAIR.true)) c.left_of-l.ensures.0 c.right_of-s.ensures.0 in
+    let low = low-parts t (goal.at.added-most-requires t c).After-right_of-s in
     omega (arith, c.content_of-d.ensures, low.1, c.requires.1.1.1.1, c.requires.0.few)
 
 pub is_readable-requires : goal.is_readable-requires
 is_readable-requires t c =
-    let low = lower c.args.t.now c.args.n c.requires.0 c.args.x c.kind_of-kind.result c.left_of-l.result c.right_of-s.result c.requires.1.1.1.1 c.kind_of-kind.ensures.0 (omega (arith, c.if-kind-eq-PAIR.true)) c.left_of-l.ensures.0 c.right_of-s.ensures.0 in
-    let both : SureRows (rows_of c.args.t.now) c.shared-both.result c.args.sure = sure-both c.args.t.now c.requires.0 c.learned-with_second.ensures.1 c.learned-with_first.ensures.1 c.shared-both.ensures c.args.sure c.requires.1.1.0 in
-    let first : SureRows (rows_of c.args.t.now) c.shared-both.result c.added-more.result = rows-added (rows_of c.args.t.now) c.shared-both.result c.args.sure both c.added-more.result c.content_of-c.result c.is_readable-found.result c.added-more.ensures c.is_readable-found.ensures.0.yes in
-    let second : SureRows (rows_of c.args.t.now) c.shared-both.result c.added-most.result = rows-added (rows_of c.args.t.now) c.shared-both.result c.added-more.result first c.added-most.result c.content_of-d.result c.is_readable-found_too.result c.added-most.ensures c.is_readable-found_too.ensures.0.yes in
-    (omega (arith, low.0), (c.requires.0, (c.requires.1.0, (sure-one c.args.t.now c.requires.0 c.learned-with_second.ensures.1 c.learned-with_first.ensures.1 c.shared-both.ensures c.added-most.result second, (c.is_readable-found_too.ensures.1, omega (arith, low.0, c.requires.1.1.1.1))))))
+    let low = low-parts t (goal.at.is_readable-requires t c).After-right_of-s in
+    let parts = sure-parts c.args.t.now c.requires.0 c.learned-with_second.ensures.1 c.learned-with_first.ensures.1 c.shared-both.ensures c.args.sure c.requires.1.1.0 c.added-more.result c.added-more.ensures c.is_readable-found.ensures.0.yes c.added-most.result c.added-most.ensures c.is_readable-found_too.ensures.0.yes in
+    (omega (arith, low.0), (c.requires.0, (c.requires.1.0, (parts.0, (c.is_readable-found_too.ensures.1, omega (arith, low.0, c.requires.1.1.1.1))))))
 
 pub returns-then-not-is_readable : goal.returns-then-not-is_readable
 returns-then-not-is_readable t c =
-    let pairs = sym c.kind_of-kind.ensures.0 ∙ c.if-kind-eq-PAIR.true in (
+    let pairs = is-pair t (goal.at.returns-then-not-is_readable t c).After-right_of-s in (
       answer-no c.args.t.now c.args.n c.requires.0 c.args.marks c.args.x c.args.quick (λ q. unreadable-first c.args.t.now c.args.n c.requires.0 c.args.marks c.args.x c.left_of-l.ensures.0 c.right_of-s.ensures.0 pairs c.learned-with_second.result c.learned-with_second.ensures.0 (c.is_readable.ensures.0.no q c.if-not-is_readable.true) refl),
-      notes-hinted (rows_of c.args.t.now) _ c.args.x 1 (omega (arith, c.requires.1.1.1.1, c.requires.0.few)) c.is_readable.ensures.1,
+      notes-hinted (rows_of c.args.t.now) _ c.args.x 1 (fits c.args.t.now c.args.n c.requires.0 c.args.x c.requires.1.1.1.1) c.is_readable.ensures.1,
     )
 
 pub is_readable-requires-then-kind-eq-PAIR : goal.is_readable-requires-then-kind-eq-PAIR
 is_readable-requires-then-kind-eq-PAIR t c =
-    let low = lower c.args.t.now c.args.n c.requires.0 c.args.x c.kind_of-kind.result c.left_of-l.result c.right_of-s.result c.requires.1.1.1.1 c.kind_of-kind.ensures.0 (omega (arith, c.if-kind-eq-PAIR.true)) c.left_of-l.ensures.0 c.right_of-s.ensures.0 in
-    let both : SureRows (rows_of c.args.t.now) c.shared-both.result c.args.sure = sure-both c.args.t.now c.requires.0 c.learned-with_second.ensures.1 c.learned-with_first.ensures.1 c.shared-both.ensures c.args.sure c.requires.1.1.0 in
-    let first : SureRows (rows_of c.args.t.now) c.shared-both.result c.added-more.result = rows-added (rows_of c.args.t.now) c.shared-both.result c.args.sure both c.added-more.result c.content_of-c.result c.is_readable-found.result c.added-more.ensures c.is_readable-found.ensures.0.yes in
-    let second : SureRows (rows_of c.args.t.now) c.shared-both.result c.added-most.result = rows-added (rows_of c.args.t.now) c.shared-both.result c.added-more.result first c.added-most.result c.content_of-d.result c.is_readable-found_too.result c.added-most.ensures c.is_readable-found_too.ensures.0.yes in
-    (omega (arith, low.1), (c.requires.0, (c.requires.1.0, (sure-other c.args.t.now c.requires.0 c.learned-with_second.ensures.1 c.learned-with_first.ensures.1 c.shared-both.ensures c.added-most.result second, (c.is_readable.ensures.1, omega (arith, low.1, c.requires.1.1.1.1))))))
+    let low = low-parts t (goal.at.is_readable-requires-then-kind-eq-PAIR t c).After-right_of-s in
+    let parts = sure-parts c.args.t.now c.requires.0 c.learned-with_second.ensures.1 c.learned-with_first.ensures.1 c.shared-both.ensures c.args.sure c.requires.1.1.0 c.added-more.result c.added-more.ensures c.is_readable-found.ensures.0.yes c.added-most.result c.added-most.ensures c.is_readable-found_too.ensures.0.yes in
+    (omega (arith, low.1), (c.requires.0, (c.requires.1.0, (parts.1, (c.is_readable.ensures.1, omega (arith, low.1, c.requires.1.1.1.1))))))
 
 pub returns-then-not-is_readable-2 : goal.returns-then-not-is_readable-2
 returns-then-not-is_readable-2 t c =
-    let pairs = sym c.kind_of-kind.ensures.0 ∙ c.if-kind-eq-PAIR.true in (
+    let pairs = is-pair t (goal.at.returns-then-not-is_readable-2 t c).After-right_of-s in (
       answer-no c.args.t.now c.args.n c.requires.0 c.args.marks c.args.x c.args.quick (λ q. readable-second c.args.t.now c.args.n c.requires.0 c.args.marks c.args.x c.left_of-l.ensures.0 c.right_of-s.ensures.0 pairs c.learned-with_second.result c.learned-with_second.ensures.0 (sure-readable c.args.t.now c.args.n c.requires.0 c.learned-with_second.result c.left_of-l.result (c.is_readable.ensures.0.yes c.if-not-is_readable.false)) refl c.learned-with_first.result c.learned-with_first.ensures.0 (c.is_readable-then-kind-eq-PAIR.ensures.0.no q c.if-not-is_readable-2.true)),
-      notes-hinted (rows_of c.args.t.now) _ c.args.x 2 (omega (arith, c.requires.1.1.1.1, c.requires.0.few)) c.is_readable-then-kind-eq-PAIR.ensures.1,
+      notes-hinted (rows_of c.args.t.now) _ c.args.x 2 (fits c.args.t.now c.args.n c.requires.0 c.args.x c.requires.1.1.1.1) c.is_readable-then-kind-eq-PAIR.ensures.1,
     )
 
 pub returns-then-kind-eq-PAIR : goal.returns-then-kind-eq-PAIR
 returns-then-kind-eq-PAIR t c =
-    let pairs = sym c.kind_of-kind.ensures.0 ∙ c.if-kind-eq-PAIR.true in
+    let pairs = is-pair t (goal.at.returns-then-kind-eq-PAIR t c).After-right_of-s in
     let sure : Sure (rows_of c.args.t.now) c.args.marks c.args.x = sure-pair c.args.t.now c.args.n c.requires.0 c.args.marks c.args.x c.left_of-l.ensures.0 c.right_of-s.ensures.0 pairs c.learned-with_second.ensures.1 (c.is_readable.ensures.0.yes c.if-not-is_readable.false) c.learned-with_first.ensures.1 (c.is_readable-then-kind-eq-PAIR.ensures.0.yes c.if-not-is_readable-2.false) in
     (answer-yes c.args.t.now c.args.n c.requires.0 c.args.marks c.args.x c.args.quick sure, notes-kept c.args.t.now c.args.n c.requires.0 _ c.is_readable-then-kind-eq-PAIR.ensures.1 c.args.marks c.args.x _ sure c.keep.ensures)
 
 pub inverse_known-requires : goal.inverse_known-requires
 inverse_known-requires t c =
-    let low = parts-lower c.args.t.now c.args.n c.requires.0 c.args.x c.requires.1.1.1.1 c.kind_of-kind.ensures.0 (omega (arith, c.if-kind-eq-ENCRYPTED.true)) in
+    let low = low-content t (goal.at.inverse_known-requires t c).After-right_of in
     (c.requires.0, (search rules, omega (arith, low.1, c.right_of.ensures.0, c.requires.1.1.1.1)))
 
 pub is_readable-requires-then-inverse_known : goal.is_readable-requires-then-inverse_known
 is_readable-requires-then-inverse_known t c =
-    let low = parts-lower c.args.t.now c.args.n c.requires.0 c.args.x c.requires.1.1.1.1 c.kind_of-kind.ensures.0 (omega (arith, c.if-kind-eq-ENCRYPTED.true)) in
-    (omega (arith, low.0, c.left_of.ensures.0), (c.requires.0, (c.requires.1.0, (c.requires.1.1.0, (notes-hinted (rows_of c.args.t.now) _ c.args.x 0 (omega (arith, c.requires.1.1.1.1, c.requires.0.few)) c.requires.1.1.1.0, omega (arith, low.0, c.left_of.ensures.0, c.requires.1.1.1.1))))))
+    let low = low-content t (goal.at.is_readable-requires-then-inverse_known t c).After-right_of in
+    (omega (arith, low.0, c.left_of.ensures.0), (c.requires.0, (c.requires.1.0, (c.requires.1.1.0, (notes-hinted (rows_of c.args.t.now) _ c.args.x 0 (fits c.args.t.now c.args.n c.requires.0 c.args.x c.requires.1.1.1.1) c.requires.1.1.1.0, omega (arith, low.0, c.left_of.ensures.0, c.requires.1.1.1.1))))))
 
 pub returns-then-inverse_known : goal.returns-then-inverse_known
 returns-then-inverse_known t c =
-    let encrypts = sym c.kind_of-kind.ensures.0 ∙ c.if-kind-eq-ENCRYPTED.true in
+    let encrypts = is-encrypted t (goal.at.returns-then-inverse_known t c).After-right_of in
     let r = c.is_readable-then-inverse_known.ensures in (
       record {
         yes = λ e. sure-content c.args.t.now c.args.n c.requires.0 c.args.marks c.args.x c.left_of.ensures.0 c.right_of.ensures.0 encrypts c.inverse_known.ensures.1 c.if-inverse_known.true (r.0.yes e);
@@ -146,9 +171,9 @@ returns-then-inverse_known t c =
 
 pub returns-then-kind-eq-ENCRYPTED : goal.returns-then-kind-eq-ENCRYPTED
 returns-then-kind-eq-ENCRYPTED t c =
-    let encrypts = sym c.kind_of-kind.ensures.0 ∙ c.if-kind-eq-ENCRYPTED.true in (
+    let encrypts = is-encrypted t (goal.at.returns-then-kind-eq-ENCRYPTED t c).After-right_of in (
       answer-no c.args.t.now c.args.n c.requires.0 c.args.marks c.args.x c.args.quick (λ q. unreadable-closed c.args.t.now c.args.n c.requires.0 c.args.marks c.args.x refl c.right_of.ensures.0 encrypts c.if-marks-x.false c.inverse_known.ensures.0 c.if-inverse_known.false),
-      notes-hinted (rows_of c.args.t.now) _ c.args.x 3 (omega (arith, c.requires.1.1.1.1, c.requires.0.few)) c.requires.1.1.1.0,
+      notes-hinted (rows_of c.args.t.now) _ c.args.x 3 (fits c.args.t.now c.args.n c.requires.0 c.args.x c.requires.1.1.1.1) c.requires.1.1.1.0,
     )
 
 pub returns : goal.returns

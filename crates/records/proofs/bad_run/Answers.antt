@@ -9,26 +9,29 @@ use Rattle.rows.specs.Rows.{rows_of, place_as}
 use Rattle.records.specs.Records.{record_at}
 use Rattle.records.specs.laws.Records.{rest-whole, bad-here, bad-later, bad-none}
 use Rattle.records.specs.laws.Runs.{run-bytes, runs-all}
+use Rattle.records.proofs.bad_run.Goals.{After-good_run}
 use Rattle.records.proofs.bad_run.Goals as goal
+
+-- what the call tells is told of the run record at the place
+judged : (c : After-good_run) → good_run (rows_of c.args.t.now) c.args.roles c.loop-start.i (record_at (run_length c.args.roles) (c.args.base + c.loop-start.start) (drop c.loop-start.start c.args.b.now)) ≡ c.good_run.result
+judged c = sym (rw rest-whole at (c.good_run.ensures (c.args.base + c.loop-start.start)))
 
 pub loop-start-init : goal.loop-start-init
 loop-start-init c = (omega arith, (omega arith, runs-all (rows_of c.args.t.now) c.args.roles c.args.base c.args.b.now))
 
 pub returns-then-not-good_run : goal.returns-then-not-good_run
 returns-then-not-good_run c =
-    let judged : good_run (rows_of c.args.t.now) c.args.roles c.loop-start.i (record_at (run_length c.args.roles) (c.args.base + c.loop-start.start) (drop c.loop-start.start c.args.b.now)) ≡ c.good_run.result = sym (rw rest-whole at (c.good_run.ensures (c.args.base + c.loop-start.start))) in
     sym (ap place_as (c.loop-start.invariant.1.1 ∙ bad-here (run_length c.args.roles) (run-bytes c.args.roles) c.args.base c.args.b.now c.loop-start.start
-    c.loop-start-test.true (good_run (rows_of c.args.t.now) c.args.roles) c.loop-start.i (judged ∙ c.if-not-good_run.true)))
+    c.loop-start-test.true (good_run (rows_of c.args.t.now) c.args.roles) c.loop-start.i (judged (goal.at.returns-then-not-good_run c).After-good_run ∙ c.if-not-good_run.true)))
 
 pub loop-start-preserved : goal.loop-start-preserved
 loop-start-preserved c =
-    let judged : good_run (rows_of c.args.t.now) c.args.roles c.loop-start.i (record_at (run_length c.args.roles) (c.args.base + c.loop-start.start) (drop c.loop-start.start c.args.b.now)) ≡ c.good_run.result = sym (rw rest-whole at (c.good_run.ensures (c.args.base + c.loop-start.start))) in
     let z : 1 + c.args.roles ≡ run_length c.args.roles c.args.b.now = omega arith in (
       omega arith,
       (
         omega arith,
         rw z (c.loop-start.invariant.1.1 ∙ bad-later (run_length c.args.roles) (run-bytes c.args.roles) c.args.base c.args.b.now c.loop-start.start
-            c.loop-start-test.true (good_run (rows_of c.args.t.now) c.args.roles) c.loop-start.i (judged ∙ c.if-not-good_run.false)),
+            c.loop-start-test.true (good_run (rows_of c.args.t.now) c.args.roles) c.loop-start.i (judged (goal.at.loop-start-preserved c).After-good_run ∙ c.if-not-good_run.false)),
       ),
     )
 
