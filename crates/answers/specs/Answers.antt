@@ -1,5 +1,5 @@
 -- For each answer of the definitions its case of the code's enum. Assumes nothing.
-use Rattle.std.specs.Prelude.{ℕ, ◌≡◌, Bool, true, false, List, [], length}
+use Rattle.std.specs.Prelude.{Option as CodeOption, Result, ℕ, ◌≡◌, Bool, true, false, List, [], length, Err, None, Ok, Some}
 use Rattle.std.proofs.Math.Option.{Option, none, some}
 use Rattle.semantics.specs.Answer as definitions
 use Rattle.semantics.specs.Answer.{Answer, refused, accepted}
@@ -12,20 +12,10 @@ use Rattle.semantics.specs.State as states
 use Rattle.semantics.specs.Verdict as verdicts
 use Rattle.semantics.specs.Verdict.{broken_at, held, stopped, trace_bytes, Entry, Finding, found, nothing, cut}
 use Rattle.answers.specs.declared.Refusal.{Refusal}
-use Rattle.answers.specs.declared.Checked.{Checked}
-use Rattle.answers.specs.declared.Checked.TheVariants as checking
-use Rattle.answers.specs.declared.Derived.{Derived}
-use Rattle.answers.specs.declared.Derived.TheVariants as derives
 use Rattle.answers.specs.declared.Layout.{Layout}
-use Rattle.answers.specs.declared.Opened.{Opened}
-use Rattle.answers.specs.declared.Opened.TheVariants as opening
 use Rattle.answers.specs.declared.Claim.{Claim}
 use Rattle.answers.specs.declared.ClaimKind.{ClaimKind}
 use Rattle.answers.specs.declared.ClaimKind.TheVariants.{Secrecy}
-use Rattle.answers.specs.declared.Claimed.{Claimed}
-use Rattle.answers.specs.declared.Claimed.TheVariants as claiming
-use Rattle.answers.specs.declared.Replayed.{Replayed}
-use Rattle.answers.specs.declared.Replayed.TheVariants as replaying
 use Rattle.answers.specs.declared.Break.{Break}
 use Rattle.answers.specs.declared.Verdict.{Verdict}
 use Rattle.answers.specs.declared.Verdict.TheVariants as searching
@@ -40,15 +30,25 @@ abbrev pub refusal_as : definitions.Refusal → Refusal
 refusal_as r = numbered r.number r.place
 
 -- a check: refused or passed
-abbrev pub checked_as : Answer (Unit {0}) → Checked
-checked_as (refused r) = checking.Refused (refusal_as r)
-checked_as (accepted u) = checking.Passed
+abbrev pub Checked : Type 0
+Checked = Result (Unit {0}) Refusal
 
--- Derive: derivable, not derivable, or refused
+abbrev pub checked_as : Answer (Unit {0}) → Checked
+checked_as (refused r) = Err (refusal_as r)
+checked_as (accepted u) = Ok tt
+
+-- a condition that holds at a place refuses
+abbrev pub refused_at : ℕ → CodeOption ℕ → Checked
+refused_at n (Some at) = Err (numbered n at)
+refused_at n None = Ok tt
+
+-- Derive: derivable or not, or refused
+abbrev pub Derived : Type 0
+Derived = Result Bool Refusal
+
 abbrev pub derived_as : Answer Bool → Derived
-derived_as (refused r) = derives.Refused (refusal_as r)
-derived_as (accepted true) = derives.Derivable
-derived_as (accepted false) = derives.NotDerivable
+derived_as (refused r) = Err (refusal_as r)
+derived_as (accepted b) = Ok b
 
 -- where the blocks of a file stand, and how many rows, roles, runs and knowledge rows its scenario has
 abbrev pub layout_of : List ℕ → Scenario → Layout
@@ -62,9 +62,12 @@ layout_of file sc =
     }
 
 -- Open: refused, or accepted with the layout
+abbrev pub Opened : Type 0
+Opened = Result Layout Refusal
+
 abbrev pub opened_as : List ℕ → Answer Scenario → Opened
-opened_as file (refused r) = opening.Refused (refusal_as r)
-opened_as file (accepted sc) = opening.Accepted (layout_of file sc)
+opened_as file (refused r) = Err (refusal_as r)
+opened_as file (accepted sc) = Ok (layout_of file sc)
 
 -- the scenario of an answer, and one with nothing in it of a refusal
 abbrev pub scenario_or : Answer Scenario → Scenario
@@ -89,19 +92,24 @@ abbrev pub claim_as : states.Claim → Claim
 claim_as c = record { run = c.run; event = c.event; kind = kind_as c.kind }
 
 -- the claim broken, or none
+abbrev pub Claimed : Type 0
+Claimed = CodeOption Claim
+
 abbrev pub claimed_as : Option states.Claim → Claimed
-claimed_as none = claiming.Nothing
-claimed_as (some c) = claiming.Broken (claim_as c)
+claimed_as none = None
+claimed_as (some c) = Some (claim_as c)
 
 -- Replay: refused, the claim broken, or none
+abbrev pub Replayed : Type 0
+Replayed = Result Claimed Refusal
+
 abbrev pub replayed_as : Answer (Option states.Claim) → Replayed
-replayed_as (refused r) = replaying.Refused (refusal_as r)
-replayed_as (accepted none) = replaying.NoClaim
-replayed_as (accepted (some c)) = replaying.Broken (claim_as c)
+replayed_as (refused r) = Err (refusal_as r)
+replayed_as (accepted o) = Ok (claimed_as o)
 
 -- a break: its place in the list, the length of its trace in bytes, and the claim
 abbrev pub break_as : ℕ → List Move → states.Claim → Break
-break_as p ms c = record { place = p; length = length (trace_bytes ms); run = c.run; event = c.event; kind = kind_as c.kind }
+break_as p ms c = record { place = p; length = length (trace_bytes ms); claim = claim_as c }
 
 -- a break; the list's length; or the budget
 abbrev pub verdict_as : verdicts.Verdict → Verdict
@@ -110,9 +118,12 @@ verdict_as (held n) = searching.Held n
 verdict_as (stopped n) = searching.Stopped n
 
 -- Search: refused, or the verdict
-abbrev pub searched_as : Answer verdicts.Verdict → Verdict
-searched_as (refused r) = searching.Refused (refusal_as r)
-searched_as (accepted v) = verdict_as v
+abbrev pub Searched : Type 0
+Searched = Result Verdict Refusal
+
+abbrev pub searched_as : Answer verdicts.Verdict → Searched
+searched_as (refused r) = Err (refusal_as r)
+searched_as (accepted v) = Ok (verdict_as v)
 
 -- a walk through some entries: the break, how many entries there are without one, or that the budget ended
 abbrev pub walked_as : List Entry → Finding → Walked

@@ -4,28 +4,13 @@
 ghost use Rattle.std.specs.Prelude.{◌≡◌};
 ghost use Rattle.semantics.specs.Answer.{checked};
 ghost use Rattle.semantics.specs.Verdict.{short_buffer};
-ghost use Rattle.answers.specs.Answers.{checked_as, answered};
+ghost use Rattle.answers.specs.Answers.{checked_as, refused_at, answered};
 
 // "A refusal is a number and a place, the offset of the item's first byte"
 #[derive(Clone, Copy)]
 pub struct Refusal {
     pub number: usize,
     pub place: usize,
-}
-
-// What a check answers that gives nothing else.
-#[derive(Clone, Copy)]
-pub enum Checked {
-    Refused(Refusal),
-    Passed,
-}
-
-// What Derive answers.
-#[derive(Clone, Copy)]
-pub enum Derived {
-    Refused(Refusal),
-    Derivable,
-    NotDerivable,
 }
 
 // A block of an accepted file: where its bytes begin, and how many rows, roles, runs or knowledge rows it has.
@@ -45,13 +30,6 @@ pub struct Layout {
     pub knowledge: Block,
 }
 
-// What Open answers.
-#[derive(Clone, Copy)]
-pub enum Opened {
-    Refused(Refusal),
-    Accepted(Layout),
-}
-
 // The kind of a claim.
 #[derive(Clone, Copy)]
 pub enum ClaimKind {
@@ -66,35 +44,17 @@ pub struct Claim {
     pub kind: ClaimKind,
 }
 
-// The claim that a state breaks, or none.
-#[derive(Clone, Copy)]
-pub enum Claimed {
-    Broken(Claim),
-    Nothing,
-}
-
-// What Replay answers.
-#[derive(Clone, Copy)]
-pub enum Replayed {
-    Refused(Refusal),
-    Broken(Claim),
-    NoClaim,
-}
-
-// A break: its place in the list, the length of its trace in bytes, and the claim's run, event and kind.
+// A break: its place in the list, the length of its trace in bytes, and the claim.
 #[derive(Clone, Copy)]
 pub struct Break {
     pub place: usize,
     pub length: usize,
-    pub run: usize,
-    pub event: usize,
-    pub kind: ClaimKind,
+    pub claim: Claim,
 }
 
-// What Search answers: a break, the list's length, or the budget.
+// What Search finds: a break, the list's length, or the budget.
 #[derive(Clone, Copy)]
 pub enum Verdict {
-    Refused(Refusal),
     Broken(Break),
     Held(usize),
     Stopped(usize),
@@ -116,17 +76,27 @@ impl Trace {
     pub const MOST_BYTES: usize = 128;
 }
 
+// The refusal of a condition that holds at a place, if there is one.
+pub fn refused_at(number: usize, place: Option<usize>) -> Result<(), Refusal>
+    ensures { result ≡ refused_at number place }
+{
+    match place {
+        Some(place) => Err(Refusal { number, place }),
+        None => Ok(()),
+    }
+}
+
 // "10 if the trace buffer is shorter than 128 bytes, place its length"
-pub fn check_buffer(trace: &[u8]) -> Checked
+pub fn check_buffer(trace: &[u8]) -> Result<(), Refusal>
     ensures { result ≡ checked_as (checked 10 (short_buffer trace.now)) }
 {
     if trace.len() < Trace::MOST_BYTES {
-        return Checked::Refused(Refusal {
+        return Err(Refusal {
             number: 10,
             place: trace.len(),
         });
     }
-    Checked::Passed
+    Ok(())
 }
 
 // The verdict by what the walk through the whole list found with a budget.

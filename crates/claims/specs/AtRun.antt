@@ -17,7 +17,7 @@ use Rattle.state.specs.Readings.{sets_of, readings}
 use Rattle.state.specs.State.{Given, IsState}
 use Rattle.state.specs.declared.State.{State as CodeState}
 use Rattle.answers.specs.Answers.{claimed_as}
-use Rattle.answers.specs.declared.Claimed.{Claimed}
+use Rattle.answers.specs.Answers.{Claimed}
 
 -- run k of a scenario, from 0, its progress in a state, and marks that are exact there
 pub record AtRun (file : List ℕ) (r : Runs) (sc : Scenario) (d : State) (marks : List Bool) (k : ℕ) (run : Run) (p : Progress) : Type 0 where

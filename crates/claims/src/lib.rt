@@ -10,7 +10,7 @@ ghost use Rattle.runs.specs.Runs.{RunsAt};
 ghost use Rattle.state.specs.State.{Given, IsState};
 ghost use Rattle.claims.specs.AtRun.{AnswersEvent, AnswersRun, AnswersState};
 
-use answers::{Claim, ClaimKind, Claimed};
+use answers::{Claim, ClaimKind};
 use cells::{Cells, cell};
 use records::Event;
 use runs::Runs;
@@ -42,7 +42,7 @@ fn broken_in_run(
     marks: &[bool],
     done: usize,
     k: usize,
-) -> Claimed
+) -> Option<Claim>
     requires { ((sc : Scenario) × Given file.now t.now n r sc) × ((length marks.now ≡ cell_count) × (k < r.count)) }
     ensures { AnswersRun file.now t.now r marks.now done k result }
 {
@@ -52,7 +52,7 @@ fn broken_in_run(
             let event = j;
             j += 1;
             if claims_derivable(file, r, marks, k, event) {
-                return Claimed::Broken(Claim {
+                return Some(Claim {
                     run: k + 1,
                     event,
                     kind: ClaimKind::Secrecy,
@@ -60,7 +60,7 @@ fn broken_in_run(
             }
         }
     }
-    Claimed::Nothing
+    None
 }
 
 // The first claim that a state breaks: of the lowest run, and there the first of its events.
@@ -71,7 +71,7 @@ pub fn broken(
     r: Runs,
     done: [usize; 4],
     marks: [bool; Cells::COUNT],
-) -> Claimed
+) -> Option<Claim>
     requires { (sc : Scenario) × (d : definitions.State) × (s : State) × Given file.now t.now n r sc × IsState sc d s × (done ≡ s.done) × (marks ≡ s.marks) }
     ensures { AnswersState file.now t.now n r done marks result }
 {
@@ -79,10 +79,10 @@ pub fn broken(
     let mut k = 0;
     while k < runs {
         let found = broken_in_run(file, t, n, r, &marks, done[k], k);
-        if let Claimed::Broken(_) = found {
+        if let Some(_) = found {
             return found;
         }
         k += 1;
     }
-    Claimed::Nothing
+    None
 }

@@ -3,7 +3,7 @@ use Rattle.std.specs.Prelude.{ℕ, ◌≡◌, List, length}
 use Rattle.semantics.specs.Table.{Row}
 use Rattle.semantics.specs.Derive.{absent_from}
 use Rattle.rows.specs.Rows.{place_as}
-use Rattle.rows.specs.declared.Place.{Place}
+use Rattle.rows.specs.Rows.{Place}
 
 -- the place of an absent row, for any table with so many rows
 abbrev pub AbsentAt : ℕ → List ℕ → ℕ → Place → Type 0

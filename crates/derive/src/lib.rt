@@ -9,24 +9,23 @@ ghost use Rattle.role_level.specs.RoleLevel.{ListedBelow};
 ghost use Rattle.answers.specs.Answers.{derived_as};
 ghost use Rattle.derive.specs.Absent.{AbsentAt};
 
-use answers::{Derived, Refusal};
-use rows::Place;
+use answers::Refusal;
 
 // Refusal 11: the place of the first listed row that is absent, or the list's length if the target is.
-fn absent_at(list: &[u8], n: usize, target: u64) -> Place
+fn absent_at(list: &[u8], n: usize, target: u64) -> Option<usize>
     ensures { AbsentAt n list.now target result }
 {
     let mut i = 0;
     while i < list.len() {
         if n <= rows::wide(list[i]) {
-            return Place::At(i);
+            return Some(i);
         }
         i += 1;
     }
     if n as u64 <= target {
-        return Place::At(i);
+        return Some(i);
     }
-    Place::Nowhere
+    None
 }
 
 // Whether a row of a table is derivable from listed rows.
@@ -40,27 +39,11 @@ fn is_known(t: &[u8], n: usize, list: &[u8], target: usize) -> bool
 }
 
 // "Derive has a table, a list of rows (one byte each, any order, repeats allowed) and a target, role-level terms being atoms."
-pub fn derive(t: &[u8], list: &[u8], target: u64) -> Derived
+pub fn derive(t: &[u8], list: &[u8], target: u64) -> Result<bool, Refusal>
     ensures { result ≡ derived_as (derived t.now list.now target) }
 {
-    let judged = table::check(t, 0);
-    match judged {
-        table::Judged::Refused(r) => Derived::Refused(r),
-        table::Judged::Rows(n) => {
-            let place = absent_at(list, n, target);
-            match place {
-                Place::At(at) => Derived::Refused(Refusal {
-                    number: 11,
-                    place: at,
-                }),
-                Place::Nowhere => {
-                    if is_known(t, n, list, target as usize) {
-                        Derived::Derivable
-                    } else {
-                        Derived::NotDerivable
-                    }
-                }
-            }
-        }
-    }
+    let n = table::check(t, 0)?;
+    let absent = absent_at(list, n, target);
+    answers::refused_at(11, absent)?;
+    Ok(is_known(t, n, list, target as usize))
 }

@@ -7,8 +7,7 @@ ghost use Rattle.rows.specs.Rows.{place_as};
 ghost use Rattle.answers.specs.Answers.{checked_as};
 ghost use Rattle.frame.specs.Framing.{framing_of, IsFramed};
 
-use answers::{Checked, Refusal};
-use rows::Place;
+use answers::Refusal;
 
 // The limit of a file.
 #[derive(Drop)]
@@ -63,64 +62,48 @@ fn is_framed(s: &[u8], n: usize) -> bool
 }
 
 // Refusal 1: the file is empty, or its version is not 1.
-fn unversioned(file: &[u8]) -> Place
+fn unversioned(file: &[u8]) -> Option<usize>
     ensures { result ≡ place_as (unversioned file.now) }
 {
     if file.len() == 0 {
-        return Place::At(0);
+        return Some(0);
     }
     if file[0] != 1 {
-        return Place::At(0);
+        return Some(0);
     }
-    Place::Nowhere
+    None
 }
 
 // Refusal 2: the file is longer than the limit.
-fn too_long(file: &[u8]) -> Place
+fn too_long(file: &[u8]) -> Option<usize>
     ensures { result ≡ place_as (too_long file.now) }
 {
     if File::MOST_BYTES < file.len() {
-        return Place::At(File::MOST_BYTES);
+        return Some(File::MOST_BYTES);
     }
-    Place::Nowhere
+    None
 }
 
 // Refusal 3: the budget or a block runs past the end, or bytes remain after the last block.
-fn misframed(file: &[u8]) -> Place
+fn misframed(file: &[u8]) -> Option<usize>
     ensures { result ≡ place_as (misframed file.now) }
 {
     if file.len() < 5 {
-        return Place::At(file.len());
+        return Some(file.len());
     }
     if is_framed(&file[5..], File::BLOCKS) {
-        return Place::Nowhere;
+        return None;
     }
-    Place::At(file.len())
+    Some(file.len())
 }
 
 // Refusals 1 to 3, in this order.
-pub fn check(file: &[u8]) -> Checked
+pub fn check(file: &[u8]) -> Result<(), Refusal>
     ensures { result ≡ checked_as (framing_of file.now) }
 {
-    match unversioned(file) {
-        Place::At(place) => {
-            return Checked::Refused(Refusal { number: 1, place });
-        }
-        Place::Nowhere => {}
-    }
-    match too_long(file) {
-        Place::At(place) => {
-            return Checked::Refused(Refusal { number: 2, place });
-        }
-        Place::Nowhere => {}
-    }
-    match misframed(file) {
-        Place::At(place) => {
-            return Checked::Refused(Refusal { number: 3, place });
-        }
-        Place::Nowhere => {}
-    }
-    Checked::Passed
+    answers::refused_at(1, unversioned(file))?;
+    answers::refused_at(2, too_long(file))?;
+    answers::refused_at(3, misframed(file))
 }
 
 // The budget: how many traces of the list may be judged.

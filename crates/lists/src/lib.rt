@@ -8,7 +8,7 @@ ghost use Rattle.semantics.specs.Runs.{bad_knowledge_from};
 ghost use Rattle.rows.specs.Rows.{place_as, rows_of, Sized};
 ghost use Rattle.lists.specs.Lists.{Bars, Valued, clear_at, has_value};
 
-use rows::{Kind, Place};
+use rows::Kind;
 
 // Whether a row has a value if atoms of the kinds from low to high have none, given which of the rows below it have one.
 fn clear_row(t: &[u8], n: usize, clear: &[bool], r: usize, low: usize, high: usize) -> bool
@@ -47,7 +47,7 @@ pub fn clear_rows(t: &[u8], n: usize, low: usize, high: usize) -> [bool; 96]
 }
 
 // The place of the first of some rows, in bytes that begin at a place, that is absent, has no value or is not above the one before it.
-pub fn unfit_row(b: &[u8], base: usize, n: usize, clear: &[bool]) -> Place
+pub fn unfit_row(b: &[u8], base: usize, n: usize, clear: &[bool]) -> Option<usize>
     requires { (n ≤ 96) × ((length clear.now ≡ 96) × (base ≤ 65536)) }
     ensures { result ≡ place_as (unfit_from (has_value n clear.now) base 0 b.now) }
 {
@@ -56,22 +56,22 @@ pub fn unfit_row(b: &[u8], base: usize, n: usize, clear: &[bool]) -> Place
     while i < b.len() {
         let r = rows::wide(b[i]);
         if r < least {
-            return Place::At(base + i);
+            return Some(base + i);
         }
         if n <= r {
-            return Place::At(base + i);
+            return Some(base + i);
         }
         if !clear[r] {
-            return Place::At(base + i);
+            return Some(base + i);
         }
         least = r + 1;
         i += 1;
     }
-    Place::Nowhere
+    None
 }
 
 // Refusal 9: the place of the first knowledge byte against its rule, in a block that begins at a place.
-pub fn bad_knowledge(b: &[u8], base: usize, t: &[u8], n: usize) -> Place
+pub fn bad_knowledge(b: &[u8], base: usize, t: &[u8], n: usize) -> Option<usize>
     requires { Sized t.now n × (base ≤ 65536) }
     ensures { result ≡ place_as (bad_knowledge_from (rows_of t.now) base 0 b.now) }
 {

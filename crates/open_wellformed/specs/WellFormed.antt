@@ -1,5 +1,5 @@
 -- WF as the code answers it: for whatever is known, if the marks are exact for it and each known term is that of a row; and refusal 7 in one role record. Assumes nothing.
-use Rattle.std.specs.Prelude.{ℕ, ◌+◌, ◌*◌, ◌<◌, ◌≤◌, ◌≡◌, Bool, List, length, get_or}
+use Rattle.std.specs.Prelude.{ℕ, ◌+◌, ◌*◌, ◌<◌, ◌≤◌, ◌≡◌, Bool, List, length, get_or, None, Some}
 use Rattle.std.proofs.Math.Option.{Option, some}
 use Rattle.std.proofs.Math.ListN.{get_elem?}
 use Rattle.semantics.specs.Basic.{present_ones}
@@ -9,8 +9,7 @@ use Rattle.semantics.specs.Value.{value_of, as_atoms}
 use Rattle.semantics.specs.Roles.{EventKind, event_kinds, knowledge_count, event_count, role_length, knowledge_in, events_in}
 use Rattle.semantics.specs.WellFormed.{well_formed, learned, ill_formed_from}
 use Rattle.rows.specs.Rows.{place_as}
-use Rattle.rows.specs.declared.Place.{Place}
-use Rattle.rows.specs.declared.Place.TheVariants.{At, Nowhere}
+use Rattle.rows.specs.Rows.{Place}
 use Rattle.role_level.specs.RoleLevel.{RoleCelled, listed_terms, RoleExact, ListedBelow}
 use Rattle.records.specs.Records.{part_at}
 
@@ -38,13 +37,13 @@ pub record GoodRecord (rows : List Row) (s : List ℕ) : Type 0 where
 
 -- the place that lies so far behind another
 abbrev pub place_from : ℕ → Place → Place
-place_from start (At at) = At (start + at)
-place_from start Nowhere = Nowhere
+place_from start (Some at) = Some (start + at)
+place_from start None = None
 
 -- how far that is, 0 where there is no place
 abbrev pub offset_of : Place → ℕ
-offset_of (At at) = at
-offset_of Nowhere = 0
+offset_of (Some at) = at
+offset_of None = 0
 
 -- the first event of a role record that is not well formed, wherever the record begins
 abbrev pub ill_role : List Row → ℕ → List ℕ → ℕ → Option ℕ

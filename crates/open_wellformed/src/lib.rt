@@ -13,7 +13,6 @@ ghost use Rattle.records.specs.Records.{part_at};
 use cells::Cells;
 use open_marks::Notes;
 use records::Event;
-use rows::Place;
 
 // Whether an event of role `own` is well formed.
 fn is_well_formed(
@@ -63,7 +62,7 @@ fn event_learned(
 }
 
 // The place of the first event of role `own` that is not well formed: its offset in the role's record, which begins at the front.
-fn ill_formed_role(s: &[u8], t: &[u8], n: usize, classes: &[u16], own: usize) -> Place
+fn ill_formed_role(s: &[u8], t: &[u8], n: usize, classes: &[u16], own: usize) -> Option<usize>
     requires { Shape t.now n 0 × (RoleClasses (rows_of t.now) classes.now × GoodRecord (rows_of t.now) s.now) }
     ensures { IllRole (rows_of t.now) own s.now result }
 {
@@ -79,17 +78,17 @@ fn ill_formed_role(s: &[u8], t: &[u8], n: usize, classes: &[u16], own: usize) ->
         let peer = rows::wide(s[at + 2]);
         let x = rows::wide(s[at + 3]);
         if !is_well_formed(marks, t, n, classes, own, event, peer, x) {
-            return Place::At(at);
+            return Some(at);
         }
         let more = event_learned(marks, t, n, classes, event, x);
         marks = more;
         j += 1;
     }
-    Place::Nowhere
+    None
 }
 
 // Refusal 7: the place of the first event in role order that is not well formed, in a role block that begins at a place.
-pub fn ill_formed(b: &[u8], base: usize, t: &[u8], n: usize) -> Place
+pub fn ill_formed(b: &[u8], base: usize, t: &[u8], n: usize) -> Option<usize>
     requires { Shape t.now n 0 × ((base ≤ 65536) × (bad_role (rows_of t.now) (role_records (part_at base b.now)) ≡ none)) }
     ensures { result ≡ place_as (ill_formed (rows_of t.now) 0 (roles_from (role_records (part_at base b.now)))) }
 {
@@ -98,15 +97,11 @@ pub fn ill_formed(b: &[u8], base: usize, t: &[u8], n: usize) -> Place
     let mut at = 0;
     while at < b.len() {
         let s = &b[at..];
-        let place = ill_formed_role(s, t, n, &classes, i);
-        match place {
-            Place::At(event) => {
-                return Place::At(base + at + event);
-            }
-            Place::Nowhere => {}
+        if let Some(event) = ill_formed_role(s, t, n, &classes, i) {
+            return Some(base + at + event);
         }
         at += records::role_length(s);
         i += 1;
     }
-    Place::Nowhere
+    None
 }

@@ -1,5 +1,5 @@
 -- The numbers of the code's answers: each is that of the definition's answer. Assumes nothing.
-use Rattle.std.specs.Prelude.{ℕ, ◌≡◌, refl, Bool, true, false, List, length}
+use Rattle.std.specs.Prelude.{ℕ, ◌≡◌, refl, Bool, true, false, List, length, Err, None, Ok, Some}
 use Rattle.std.proofs.Common.{ap}
 use Rattle.std.proofs.Math.Option.{Option, none, some}
 use Rattle.semantics.specs.Roles.{secrecy}
@@ -10,17 +10,11 @@ use Rattle.semantics.specs.State as states
 use Rattle.semantics.specs.Verdict as verdicts
 use Rattle.semantics.specs.Verdict.{broken_at, held, stopped, trace_bytes}
 use Rattle.semantics.specs.Packing.{held_word, stopped_word, accepted_word, derivable_word, not_derivable_word, no_claim_word, word_alone, packed_refusal, packed_number, packed_claim, packed_break, packed_kind, packed_derived, packed_opened, packed_replayed, packed_searched}
-use Rattle.answers.specs.Answers.{kind_as, derived_as, opened_as, replayed_as, searched_as}
+use Rattle.answers.specs.Answers.{Derived, Opened, Replayed, Searched, kind_as, derived_as, opened_as, replayed_as, searched_as}
 use Rattle.answers.specs.declared.Refusal.{Refusal}
 use Rattle.answers.specs.declared.Claim.{Claim}
 use Rattle.answers.specs.declared.ClaimKind.{ClaimKind}
 use Rattle.answers.specs.declared.ClaimKind.TheVariants.{Secrecy}
-use Rattle.answers.specs.declared.Derived.{Derived}
-use Rattle.answers.specs.declared.Derived.TheVariants.{Refused, Derivable, NotDerivable}
-use Rattle.answers.specs.declared.Opened.{Opened}
-use Rattle.answers.specs.declared.Opened.TheVariants as opening
-use Rattle.answers.specs.declared.Replayed.{Replayed}
-use Rattle.answers.specs.declared.Replayed.TheVariants as replaying
 use Rattle.answers.specs.declared.Break.{Break}
 use Rattle.answers.specs.declared.Verdict.{Verdict}
 use Rattle.answers.specs.declared.Verdict.TheVariants as searching
@@ -31,9 +25,9 @@ packed_refused r = packed_refusal r.number r.place
 
 -- Derive's answer
 abbrev pub packed_deriving : Derived → ℕ
-packed_deriving (Refused r) = packed_refused r
-packed_deriving Derivable = word_alone derivable_word
-packed_deriving NotDerivable = word_alone not_derivable_word
+packed_deriving (Err r) = packed_refused r
+packed_deriving (Ok true) = word_alone derivable_word
+packed_deriving (Ok false) = word_alone not_derivable_word
 
 -- the two agree
 pub packed-derived : (a : Answer Bool) → packed_deriving (derived_as a) ≡ packed_derived a
@@ -43,8 +37,8 @@ packed-derived (accepted false) = refl
 
 -- Open's answer
 abbrev pub packed_opening : Opened → ℕ
-packed_opening (opening.Refused r) = packed_refused r
-packed_opening (opening.Accepted layout) = word_alone accepted_word
+packed_opening (Err r) = packed_refused r
+packed_opening (Ok layout) = word_alone accepted_word
 
 -- the two agree
 pub packed-opened : (file : List ℕ) (a : Answer Scenario) → packed_opening (opened_as file a) ≡ packed_opened a
@@ -59,9 +53,9 @@ abbrev pub packed_code_claim : Claim → ℕ
 packed_code_claim c = packed_claim c.run c.event (packed_code_kind c.kind)
 
 abbrev pub packed_replaying : Replayed → ℕ
-packed_replaying (replaying.Refused r) = packed_refused r
-packed_replaying replaying.NoClaim = word_alone no_claim_word
-packed_replaying (replaying.Broken c) = packed_code_claim c
+packed_replaying (Err r) = packed_refused r
+packed_replaying (Ok None) = word_alone no_claim_word
+packed_replaying (Ok (Some c)) = packed_code_claim c
 
 -- there is one kind
 pub kind-two : (k : ClaimKind) → packed_code_kind k ≡ 2
@@ -78,13 +72,16 @@ packed-replayed (accepted (some c)) = ap (packed_claim c.run c.event) (packed-ki
 
 -- Search's answer
 abbrev pub packed_code_break : Break → ℕ
-packed_code_break b = packed_break b.place b.length b.run b.event (packed_code_kind b.kind)
+packed_code_break b = packed_break b.place b.length b.claim.run b.claim.event (packed_code_kind b.claim.kind)
 
-abbrev pub packed_searching : Verdict → ℕ
-packed_searching (searching.Refused r) = packed_refused r
-packed_searching (searching.Broken b) = packed_code_break b
-packed_searching (searching.Held n) = packed_number held_word n
-packed_searching (searching.Stopped n) = packed_number stopped_word n
+abbrev pub packed_verdict : Verdict → ℕ
+packed_verdict (searching.Broken b) = packed_code_break b
+packed_verdict (searching.Held n) = packed_number held_word n
+packed_verdict (searching.Stopped n) = packed_number stopped_word n
+
+abbrev pub packed_searching : Searched → ℕ
+packed_searching (Err r) = packed_refused r
+packed_searching (Ok v) = packed_verdict v
 
 -- the two agree
 pub packed-searched : (a : Answer verdicts.Verdict) → packed_searching (searched_as a) ≡ packed_searched a

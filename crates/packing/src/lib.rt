@@ -5,7 +5,7 @@ ghost use Rattle.std.specs.Prelude.{◌≡◌, ◌<◌, ◌≤◌, min};
 ghost use Rattle.semantics.specs.Packing.{word_alone, packed_number, claim_bits};
 ghost use Rattle.packing.specs.Packing.{packed_refused, packed_deriving, packed_opening, packed_code_kind, packed_code_claim, packed_replaying, packed_code_break, packed_searching};
 
-use answers::{Break, Claim, ClaimKind, Derived, Opened, Refusal, Replayed, Verdict};
+use answers::{Break, Claim, ClaimKind, Layout, Refusal, Verdict};
 
 // The words, one for each kind of answer; a refusal's is 0. Search's:
 const HELD: u64 = 1;
@@ -94,72 +94,72 @@ fn kind_number(kind: ClaimKind) -> u64
 }
 
 // What says a claim, below the word: run, event and kind.
-fn claim_bits(run: usize, event: usize, kind: ClaimKind) -> u64
-    ensures { (result ≡ claim_bits run event (packed_code_kind kind)) × (result < 17592186044416) }
+fn claim_bits(c: Claim) -> u64
+    ensures { (result ≡ claim_bits c.run c.event (packed_code_kind c.kind)) × (result < 17592186044416) }
 {
+    let kind = c.kind;
     kind_number(kind) * KIND_BIT
-        + least(event as u64, MOST_INDEX) * EVENT_BIT
-        + least(run as u64, MOST_INDEX) * RUN_BIT
+        + least(c.event as u64, MOST_INDEX) * EVENT_BIT
+        + least(c.run as u64, MOST_INDEX) * RUN_BIT
 }
 
 // A claim: run, event and kind.
 fn claim(c: Claim) -> u64
     ensures { result ≡ packed_code_claim c }
 {
-    let kind = c.kind;
-    CLAIM * WORD_BIT + claim_bits(c.run, c.event, kind)
+    CLAIM * WORD_BIT + claim_bits(c)
 }
 
 // A break: list place, trace length, and its claim.
 fn broken(b: Break) -> u64
     ensures { result ≡ packed_code_break b }
 {
-    let kind = b.kind;
+    let claim = b.claim;
     with_count(BROKEN, b.place)
         + least(b.length as u64, MOST_LENGTH) * LENGTH_BIT
-        + claim_bits(b.run, b.event, kind)
+        + claim_bits(claim)
 }
 
 // Derive's answer as one number.
-pub fn derived(answer: Derived) -> u64
+pub fn derived(answer: Result<bool, Refusal>) -> u64
     ensures { result ≡ packed_deriving answer }
 {
     match answer {
-        Derived::Refused(r) => refusal(r),
-        Derived::Derivable => word_alone(DERIVABLE),
-        Derived::NotDerivable => word_alone(NOT_DERIVABLE),
+        Err(r) => refusal(r),
+        Ok(true) => word_alone(DERIVABLE),
+        Ok(false) => word_alone(NOT_DERIVABLE),
     }
 }
 
 // Open's answer as one number.
-pub fn opened(answer: Opened) -> u64
+pub fn opened(answer: Result<Layout, Refusal>) -> u64
     ensures { result ≡ packed_opening answer }
 {
     match answer {
-        Opened::Refused(r) => refusal(r),
-        Opened::Accepted(_) => word_alone(ACCEPTED),
+        Err(r) => refusal(r),
+        Ok(_) => word_alone(ACCEPTED),
     }
 }
 
 // Replay's answer as one number.
-pub fn replayed(answer: Replayed) -> u64
+pub fn replayed(answer: Result<Option<Claim>, Refusal>) -> u64
     ensures { result ≡ packed_replaying answer }
 {
     match answer {
-        Replayed::Refused(r) => refusal(r),
-        Replayed::Broken(c) => claim(c),
-        Replayed::NoClaim => word_alone(NO_CLAIM),
+        Err(r) => refusal(r),
+        Ok(Some(c)) => claim(c),
+        Ok(None) => word_alone(NO_CLAIM),
     }
 }
 
 // Search's answer as one number.
-pub fn verdict(answer: Verdict) -> u64
+pub fn verdict(answer: Result<Verdict, Refusal>) -> u64
     ensures { result ≡ packed_searching answer }
 {
     match answer {
-        Verdict::Refused(r) => refusal(r),
-        Verdict::Broken(b) => broken(b),
-        Verdict::Held(n) => with_count(HELD, n),
-        Verdict::Stopped(n) => with_count(STOPPED, n),
+        Err(r) => refusal(r),
+        Ok(Verdict::Broken(b)) => broken(b),
+        Ok(Verdict::Held(n)) => with_count(HELD, n),
+        Ok(Verdict::Stopped(n)) => with_count(STOPPED, n),
     }
 }

@@ -11,7 +11,7 @@ ghost use Rattle.rows.specs.Rows.{place_as, rows_of, Sized};
 ghost use Rattle.lists.specs.Lists.{Valued};
 ghost use Rattle.records.specs.Records.{part_at, record_at, event_at, agents_in, RoleAt, TellsGood};
 
-use rows::{Kind, Place};
+use rows::Kind;
 use table::Table;
 
 // The limits of a scenario, beside those of its table.
@@ -86,11 +86,7 @@ fn knowledge_fits(s: &[u8], n: usize, clear: &[bool]) -> bool
     ensures { (rows : List Row) → n ≡ length rows → Valued rows without_variables clear.now → result ≡ knowledge_fits rows (knowledge_in s.now) }
 {
     let end = 1 + rows::wide(s[0]);
-    let unfit = lists::unfit_row(&s[1..end], 0, n, clear);
-    match unfit {
-        Place::At(_) => false,
-        Place::Nowhere => true,
-    }
+    lists::unfit_row(&s[1..end], 0, n, clear).is_none()
 }
 
 // Whether the four bytes of an event at a place are of a kind, with its peer and its row present.
@@ -148,7 +144,7 @@ fn good_role(s: &[u8], n: usize, clear: &[bool], roles: usize, i: usize) -> bool
 }
 
 // Refusal 6 of records: the place of the first role record against the rules, in a block that begins at a place.
-pub fn bad_role(b: &[u8], base: usize, t: &[u8], n: usize) -> Place
+pub fn bad_role(b: &[u8], base: usize, t: &[u8], n: usize) -> Option<usize>
     requires { Sized t.now n × (base ≤ 65536) }
     ensures { result ≡ place_as (bad_role (rows_of t.now) (role_records (part_at base b.now))) }
 {
@@ -159,16 +155,16 @@ pub fn bad_role(b: &[u8], base: usize, t: &[u8], n: usize) -> Place
     while at < b.len() {
         let s = &b[at..];
         if !good_role(s, n, &clear, roles, i) {
-            return Place::At(base + at);
+            return Some(base + at);
         }
         at += role_length(s);
         i += 1;
     }
-    Place::Nowhere
+    None
 }
 
 // Refusal 6 of rows: the place of the first row that names an absent role, in a table that begins at a place.
-pub fn absent_role(t: &[u8], n: usize, roles: usize, base: usize) -> Place
+pub fn absent_role(t: &[u8], n: usize, roles: usize, base: usize) -> Option<usize>
     requires { Sized t.now n × (base ≤ 65536) }
     ensures { result ≡ place_as (absent_role_from roles base (rows_of t.now)) }
 {
@@ -176,12 +172,12 @@ pub fn absent_role(t: &[u8], n: usize, roles: usize, base: usize) -> Place
     while r < n {
         if rows::kind_of(t, r) == Kind::ROLE {
             if roles <= rows::left_of(t, r) {
-                return Place::At(base + 3 * r);
+                return Some(base + 3 * r);
             }
         }
         r += 1;
     }
-    Place::Nowhere
+    None
 }
 
 // Whether the agent bytes of a run record are agents' rows.
@@ -217,7 +213,7 @@ fn good_run(s: &[u8], t: &[u8], n: usize, roles: usize, i: usize) -> bool
 }
 
 // Refusal 8: the place of the first run record against the rules, in a block that begins at a place.
-pub fn bad_run(b: &[u8], base: usize, t: &[u8], n: usize, roles: usize) -> Place
+pub fn bad_run(b: &[u8], base: usize, t: &[u8], n: usize, roles: usize) -> Option<usize>
     requires { Sized t.now n × ((base ≤ 65536) × (roles ≤ 4)) }
     ensures { result ≡ place_as (bad_run (rows_of t.now) roles (run_records roles (part_at base b.now))) }
 {
@@ -225,10 +221,10 @@ pub fn bad_run(b: &[u8], base: usize, t: &[u8], n: usize, roles: usize) -> Place
     let mut start = 0;
     while start < b.len() {
         if !good_run(&b[start..], t, n, roles, i) {
-            return Place::At(base + start);
+            return Some(base + start);
         }
         start += 1 + roles;
         i += 1;
     }
-    Place::Nowhere
+    None
 }

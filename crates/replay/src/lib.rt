@@ -6,11 +6,11 @@ ghost use Rattle.semantics.specs.Replay.{replayed};
 ghost use Rattle.answers.specs.Answers.{scenario_in, Accepts, replayed_as};
 ghost use Rattle.replay.specs.Replay.{followed_of};
 
-use answers::{Claimed, Layout, Opened, Refusal, Replayed};
+use answers::{Layout, Refusal};
 use state::State;
 
 // A trace followed through an accepted file: refused with 12 at a step, the claim broken, or none.
-fn followed(file: &[u8], l: Layout, trace: &[u8]) -> Replayed
+fn followed(file: &[u8], l: Layout, trace: &[u8]) -> Result<Option<Claim>, Refusal>
     requires { Accepts file.now l }
     ensures { result ≡ replayed_as (followed_of (scenario_in file.now) trace.now) }
 {
@@ -22,7 +22,7 @@ fn followed(file: &[u8], l: Layout, trace: &[u8]) -> Replayed
     while at < trace.len() {
         let stepped = replay_steps::step(file, t, n, r, s, &trace[at..]);
         if !stepped.allowed {
-            return Replayed::Refused(Refusal {
+            return Err(Refusal {
                 number: 12,
                 place: at,
             });
@@ -33,20 +33,13 @@ fn followed(file: &[u8], l: Layout, trace: &[u8]) -> Replayed
     }
     let done = s.done;
     let marks = s.marks;
-    let claimed = claims::broken(file, t, n, r, done, marks);
-    match claimed {
-        Claimed::Broken(claim) => Replayed::Broken(claim),
-        Claimed::Nothing => Replayed::NoClaim,
-    }
+    Ok(claims::broken(file, t, n, r, done, marks))
 }
 
 // "Replay refuses as Open, then 12 .. Otherwise it gives the claim broken, or none."
-pub fn replay(file: &[u8], trace: &[u8]) -> Replayed
+pub fn replay(file: &[u8], trace: &[u8]) -> Result<Option<Claim>, Refusal>
     ensures { result ≡ replayed_as (replayed file.now trace.now) }
 {
-    let opened = scenario::open(file);
-    match opened {
-        Opened::Refused(r) => Replayed::Refused(r),
-        Opened::Accepted(layout) => followed(file, layout, trace),
-    }
+    let layout = scenario::open(file)?;
+    followed(file, layout, trace)
 }

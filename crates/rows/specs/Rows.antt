@@ -1,10 +1,8 @@
 -- The rows of a table of bytes, and a place that may be missing. Assumes nothing.
-use Rattle.std.specs.Prelude.{ℕ, ◌+◌, ◌*◌, ◌≤◌, ◌≡◌, List, [], length, get_or}
+use Rattle.std.specs.Prelude.{Option as CodeOption, ℕ, ◌+◌, ◌*◌, ◌≤◌, ◌≡◌, List, [], length, get_or, None, Some}
 use Rattle.std.proofs.Math.Option.{Option, none, some}
 use Rattle.semantics.specs.Answer.{Answer, refused, accepted}
 use Rattle.semantics.specs.Table.{Row, decode, rows_from}
-use Rattle.rows.specs.declared.Place.{Place}
-use Rattle.rows.specs.declared.Place.TheVariants.{At, Nowhere}
 
 -- the rows of an answer, none of a refusal
 abbrev pub rows_or : Answer (List Row) → List Row
@@ -36,6 +34,9 @@ abbrev pub Sized : List ℕ → ℕ → Type 0
 Sized bytes n = Shape bytes n 0
 
 -- a place, if there is one
+abbrev pub Place : Type 0
+Place = CodeOption ℕ
+
 abbrev pub place_as : Option ℕ → Place
-place_as none = Nowhere
-place_as (some at) = At at
+place_as none = None
+place_as (some at) = Some at

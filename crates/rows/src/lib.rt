@@ -1,16 +1,9 @@
-// Access to the rows of a table, three bytes each: kind, left, right; whether a row is an agent's; and a place that may be missing.
+// Access to the rows of a table, three bytes each: kind, left, right; and whether a row is an agent's.
 #![tactic(auto)]
 
 ghost use Rattle.std.specs.Prelude.{◌≡◌, ◌+◌, ◌*◌, ◌<◌, length, get_or};
 ghost use Rattle.semantics.specs.Runs.{atom_at, is_agent, is_trusted};
 ghost use Rattle.rows.specs.Rows.{rows_of, Sized};
-
-// A place, if there is one.
-#[derive(Clone, Copy)]
-pub enum Place {
-    At(usize),
-    Nowhere,
-}
 
 // The kinds of rows: atoms first, then what is made of other rows.
 #[derive(Drop)]

@@ -10,8 +10,7 @@ ghost use Rattle.records.specs.Records.{part_at};
 ghost use Rattle.answers.specs.Answers.{layout_of, opened_as};
 ghost use Rattle.scenario.specs.Opened.{GoodRoles, roles_refusal, judged_runs, judged_rows};
 
-use answers::{Block, Checked, Layout, Opened, Refusal};
-use rows::Place;
+use answers::{Block, Layout, Refusal};
 
 // How many run records begin in a block.
 fn run_count(b: &[u8], roles: usize) -> usize
@@ -28,22 +27,19 @@ fn run_count(b: &[u8], roles: usize) -> usize
 }
 
 // Refusal 6, or none, of a framed file whose table has n rows: a record, or after all records a row that names an absent role.
-fn judged_roles(file: &[u8], n: usize) -> Place
+fn judged_roles(file: &[u8], n: usize) -> Option<usize>
     requires { IsFramed file.now × Shape (term_part file.now).bytes n 0 }
     ensures { result ≡ place_as (roles_refusal file.now (rows_of (term_part file.now).bytes)) }
 {
     let terms = frame::block_of(file, 0);
     let roles = frame::block_of(file, 1);
     let base = frame::start_of(file, 1);
-    let place = records::bad_role(roles, base, terms, n);
-    match place {
-        Place::At(at) => Place::At(at),
-        Place::Nowhere => {
-            let count = records::roles_present(roles);
-            let first = frame::start_of(file, 0);
-            records::absent_role(terms, n, count, first)
-        }
+    if let Some(place) = records::bad_role(roles, base, terms, n) {
+        return Some(place);
     }
+    let count = records::roles_present(roles);
+    let first = frame::start_of(file, 0);
+    records::absent_role(terms, n, count, first)
 }
 
 // Where the parts of a framed file stand.
@@ -75,7 +71,7 @@ fn parts_of(file: &[u8], n: usize, roles: usize) -> Layout
 }
 
 // Refusals 8 and 9, or accepted, of a file whose table, roles and events are good.
-fn judged_runs(file: &[u8], n: usize) -> Opened
+fn judged_runs(file: &[u8], n: usize) -> Result<Layout, Refusal>
     requires { IsFramed file.now × (Shape (term_part file.now).bytes n 0 × GoodRoles file.now) }
     ensures { result ≡ opened_as file.now (judged_runs file.now (rows_of (term_part file.now).bytes)) }
 {
@@ -83,65 +79,33 @@ fn judged_runs(file: &[u8], n: usize) -> Opened
     let roles = records::roles_present(frame::block_of(file, 1));
     let runs = frame::block_of(file, 2);
     let knowledge = frame::block_of(file, 3);
-    let place = records::bad_run(runs, frame::start_of(file, 2), terms, n, roles);
-    match place {
-        Place::At(at) => Opened::Refused(Refusal {
-            number: 8,
-            place: at,
-        }),
-        Place::Nowhere => {
-            let place = lists::bad_knowledge(knowledge, frame::start_of(file, 3), terms, n);
-            match place {
-                Place::At(at) => Opened::Refused(Refusal {
-                    number: 9,
-                    place: at,
-                }),
-                Place::Nowhere => Opened::Accepted(parts_of(file, n, roles)),
-            }
-        }
-    }
+    let bad_run = records::bad_run(runs, frame::start_of(file, 2), terms, n, roles);
+    answers::refused_at(8, bad_run)?;
+    let bad_row = lists::bad_knowledge(knowledge, frame::start_of(file, 3), terms, n);
+    answers::refused_at(9, bad_row)?;
+    Ok(parts_of(file, n, roles))
 }
 
 // Refusals 6 to 9, or accepted, of a framed file whose table has n rows.
-fn judged(file: &[u8], n: usize) -> Opened
+fn judged(file: &[u8], n: usize) -> Result<Layout, Refusal>
     requires { IsFramed file.now × Shape (term_part file.now).bytes n 0 }
     ensures { result ≡ opened_as file.now (judged_rows file.now (rows_of (term_part file.now).bytes)) }
 {
-    let place = judged_roles(file, n);
-    match place {
-        Place::At(at) => Opened::Refused(Refusal {
-            number: 6,
-            place: at,
-        }),
-        Place::Nowhere => {
-            let terms = frame::block_of(file, 0);
-            let roles = frame::block_of(file, 1);
-            let place = open_wellformed::ill_formed(roles, frame::start_of(file, 1), terms, n);
-            match place {
-                Place::At(at) => Opened::Refused(Refusal {
-                    number: 7,
-                    place: at,
-                }),
-                Place::Nowhere => judged_runs(file, n),
-            }
-        }
-    }
+    let bad_role = judged_roles(file, n);
+    answers::refused_at(6, bad_role)?;
+    let terms = frame::block_of(file, 0);
+    let roles = frame::block_of(file, 1);
+    let ill_formed = open_wellformed::ill_formed(roles, frame::start_of(file, 1), terms, n);
+    answers::refused_at(7, ill_formed)?;
+    judged_runs(file, n)
 }
 
 // "Open, in this order."
-pub fn open(file: &[u8]) -> Opened
+pub fn open(file: &[u8]) -> Result<Layout, Refusal>
     ensures { result ≡ opened_as file.now (opened file.now) }
 {
-    let framing = frame::check(file);
-    match framing {
-        Checked::Refused(r) => Opened::Refused(r),
-        Checked::Passed => {
-            let terms = frame::block_of(file, 0);
-            let table = table::check(terms, frame::start_of(file, 0));
-            match table {
-                table::Judged::Refused(r) => Opened::Refused(r),
-                table::Judged::Rows(n) => judged(file, n),
-            }
-        }
-    }
+    frame::check(file)?;
+    let terms = frame::block_of(file, 0);
+    let n = table::check(terms, frame::start_of(file, 0))?;
+    judged(file, n)
 }

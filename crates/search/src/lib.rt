@@ -10,7 +10,7 @@ ghost use Rattle.answers.specs.Answers.{scenario_in, Accepts, verdict_as, search
 ghost use Rattle.search_runs.specs.Runs.{list_as};
 ghost use Rattle.search_breaks.specs.Walk.{FindsAll};
 
-use answers::{Checked, Layout, Opened, Verdict, Walked};
+use answers::{Layout, Refusal, Verdict, Walked};
 use runs::Runs;
 use search_breaks::{Course, Plan, Reach};
 use search_memory::Memory;
@@ -84,25 +84,17 @@ fn judged(file: &[u8], l: Layout, trace: &mut [u8], list: Listing) -> Verdict
 }
 
 // "Search refuses as Open, then 10 if the trace buffer is shorter than 128 bytes, place its length.", by a list.
-pub fn search_in(file: &[u8], trace: &mut [u8], list: Listing) -> Verdict
+pub fn search_in(file: &[u8], trace: &mut [u8], list: Listing) -> Result<Verdict, Refusal>
     ensures value { result ≡ searched_as (searched_in (list_as list) file.now trace.old) }
     ensures trace_after { trace.new ≡ buffer_in (list_as list) file.now trace.old }
 {
-    let opened = scenario::open(file);
-    match opened {
-        Opened::Refused(r) => Verdict::Refused(r),
-        Opened::Accepted(layout) => {
-            let checked = answers::check_buffer(&trace[..]);
-            match checked {
-                Checked::Refused(r) => Verdict::Refused(r),
-                Checked::Passed => judged(file, layout, trace, list),
-            }
-        }
-    }
+    let layout = scenario::open(file)?;
+    answers::check_buffer(&trace[..])?;
+    Ok(judged(file, layout, trace, list))
 }
 
 // Search, through the list of all allowed traces.
-pub fn search(file: &[u8], trace: &mut [u8]) -> Verdict
+pub fn search(file: &[u8], trace: &mut [u8]) -> Result<Verdict, Refusal>
     ensures value { result ≡ searched_as (searched file.now trace.old) }
     ensures trace_after { trace.new ≡ buffer_after file.now trace.old }
 {
@@ -110,7 +102,7 @@ pub fn search(file: &[u8], trace: &mut [u8]) -> Verdict
 }
 
 // The second search, through the short list.
-pub fn search_short(file: &[u8], trace: &mut [u8]) -> Verdict
+pub fn search_short(file: &[u8], trace: &mut [u8]) -> Result<Verdict, Refusal>
     ensures value { result ≡ searched_as (searched_in short file.now trace.old) }
     ensures trace_after { trace.new ≡ buffer_in short file.now trace.old }
 {

@@ -1,27 +1,26 @@
 -- What a walk through a part of the list finds, and what that becomes in the whole. Assumes nothing.
-use Rattle.std.specs.Prelude.{ℕ, zero, suc, ◌+◌, Bool, true, false, not, eqb, ltb}
+use Rattle.std.specs.Prelude.{ℕ, zero, suc, ◌+◌, Bool, true, false, not, eqb, ltb, None, Some}
 use Rattle.answers.specs.declared.Claim.{Claim}
-use Rattle.answers.specs.declared.Claimed.{Claimed}
-use Rattle.answers.specs.declared.Claimed.TheVariants as claimed
+use Rattle.answers.specs.Answers.{Claimed}
 use Rattle.answers.specs.declared.Break.{Break}
 use Rattle.answers.specs.declared.Walked.{Walked}
 use Rattle.answers.specs.declared.Walked.TheVariants.{Broken, Clean, Cut}
 
 -- the break of the first trace of a list, which has no bytes
 abbrev pub own_break : Claim → Break
-own_break c = record { place = 1; length = 0; run = c.run; event = c.event; kind = c.kind }
+own_break c = record { place = 1; length = 0; claim = c }
 
 -- a break that stands so many places later, and one whose trace begins with so many bytes more
 abbrev pub placed_later : Break → ℕ → Break
-placed_later b count = record { place = count + b.place; length = b.length; run = b.run; event = b.event; kind = b.kind }
+placed_later b count = record { place = count + b.place; length = b.length; claim = b.claim }
 
 abbrev pub made_longer : Break → ℕ → Break
-made_longer b bytes = record { place = b.place; length = bytes + b.length; run = b.run; event = b.event; kind = b.kind }
+made_longer b bytes = record { place = b.place; length = bytes + b.length; claim = b.claim }
 
 -- a state's own trace, by the claim that it breaks, while the budget is not at its end
 abbrev pub own_of : Claimed → Walked
-own_of (claimed.Broken c) = Broken (own_break c)
-own_of claimed.Nothing = Clean 1
+own_of (Some c) = Broken (own_break c)
+own_of None = Clean 1
 
 abbrev pub own_as : ℕ → Claimed → Walked
 own_as zero c = Cut

@@ -4,19 +4,16 @@
 ghost use Rattle.std.specs.Prelude.{◌≡◌, ◌<◌, ◌≤◌};
 ghost use Rattle.search_findings.specs.Findings.{own_break, placed_later, made_longer, own_as, goes_on, known_as, behind_as, after_step, is_clean, is_broken, count_of, size_of, length_of};
 
-use answers::{Break, Claim, Claimed, Walked};
+use answers::{Break, Claim, Walked};
 
 // The break of the first trace of a list, which has no bytes.
 pub fn own_break(claim: Claim) -> Break
     ensures { result ≡ own_break claim }
 {
-    let kind = claim.kind;
     Break {
         place: 1,
         length: 0,
-        run: claim.run,
-        event: claim.event,
-        kind,
+        claim,
     }
 }
 
@@ -25,13 +22,9 @@ pub fn later(b: Break, count: usize) -> Break
     requires { (b.place < 4294967296) × (count < 4294967296) }
     ensures { result ≡ placed_later b count }
 {
-    let kind = b.kind;
     Break {
         place: count + b.place,
-        length: b.length,
-        run: b.run,
-        event: b.event,
-        kind,
+        ..b
     }
 }
 
@@ -40,26 +33,22 @@ pub fn longer(b: Break, bytes: usize) -> Break
     requires { (b.length ≤ 512) × (bytes ≤ 18) }
     ensures { result ≡ made_longer b bytes }
 {
-    let kind = b.kind;
     Break {
-        place: b.place,
         length: bytes + b.length,
-        run: b.run,
-        event: b.event,
-        kind,
+        ..b
     }
 }
 
 // What a state's own trace comes to: nothing where the budget is at its end, the break of its claim, or one trace without a break.
-pub fn own(left: usize, claimed: Claimed) -> Walked
+pub fn own(left: usize, claimed: Option<Claim>) -> Walked
     ensures { result ≡ own_as left claimed }
 {
     if left == 0 {
         return Walked::Cut;
     }
     match claimed {
-        Claimed::Broken(claim) => Walked::Broken(own_break(claim)),
-        Claimed::Nothing => Walked::Clean(1),
+        Some(claim) => Walked::Broken(own_break(claim)),
+        None => Walked::Clean(1),
     }
 }
 

@@ -1,16 +1,18 @@
 -- What the functions that check a table answer, in terms of the definitions. Assumes nothing.
-use Rattle.std.specs.Prelude.{ℕ, ◌+◌, ◌*◌, Bool, false, ◌&&◌, List, eqb, length, get_or}
+use Rattle.std.specs.Prelude.{Result, ℕ, ◌+◌, ◌*◌, Bool, false, ◌&&◌, List, eqb, length, get_or, Err, Ok}
 use Rattle.std.proofs.Math.Option.{Option, none, some}
 use Rattle.semantics.specs.Answer.{Answer, refused, accepted}
 use Rattle.semantics.specs.Table.{Row, fits, repeated}
 use Rattle.answers.specs.Answers.{refusal_as}
-use Rattle.table.specs.declared.Judged.{Judged}
-use Rattle.table.specs.declared.Judged.TheVariants.{Refused, Rows}
+use Rattle.answers.specs.declared.Refusal.{Refusal}
 
 -- the answer of a table's check: 4 or 5 with its place, or how many rows there are
+abbrev pub Judged : Type 0
+Judged = Result ℕ Refusal
+
 abbrev pub judged_as : Answer (List Row) → Judged
-judged_as (refused r) = Refused (refusal_as r)
-judged_as (accepted rows) = Rows (length rows)
+judged_as (refused r) = Err (refusal_as r)
+judged_as (accepted rows) = Ok (length rows)
 
 -- whether a decoded row fits the rows below it; bytes that are no row do not
 abbrev pub fits_decoded : List Row → Option Row → Bool

@@ -23,13 +23,6 @@ impl Table {
     pub const MOST_ROLES: usize = 4;
 }
 
-// What a table's check answers.
-#[derive(Clone, Copy)]
-pub enum Judged {
-    Refused(Refusal),
-    Rows(usize),
-}
-
 // Whether row a is below row i and agent-like.
 fn agent_like(t: &[u8], i: usize, a: usize) -> bool
     requires { (3 * i ≤ length t.now) × IsTable (take (3 * i) t.now) }
@@ -162,7 +155,7 @@ fn row_refusal(t: &[u8], i: usize, variables: usize) -> usize
 }
 
 // The rows of a table that begins at a place: how many there are, or the first refusal.
-pub fn check(t: &[u8], at: usize) -> Judged
+pub fn check(t: &[u8], at: usize) -> Result<usize, Refusal>
     requires { at ≤ 65536 }
     ensures { result ≡ judged_as (rows_from at [] t.now) }
 {
@@ -172,14 +165,14 @@ pub fn check(t: &[u8], at: usize) -> Judged
         let start = 3 * i;
         let place = at + start;
         if t.len() == start {
-            return Judged::Rows(i);
+            return Ok(i);
         }
         if t.len() - start < 3 {
-            return Judged::Refused(Refusal { number: 4, place });
+            return Err(Refusal { number: 4, place });
         }
         let number = row_refusal(t, i, variables);
         if number != 0 {
-            return Judged::Refused(Refusal { number, place });
+            return Err(Refusal { number, place });
         }
         variables = with_variable(t, i, variables);
         i += 1;

@@ -9,8 +9,7 @@ use Rattle.semantics.specs.Answer.{Answer, refused, accepted}
 use Rattle.semantics.specs.State.{Value}
 use Rattle.semantics.specs.Moves.{Move}
 use Rattle.semantics.specs.Verdict.{Verdict, broken_at, held, stopped, written}
-use Rattle.answers.specs.Answers.{searched_as}
-use Rattle.answers.specs.declared.Verdict.{Verdict as CodeVerdict}
+use Rattle.answers.specs.Answers.{Searched, searched_as}
 use Rattle.text.specs.declared.Text.{Text}
 
 -- the bytes of a word, whose letters have one byte each
@@ -76,7 +75,7 @@ pub record Adds (t : Text) (bytes : List ℕ) (more : Text) : Type 0 where
   pub same : take more.len more.bytes ≡ take t.len t.bytes ++ bytes
 
 -- an answer of Search, and the buffer that it left
-pub record Shown (a : Answer Verdict) (answer : CodeVerdict) (after : List ℕ) : Type 0 where
+pub record Shown (a : Answer Verdict) (answer : Searched) (after : List ℕ) : Type 0 where
   pub is_answer : answer ≡ searched_as a
   pub buffer : List ℕ
   pub is_written : after ≡ written buffer a

@@ -1,7 +1,7 @@
 // What the programs print, as bytes: Search's answer with its trace, and the limits.
 #![tactic(auto)]
 
-ghost use Rattle.std.specs.Prelude.{◌≡◌, List, [], ◌∷◌, ◌++◌, ◌+◌, ◌*◌, ◌<◌, ◌≤◌, length};
+ghost use Rattle.std.specs.Prelude.{Ok, ◌≡◌, List, [], ◌∷◌, ◌++◌, ◌+◌, ◌*◌, ◌<◌, ◌≤◌, length};
 ghost use Rattle.semantics.specs.Basic.{joined};
 ghost use Rattle.semantics.specs.Answer.{Answer};
 ghost use Rattle.semantics.specs.State.{Value};
@@ -133,26 +133,37 @@ fn refused(r: Refusal) -> Text
 // The text of a break, with its trace.
 fn broken(b: Break, trace: &[u8]) -> Text
     requires { ((ms : List Move) × (trace.now ≡ trace_bytes ms)) × (length trace.now ≤ 128) }
-    ensures { (ms : List Move) → trace.now ≡ trace_bytes ms → HoldsText result (broken_text b.place b.run b.event ms) }
+    ensures { (ms : List Move) → trace.now ≡ trace_bytes ms → HoldsText result (broken_text b.place b.claim.run b.claim.event ms) }
 {
     let place = put_with(empty(), b"BROKEN ", b.place);
-    let run = put_with(place, b" RUN ", b.run);
-    put_steps(push(put_with(run, b" EVENT ", b.event), b'\n'), trace)
+    let claim = b.claim;
+    let run = put_with(place, b" RUN ", claim.run);
+    put_steps(push(put_with(run, b" EVENT ", claim.event), b'\n'), trace)
 }
 
-// The text of Search's answer, whose trace, if it is BROKEN, stands at the front of a buffer.
-pub fn answer_text(answer: Verdict, trace: &[u8]) -> Text
-    requires { (a : Answer verdicts.Verdict) × Shown a answer trace.now }
-    ensures { (a : Answer verdicts.Verdict) → Shown a answer trace.now → HoldsText result (verdict_text a) }
+// The text of what Search finds, whose trace, if it is BROKEN, stands at the front of a buffer.
+fn found_text(verdict: Verdict, trace: &[u8]) -> Text
+    requires { (a : Answer verdicts.Verdict) × Shown a (Ok verdict) trace.now }
+    ensures { (a : Answer verdicts.Verdict) → Shown a (Ok verdict) trace.now → HoldsText result (verdict_text a) }
 {
-    match answer {
-        Verdict::Refused(r) => refused(r),
+    match verdict {
         Verdict::Broken(b) => {
             let end = b.length;
             broken(b, &trace[..end])
         }
         Verdict::Held(n) => put_line(put(empty(), b"HELD "), n),
         Verdict::Stopped(n) => put_line(put(empty(), b"STOPPED "), n),
+    }
+}
+
+// The text of Search's answer, whose trace, if it is BROKEN, stands at the front of a buffer.
+pub fn answer_text(answer: Result<Verdict, Refusal>, trace: &[u8]) -> Text
+    requires { (a : Answer verdicts.Verdict) × Shown a answer trace.now }
+    ensures { (a : Answer verdicts.Verdict) → Shown a answer trace.now → HoldsText result (verdict_text a) }
+{
+    match answer {
+        Err(r) => refused(r),
+        Ok(verdict) => found_text(verdict, trace),
     }
 }
 

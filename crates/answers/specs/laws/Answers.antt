@@ -1,5 +1,5 @@
 -- What a refusal of the code says of the definitions' answer, and the verdict by what a walk found. Assumes nothing.
-use Rattle.std.specs.Prelude.{ℕ, ◌<◌, ◌≤◌, ◌≡◌, refl, Bool, List, length}
+use Rattle.std.specs.Prelude.{Option as CodeOption, ℕ, ◌<◌, ◌≤◌, ◌≡◌, refl, Bool, List, length, Err, None, Ok, Some}
 use Rattle.std.proofs.Common.{arith, sym, ◌∙◌, lt-ltb, le-ltb}
 use Rattle.std.proofs.Math.Path.{ap}
 use Rattle.semantics.specs.Basic.{provided}
@@ -8,10 +8,8 @@ use Rattle.semantics.specs.Scenario.{Scenario, opened}
 use Rattle.semantics.specs.Verdict.{Entry, Finding, found, nothing, cut, verdict_from, short_buffer}
 use Rattle.answers.specs.declared.Refusal.{Refusal}
 use Rattle.answers.specs.declared.Layout.{Layout}
-use Rattle.answers.specs.declared.Checked.TheVariants.{Refused, Passed}
 use Rattle.answers.specs.declared.Walked.{Walked}
-use Rattle.answers.specs.Answers.{numbered, checked_as, layout_of, opened_as, scenario_or, scenario_in, Accepts, verdict_as, walked_as, answered}
-use Rattle.answers.specs.declared.Opened.TheVariants as opening
+use Rattle.answers.specs.Answers.{numbered, refused_at, checked_as, layout_of, opened_as, scenario_or, scenario_in, Accepts, verdict_as, walked_as, answered}
 
 -- what a walk through the whole list finds is answered with the verdict
 pub answer-found : (es : List Entry) (budget : ℕ) (f : Finding) {w : Walked} → w ≡ walked_as es f → answered budget w ≡ verdict_as (verdict_from (length es) budget f)
@@ -23,7 +21,7 @@ answer-found es budget f e = ap (answered budget) e ∙ go f
     go cut = refl
 
 -- a file that Open refuses: the definition's refusal is the code's
-pub opened-refused : (file : List ℕ) (a : Answer Scenario) {x : Refusal} → opening.Refused x ≡ opened_as file a → a ≡ refuse x.number x.place
+pub opened-refused : (file : List ℕ) (a : Answer Scenario) {x : Refusal} → Err x ≡ opened_as file a → a ≡ refuse x.number x.place
 opened-refused file (refused r) {x} e =
     let p : r.number ≡ x.number = cc in
     let q : r.place ≡ x.place = cc in
@@ -31,11 +29,11 @@ opened-refused file (refused r) {x} e =
 opened-refused file (accepted sc) e = let z : ◌≡◌ {A = ℕ} 0 1 = cc in absurd (omega arith)
 
 -- a file that Open accepts
-pub opened-accepts : (file : List ℕ) {l : Layout} → opening.Accepted l ≡ opened_as file (opened file) → Accepts file l
+pub opened-accepts : (file : List ℕ) {l : Layout} → Ok l ≡ opened_as file (opened file) → Accepts file l
 unfolding scenario_in
 opened-accepts file {l} e = go (opened file) refl e
   where
-    go : (a : Answer Scenario) → opened file ≡ a → opening.Accepted l ≡ opened_as file a → Accepts file l
+    go : (a : Answer Scenario) → opened file ≡ a → Ok l ≡ opened_as file a → Accepts file l
     go (refused r) o q = let z : ◌≡◌ {A = ℕ} 0 1 = cc in absurd (omega arith)
     go (accepted sc) o q = let same : scenario_or (opened file) ≡ sc = ap scenario_or o in
         record { is_opened = o ∙ ap accepted (sym same); layout = let l' : l ≡ layout_of file sc = cc in l' ∙ ap (layout_of file) (sym same) }
@@ -46,8 +44,17 @@ module _ (buffer : List ℕ) where
   unfolding short_buffer
   by_size b e = ap (λ (x : Bool). checked_as (checked 10 (provided x (length buffer)))) e
 
-  pub buffer-short : length buffer < 128 → checked_as (checked 10 (short_buffer buffer)) ≡ Refused (numbered 10 (length buffer))
+  pub buffer-short : length buffer < 128 → checked_as (checked 10 (short_buffer buffer)) ≡ Err (numbered 10 (length buffer))
   buffer-short l = by_size _ (lt-ltb (length buffer) 128 l)
 
-  pub buffer-long : 128 ≤ length buffer → checked_as (checked 10 (short_buffer buffer)) ≡ Passed
+  pub buffer-long : 128 ≤ length buffer → checked_as (checked 10 (short_buffer buffer)) ≡ (Ok tt)
   buffer-long l = by_size _ (le-ltb (length buffer) 128 l)
+
+-- a condition that refuses holds at a place, and one that passes at none
+pub at_refused : (n : ℕ) (p : CodeOption ℕ) {x : Refusal} → refused_at n p ≡ Err x → (p ≡ Some x.place) × (numbered n x.place ≡ x)
+at_refused n (Some at) e = (cc, cc)
+at_refused n None e = let z : ◌≡◌ {A = ℕ} 0 1 = cc in absurd (omega arith)
+
+pub at_passed : (n : ℕ) (p : CodeOption ℕ) {u : Unit {0}} → refused_at n p ≡ Ok u → p ≡ None
+at_passed n (Some at) e = let z : ◌≡◌ {A = ℕ} 0 1 = cc in absurd (omega arith)
+at_passed n None e = refl

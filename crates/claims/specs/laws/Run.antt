@@ -1,7 +1,7 @@
 -- The first broken claim of a run: its events are looked at in order, if its agents are all trusted. Assumes nothing.
 use Prim.Native.Nat.{ℕ, suc, ◌+◌, ◌<◌, ◌≤◌}
 use Rattle.std.proofs.Common.{add-one, arith, eq-or-lt_of_le, ⊎_elim}
-use Rattle.std.specs.Prelude.{◌≡◌, Bool, true, false, ◌&&◌, List, map}
+use Rattle.std.specs.Prelude.{◌≡◌, Bool, true, false, ◌&&◌, List, map, None, Some}
 use Rattle.std.proofs.Math.Path.{refl}
 use Rattle.std.proofs.Math.Option.{none}
 use Rattle.std.proofs.Math.ListN.{get_elem?}
@@ -16,7 +16,6 @@ use Rattle.runs.specs.declared.Runs.{Runs}
 use Rattle.claims.specs.AtRun.{AtRun, event_breaks, AnswersEvent}
 use Rattle.answers.specs.Answers.{claimed_as}
 use Rattle.answers.specs.declared.ClaimKind.TheVariants.{Secrecy}
-use Rattle.answers.specs.declared.Claimed.TheVariants.{Broken, Nothing}
 use Rattle.claims.specs.laws.Event.{and_then-none}
 
 -- none of the first j events of a run is a broken claim
@@ -43,15 +42,15 @@ module _ {file : List ℕ} {r : Runs} {sc : Scenario} {d : State} {marks : List 
       (λ x. rw (← e) refl)
 
   -- a run with an untrusted agent breaks none
-  pub run-untrusted : false ≡ all_trusted sc.rows run → Nothing ≡ claimed_as (broken_in_run sc d k)
+  pub run-untrusted : false ≡ all_trusted sc.rows run → None ≡ claimed_as (broken_in_run sc d k)
   run-untrusted e = rw (in-run, first-none (event_breaks sc d k run p) 0 p.done (λ i f l. and_then-none (get_elem? (events_of sc run) i) (broken_event sc d (suc k) run p i) (untrusted-event e i))) refl
 
   module _ (trusts : true ≡ all_trusted sc.rows run) (j : ℕ) (before : NoneTo file r marks k j) {done : ℕ} (made : done ≡ p.done) where
     -- an event that is one, after none, is the first
-    pub run-broken : j < done → AnswersEvent file r marks k j true → Broken (record { run = k + 1; event = j; kind = Secrecy }) ≡ claimed_as (broken_in_run sc d k)
+    pub run-broken : j < done → AnswersEvent file r marks k j true → Some (record { run = k + 1; event = j; kind = Secrecy }) ≡ claimed_as (broken_in_run sc d k)
     run-broken l here =
         rw (in-run, first_found (event_breaks sc d k run p) 0 p.done j (omega arith) (omega arith) (λ i f. before sc d run p at trusts i) (here sc d run p at trusts), add-one k) refl
 
     -- with all events passed there is none
-    pub run_none : done ≤ j → Nothing ≡ claimed_as (broken_in_run sc d k)
+    pub run_none : done ≤ j → None ≡ claimed_as (broken_in_run sc d k)
     run_none l = rw (in-run, first-none (event_breaks sc d k run p) 0 p.done (λ i f m. before sc d run p at trusts i (omega arith))) refl

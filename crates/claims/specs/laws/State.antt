@@ -1,5 +1,5 @@
 -- The first broken claim of a state: its runs are looked at in order. Assumes nothing.
-use Rattle.std.specs.Prelude.{ℕ, ◌+◌, ◌<◌, ◌≤◌, ◌≡◌, Bool, List, length, get_or}
+use Rattle.std.specs.Prelude.{ℕ, ◌+◌, ◌<◌, ◌≤◌, ◌≡◌, Bool, List, length, get_or, None, Some}
 use Rattle.std.proofs.Common.{arith, eq-or-lt_of_le, ◌∙◌, ⊎_elim}
 use Rattle.std.proofs.Math.Path.{refl, sym, ap}
 use Rattle.std.proofs.Math.Option.{Option, none, some}
@@ -18,8 +18,7 @@ use Rattle.state.specs.State.{Given, IsState}
 use Rattle.claims.specs.AtRun.{AnswersRun}
 use Rattle.answers.specs.Answers.{claimed_as}
 use Rattle.answers.specs.declared.Claim.{Claim}
-use Rattle.answers.specs.declared.Claimed.{Claimed}
-use Rattle.answers.specs.declared.Claimed.TheVariants.{Broken, Nothing}
+use Rattle.answers.specs.Answers.{Claimed}
 
 -- what a state's marks and positions say
 pub record StandsIn (file t : List ℕ) (n : ℕ) (r : Runs) (marks : List Bool) (done : List ℕ) (sc : Scenario) (d : State) : Type 0 where
@@ -41,17 +40,17 @@ module _ (file t : List ℕ) (n : ℕ) (r : Runs) (marks : List Bool) (done : Li
   NoneBelow = (sc : Scenario) (d : State) → StandsIn file t n r marks done sc d → (i : ℕ) → i < k → broken_in_run sc d i ≡ none
 
 -- a claim is answered where there is one
-is-broken : (o : Option definitions.Claim) (c : Claim) → claimed_as o ≡ Broken c → (x : definitions.Claim) × (o ≡ some x)
+is-broken : (o : Option definitions.Claim) (c : Claim) → claimed_as o ≡ Some c → (x : definitions.Claim) × (o ≡ some x)
 is-broken none c e = let z : ◌≡◌ {A = ℕ} 0 1 = cc in absurd (omega arith)
 is-broken (some x) c e = (x, refl)
 
-is-nothing : (o : Option definitions.Claim) → claimed_as o ≡ Nothing → o ≡ none
+is-nothing : (o : Option definitions.Claim) → claimed_as o ≡ None → o ≡ none
 is-nothing none e = refl
 is-nothing (some x) e = cc
 
 module _ (file t : List ℕ) (n : ℕ) (r : Runs) (marks : List Bool) (done : List ℕ) (k : ℕ) (before : NoneBelow file t n r marks done k) where
   -- with all runs passed there is none
-  pub state-none : r.count ≤ k → (sc : Scenario) (d : State) → StandsIn file t n r marks done sc d → Nothing ≡ claimed_as (broken sc d)
+  pub state-none : r.count ≤ k → (sc : Scenario) (d : State) → StandsIn file t n r marks done sc d → None ≡ claimed_as (broken sc d)
   unfolding broken
   state-none l sc d is = rw (first-none (broken_in_run sc d) 0 (length sc.runs) (λ i f m. before sc d is i (omega (arith, is.given.runs.count)))) refl
 
@@ -65,7 +64,7 @@ module _ (file t : List ℕ) (n : ℕ) (r : Runs) (marks : List Bool) (done : Li
         (record { runs = is.given.runs; good = is.given.good; is_run = run.1; is_progress = p.1; exact = is.exact }) is.given.rows (is.made k p.0 p.1)
 
     -- a claim that is found, after none, is the first
-    pub state-broken : (c : Claim) → found ≡ Broken c → (sc : Scenario) (d : State) → StandsIn file t n r marks done sc d → found ≡ claimed_as (broken sc d)
+    pub state-broken : (c : Claim) → found ≡ Some c → (sc : Scenario) (d : State) → StandsIn file t n r marks done sc d → found ≡ claimed_as (broken sc d)
     unfolding broken
     state-broken c e sc d is =
         let h = found_here sc d is in
@@ -73,7 +72,7 @@ module _ (file t : List ℕ) (n : ℕ) (r : Runs) (marks : List Bool) (done : Li
         h ∙ ap claimed_as (x.1 ∙ sym (first_found (broken_in_run sc d) 0 (length sc.runs) k (omega arith) (omega (arith, is.given.runs.count)) (λ i f. before sc d is i) x.1))
 
     -- a run that breaks none is passed
-    pub none-next : found ≡ Nothing → NoneBelow file t n r marks done (k + 1)
+    pub none-next : found ≡ None → NoneBelow file t n r marks done (k + 1)
     none-next e sc d is i l =
         let m : i ≤ k = omega arith in
         let last : broken_in_run sc d k ≡ none = is-nothing (broken_in_run sc d k) (sym (found_here sc d is) ∙ e) in

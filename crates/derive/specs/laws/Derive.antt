@@ -1,5 +1,5 @@
 -- The laws of Derive's loops: absent rows, names at role level, marks of listed rows. Assumes nothing.
-use Rattle.std.specs.Prelude.{ℕ, ◌+◌, ◌<◌, ◌≤◌, ◌≡◌, length, get_or, drop}
+use Rattle.std.specs.Prelude.{ℕ, ◌+◌, ◌<◌, ◌≤◌, ◌≡◌, length, get_or, drop, None, Some}
 use Rattle.std.proofs.Common.{add-one, arith, ◌∙◌}
 use Rattle.std.proofs.Math.Path.{refl}
 use mathlib.Core.List.{List}
@@ -9,7 +9,6 @@ use Rattle.std.proofs.Math.Seq.{drop-cons}
 use Rattle.semantics.specs.Table.{Row}
 use Rattle.semantics.specs.Derive.{absent_from}
 use Rattle.rows.specs.Rows.{place_as}
-use Rattle.rows.specs.declared.Place.TheVariants.{At, Nowhere}
 
 module _ (list : List ℕ) (n target : ℕ) where
   -- what is left of the list decides
@@ -18,7 +17,7 @@ module _ (list : List ℕ) (n target : ℕ) where
 
   module _ (i : ℕ) (left : LeftAt i) where
     -- a listed row that is absent
-    pub absent-here : i < length list → n ≤ get_or list i 0 → (rows : List Row) → n ≡ length rows → At i ≡ place_as (absent_from rows 0 list target)
+    pub absent-here : i < length list → n ≤ get_or list i 0 → (rows : List Row) → n ≡ length rows → Some i ≡ place_as (absent_from rows 0 list target)
     unfolding absent_from
     absent-here l h rows e = rw (left rows e, drop-cons list i 0 l, le-ltb (get_or list i 0) (length rows) (omega arith), absent_from) refl
 
@@ -28,11 +27,11 @@ module _ (list : List ℕ) (n target : ℕ) where
     absent-on l h rows e = left rows e ∙ rw (add-one i, drop-cons list i 0 l, lt-ltb (get_or list i 0) (length rows) (omega arith), absent_from) refl
 
     -- all are, and the target is not
-    pub target-absent : length list ≤ i → n ≤ target → (rows : List Row) → n ≡ length rows → At i ≡ place_as (absent_from rows 0 list target)
+    pub target-absent : length list ≤ i → n ≤ target → (rows : List Row) → n ≡ length rows → Some i ≡ place_as (absent_from rows 0 list target)
     unfolding absent_from
     target-absent l h rows e = rw (left rows e, drop_of_length-le list {i = i} l, le-ltb target (length rows) (omega arith)) refl
 
     -- all are
-    pub none-absent : length list ≤ i → target < n → (rows : List Row) → n ≡ length rows → Nowhere ≡ place_as (absent_from rows 0 list target)
+    pub none-absent : length list ≤ i → target < n → (rows : List Row) → n ≡ length rows → None ≡ place_as (absent_from rows 0 list target)
     unfolding absent_from
     none-absent l h rows e = rw (left rows e, drop_of_length-le list {i = i} l, lt-ltb target (length rows) (omega arith)) refl

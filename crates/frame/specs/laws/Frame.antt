@@ -1,5 +1,5 @@
 -- The laws of framing: lengths of blocks, blocks one after the other, and refusals 1 to 3. Assumes nothing.
-use Rattle.std.specs.Prelude.{ℕ, zero, suc, ◌+◌, ◌*◌, ◌-◌, ◌<◌, ◌≤◌, ◌≡◌, Bool, true, false, ◌&&◌, not, List, [], ◌∷◌, T, ltb, leb, eqb, length, get_or, take, drop}
+use Rattle.std.specs.Prelude.{ℕ, zero, suc, ◌+◌, ◌*◌, ◌-◌, ◌<◌, ◌≤◌, ◌≡◌, Bool, true, false, ◌&&◌, not, List, [], ◌∷◌, T, ltb, leb, eqb, length, get_or, take, drop, Err, None, Ok, Some}
 use Rattle.std.proofs.Common.{zero-add, arith, ap, ◌∙◌, true≢false, le-leb, lt-ltb, le-ltb, eq-eqb, ne_eqb, leb-true, leb→le, nltb→le, length-drop, take_all}
 use Rattle.std.proofs.Math.Path.{refl, sym}
 use Rattle.std.proofs.Math.Option.{Option, none, some}
@@ -10,11 +10,9 @@ use Rattle.semantics.proofs.laws.Test.{both_left, both_right, provided-none, not
 use Rattle.semantics.specs.Frame.{block_length, budget_of, framed, unversioned, too_long, misframed, block_from, block}
 use Rattle.rows.specs.Rows.{place_as}
 use Rattle.rows.specs.laws.Places.{at_some, nowhere-none}
-use Rattle.rows.specs.declared.Place.{Place}
-use Rattle.rows.specs.declared.Place.TheVariants.{At, Nowhere}
-use Rattle.answers.specs.Answers.{numbered, checked_as}
+use Rattle.rows.specs.Rows.{Place}
+use Rattle.answers.specs.Answers.{numbered, refused_at, checked_as}
 use Rattle.answers.specs.declared.Refusal.{Refusal}
-use Rattle.answers.specs.declared.Checked.TheVariants.{Refused, Passed}
 use Rattle.frame.specs.Framing.{framing_of, IsFramed}
 
 sub-suc : (n : ℕ) → suc n - 1 ≡ n
@@ -112,81 +110,83 @@ unfolding block
 start-in-file k file e = rw e (sym (block_from-start k 5 (drop 5 file)))
 
 -- refusal 1: no first byte, another than 1, or 1
-pub version-absent : (file : List ℕ) → length file ≡ 0 → At 0 ≡ place_as (unversioned file)
+pub version-absent : (file : List ℕ) → length file ≡ 0 → Some 0 ≡ place_as (unversioned file)
 unfolding unversioned
 version-absent [] e = refl
 version-absent (v ∷ file) e = absurd (omega arith)
 
-pub version-other : (file : List ℕ) → 0 < length file → (get_or file 0 0 ≡ 1 → ⊥) → At 0 ≡ place_as (unversioned file)
+pub version-other : (file : List ℕ) → 0 < length file → (get_or file 0 0 ≡ 1 → ⊥) → Some 0 ≡ place_as (unversioned file)
 unfolding unversioned
 version-other [] l e = absurd (omega arith)
 version-other (v ∷ file) l e = rw (ne_eqb v 1 e) refl
 
-pub version-one : (file : List ℕ) → 0 < length file → get_or file 0 0 ≡ 1 → Nowhere ≡ place_as (unversioned file)
+pub version-one : (file : List ℕ) → 0 < length file → get_or file 0 0 ≡ 1 → None ≡ place_as (unversioned file)
 unfolding unversioned
 version-one [] l e = absurd (omega arith)
 version-one (v ∷ file) l e = rw (eq-eqb v 1 e) refl
 
+-- a condition refuses where the definition's does
+refused-checked : (n : ℕ) (o : Option ℕ) → refused_at n (place_as o) ≡ checked_as (checked n o)
+refused-checked n none = refl
+refused-checked n (some at) = refl
+
 module _ (file : List ℕ) where
   -- refusal 2: too many bytes, or not
-  pub size-long : 4096 < length file → At 4096 ≡ place_as (too_long file)
+  pub size-long : 4096 < length file → Some 4096 ≡ place_as (too_long file)
   unfolding too_long
   size-long l = rw (lt-ltb 4096 (length file) l) refl
 
-  pub size_few : length file ≤ 4096 → Nowhere ≡ place_as (too_long file)
+  pub size_few : length file ≤ 4096 → None ≡ place_as (too_long file)
   unfolding too_long
   size_few l = rw (le-ltb 4096 (length file) l) refl
 
   -- refusal 3: no room for the budget, other bytes than four blocks, or four blocks
-  pub budget-cut : length file < 5 → At (length file) ≡ place_as (misframed file)
+  pub budget-cut : length file < 5 → Some (length file) ≡ place_as (misframed file)
   unfolding misframed
   budget-cut l = rw (lt-leb 5 (length file) l) refl
 
   module _ (size : 5 ≤ length file) {b : Bool} (blocks : b ≡ framed 4 (drop 5 file)) where
-    pub blocks-bad : b ≡ false → At (length file) ≡ place_as (misframed file)
+    pub blocks-bad : b ≡ false → Some (length file) ≡ place_as (misframed file)
     unfolding misframed
     blocks-bad e = rw (le-leb 5 (length file) size, sym blocks ∙ e) refl
 
-    pub blocks-good : b ≡ true → Nowhere ≡ place_as (misframed file)
+    pub blocks-good : b ≡ true → None ≡ place_as (misframed file)
     unfolding misframed
     blocks-good e = rw (le-leb 5 (length file) size, sym blocks ∙ e) refl
 
   -- one condition after the other: the first that holds refuses
   module _ {v : Place} (version : v ≡ place_as (unversioned file)) where
-    pub version-refused : {at : ℕ} → v ≡ At at → Refused (numbered 1 at) ≡ checked_as (framing_of file)
+    pub version-refused : {at : ℕ} → v ≡ Some at → Err (numbered 1 at) ≡ checked_as (framing_of file)
     version-refused e = rw (at_some (unversioned file) (sym e ∙ version)) refl
 
-    module _ (versioned : v ≡ Nowhere) {l : Place} (size : l ≡ place_as (too_long file)) where
+    module _ (versioned : v ≡ None) {l : Place} (size : l ≡ place_as (too_long file)) where
       -- condition 1 does not hold
       passed-1 : unversioned file ≡ none
       passed-1 = nowhere-none (unversioned file) (sym versioned ∙ version)
 
-      pub size-refused : {at : ℕ} → l ≡ At at → Refused (numbered 2 at) ≡ checked_as (framing_of file)
+      pub size-refused : {at : ℕ} → l ≡ Some at → Err (numbered 2 at) ≡ checked_as (framing_of file)
       size-refused e = rw (passed-1, at_some (too_long file) (sym e ∙ size)) refl
 
-      module _ (few : l ≡ Nowhere) {m : Place} (blocks : m ≡ place_as (misframed file)) where
+      module _ (few : l ≡ None) {m : Place} (blocks : m ≡ place_as (misframed file)) where
         -- nor condition 2
         passed-2 : too_long file ≡ none
         passed-2 = nowhere-none (too_long file) (sym few ∙ size)
 
-        pub blocks-refused : {at : ℕ} → m ≡ At at → Refused (numbered 3 at) ≡ checked_as (framing_of file)
-        blocks-refused e = rw (passed-1, passed-2, at_some (misframed file) (sym e ∙ blocks)) refl
-
-        pub none-refused : m ≡ Nowhere → Passed ≡ checked_as (framing_of file)
-        none-refused e = rw (passed-1, passed-2, nowhere-none (misframed file) (sym e ∙ blocks)) refl
+        pub blocks-judged : refused_at 3 m ≡ checked_as (framing_of file)
+        blocks-judged = rw (blocks, passed-1, passed-2) (refused-checked 3 (misframed file))
 
 -- none of three conditions holds
-refused-framed : {P : Type 0} {x : Refusal} → Refused x ≡ Passed → P
+refused-framed : {P : Type 0} {x : Refusal} {u : Unit {0}} → Err x ≡ Ok u → P
 refused-framed e = let z : ◌≡◌ {A = ℕ} 0 1 = cc in absurd (omega arith)
 
-all-passed : (a b c : Option ℕ) → checked_as (◌>>◌ (checked 1 a) (◌>>◌ (checked 2 b) (checked 3 c))) ≡ Passed → (a ≡ none) × (b ≡ none) × (c ≡ none)
+all-passed : (a b c : Option ℕ) → checked_as (◌>>◌ (checked 1 a) (◌>>◌ (checked 2 b) (checked 3 c))) ≡ Ok tt → (a ≡ none) × (b ≡ none) × (c ≡ none)
 all-passed none none none e = (refl, refl, refl)
 all-passed none none (some at) e = refused-framed e
 all-passed none (some at) c e = refused-framed e
 all-passed (some at) b c e = refused-framed e
 
 -- a file whose frame is not refused is framed
-pub framing-framed : (file : List ℕ) → checked_as (framing_of file) ≡ Passed → IsFramed file
+pub framing-framed : (file : List ℕ) → checked_as (framing_of file) ≡ Ok tt → IsFramed file
 unfolding too_long misframed
 framing-framed file e =
     let w = all-passed (unversioned file) (too_long file) (misframed file) e in

@@ -3,7 +3,7 @@ use Prim.Native.Nat.{ℕ, suc, ◌+◌, ◌-◌, ◌≤◌, ◌<◌}
 use Rattle.std.proofs.Common.{add-zero, ap, ◌∙◌, drop_of_length-le, drop-cons, ltb-true, ltb-false, le-leb, lt-ltb, le-ltb}
 use Rattle.std.proofs.Math.Numerals.{add-one}
 use native.Mathlib.Omega.{arith}
-use Rattle.std.specs.Prelude.{◌≡◌, Bool, true, false, ◌&&◌, not, ltb, leb, length, get_or, take, drop}
+use Rattle.std.specs.Prelude.{is_some, ◌≡◌, Bool, true, false, ◌&&◌, not, ltb, leb, length, get_or, take, drop, None, Some}
 use Rattle.std.proofs.Math.Path.{refl, sym, fun_ext}
 use Rattle.std.proofs.Math.Bool.{and-false, and_assoc}
 use Rattle.std.proofs.Math.Option.{Option, none, some}
@@ -16,8 +16,7 @@ use Rattle.semantics.specs.Value.{Reading, value_of, without_variables, without_
 use Rattle.semantics.specs.Roles.{knowledge_in, knowledge_fits}
 use Rattle.semantics.specs.Runs.{bad_knowledge_from}
 use Rattle.rows.specs.Rows.{place_as}
-use Rattle.rows.specs.declared.Place.{Place}
-use Rattle.rows.specs.declared.Place.TheVariants.{At, Nowhere}
+use Rattle.rows.specs.Rows.{Place}
 use Rattle.semantics.proofs.laws.Value.{value-within}
 use Rattle.lists.specs.Lists.{Valued, has_value}
 
@@ -110,13 +109,11 @@ module _ (fits : ℕ → Bool) where
   fit-rising at (r ∷ bytes) = fit-from at 0 (r ∷ bytes) ∙ rw (leb-zero r)
 
 -- whether there is no place
-abbrev pub nowhere : Place → Bool
-nowhere (At place) = false
-nowhere Nowhere = true
-
-nowhere-none : (o : Option ℕ) → nowhere (place_as o) ≡ not (present o)
-nowhere-none none = refl
-nowhere-none (some place) = refl
+none-told : (o : Option ℕ) (r : Bool) → is_some (place_as o) ≡ not r → r ≡ not (present o)
+none-told none true e = refl
+none-told none false e = e
+none-told (some place) true e = e
+none-told (some place) false e = refl
 
 -- the first unfit byte of the knowledge list, which the code finds by the rows marked
 pub knowledge-found : (rows : List Row) (n : ℕ) (clear : List Bool) → n ≡ length rows → Valued rows without_run clear → (base : ℕ) (bytes : List ℕ)
@@ -125,9 +122,9 @@ knowledge-found rows n clear e v base bytes = rw (value-marked without_run rows 
 
 -- and so whether the knowledge of a role fits
 pub knowledge-fits : (s : List ℕ) (n : ℕ) (clear : List Bool) (k : ℕ) → k ≡ get_or s 0 0 → {place : Place} → place ≡ place_as (unfit_from (has_value n clear) 0 0 (take (1 + k - 1) (drop 1 s)))
-    → (rows : List Row) → n ≡ length rows → Valued rows without_variables clear → nowhere place ≡ knowledge_fits rows (knowledge_in s)
+    → (rows : List Row) → n ≡ length rows → Valued rows without_variables clear → {r : Bool} → is_some place ≡ not r → r ≡ knowledge_fits rows (knowledge_in s)
 unfolding knowledge_fits knowledge_in
-knowledge-fits s n clear k e {place} f rows g v =
+knowledge-fits s n clear k e {place} f rows g v w =
     let z : 1 + k - 1 ≡ get_or s 0 0 = omega arith in
-    ap nowhere (rw z at f) ∙ nowhere-none (unfit_from (has_value n clear) 0 0 (take (get_or s 0 0) (drop 1 s)))
+    none-told (unfit_from (has_value n clear) 0 0 (take (get_or s 0 0) (drop 1 s))) _ (ap is_some (sym (rw z at f)) ∙ w)
     ∙ rw (value-marked without_variables rows n clear g v) (fit-rising (λ r. present (value_of without_variables rows r)) 0 (take (get_or s 0 0) (drop 1 s)))

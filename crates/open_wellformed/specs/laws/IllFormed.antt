@@ -1,5 +1,5 @@
 -- Refusal 7: the events of a role record one after the other, and the role records of a block. Assumes nothing.
-use Rattle.std.specs.Prelude.{ℕ, zero, suc, ◌+◌, ◌-◌, ◌*◌, ◌<◌, ◌≤◌, ◌≡◌, refl, Bool, true, false, ◌&&◌, T, ltb, leb, length, get_or, take, drop}
+use Rattle.std.specs.Prelude.{ℕ, zero, suc, ◌+◌, ◌-◌, ◌*◌, ◌<◌, ◌≤◌, ◌≡◌, refl, Bool, true, false, ◌&&◌, T, ltb, leb, length, get_or, take, drop, None, Some}
 use Rattle.std.proofs.Common.{add-one, arith, ◌∙◌, ltb→lt, leb→le}
 use Rattle.std.proofs.Math.Path.{sym, ap}
 use mathlib.Core.List.{List, [], ◌∷◌, map}
@@ -17,8 +17,7 @@ use Rattle.semantics.proofs.laws.Test.{both_left, both_right, both-parts, presen
 use Rattle.semantics.proofs.laws.List.{mem-present, mem-map, every-iff}
 use Rattle.semantics.proofs.laws.Value.{value-within}
 use Rattle.rows.specs.Rows.{rows_of, place_as, Shape}
-use Rattle.rows.specs.declared.Place.{Place}
-use Rattle.rows.specs.declared.Place.TheVariants.{At, Nowhere}
+use Rattle.rows.specs.Rows.{Place}
 use Rattle.role_level.specs.laws.RoleLevel.{row-cell}
 use Rattle.role_level.specs.RoleLevel.{RoleCelled, listed_terms, RoleExact}
 use Rattle.records.specs.Records.{part_at, record_at, event_at}
@@ -98,7 +97,7 @@ module _ (rows : List Row) (own : ℕ) (s : List ℕ) (first count : ℕ) where
   }
 
   -- with none left all are well formed
-  pub role-none : (j : ℕ) {marks : List Bool} → RoleLeft rows own s first count j marks → count ≤ j → IllRole rows own s Nowhere
+  pub role-none : (j : ℕ) {marks : List Bool} → RoleLeft rows own s first count j marks → count ≤ j → IllRole rows own s None
   unfolding ill_formed_from
   role-none j left l = record {
     place = λ start. sym (ap place_as (left.left start ∙ ap (λ (es : List (Option Event)). ill_formed_from rows own left.known (present_ones es)) (left-events-none start s first count j l)));
@@ -130,7 +129,7 @@ module _ (bytes : List ℕ) (n : ℕ) (shape : Shape bytes n 0) (own : ℕ) (s :
   judged = formed left.known is.0 value.0 left.celled left.exact has-kind value.1
 
   -- one that is not is found
-  pub role-ill : r ≡ false → first + 4 * j ≤ 1277 → IllRole (rows_of bytes) own s (At (first + 4 * j))
+  pub role-ill : r ≡ false → first + 4 * j ≤ 1277 → IllRole (rows_of bytes) own s (Some (first + 4 * j))
   unfolding event_term
   role-ill f l = record {
     place = λ start. sym (ap place_as (left.left start ∙ ap (ill_formed_from (rows_of bytes) own left.known) (event-next start)
@@ -190,11 +189,11 @@ good-record rows roles i start s g = record {
     fit = search (both-parts, parts)
 
 -- where a place is found first, it is the place, and where none is, it is that of the others
-found_first : (x : ℕ) (o q : Option ℕ) → At x ≡ place_as o → At x ≡ place_as (first_of (o ∷ q ∷ []))
+found_first : (x : ℕ) (o q : Option ℕ) → Some x ≡ place_as o → Some x ≡ place_as (first_of (o ∷ q ∷ []))
 found_first x none q e = let z : ◌≡◌ {A = ℕ} 0 1 = cc in absurd (omega arith)
 found_first x (some y) q e = e
 
-found-later : (o q : Option ℕ) → Nowhere ≡ place_as o → first_of (o ∷ q ∷ []) ≡ q
+found-later : (o q : Option ℕ) → None ≡ place_as o → first_of (o ∷ q ∷ []) ≡ q
 found-later none none e = refl
 found-later none (some y) e = refl
 found-later (some y) q e = let z : ◌≡◌ {A = ℕ} 0 1 = cc in absurd (omega arith)
@@ -211,7 +210,7 @@ module _ (rows : List Row) (i start : ℕ) (s : List ℕ) where
   roles-cons parts = rw (add-one i) (rw record-ill)
 
 -- the offset of an event that was found
-pub event-near : {rows : List Row} {own : ℕ} {s : List ℕ} {p : Place} → IllRole rows own s p → {event : ℕ} → p ≡ At event → event ≤ 1277
+pub event-near : {rows : List Row} {own : ℕ} {s : List ℕ} {p : Place} → IllRole rows own s p → {event : ℕ} → p ≡ Some event → event ≤ 1277
 event-near found e = rw e at found.near
 
 module _ (rows : List Row) (base : ℕ) (b : List ℕ) where
@@ -238,7 +237,7 @@ module _ (rows : List Row) (base : ℕ) (b : List ℕ) where
 
   module _ (i at : ℕ) (left : BlockLeft i at) where
     -- with none left there is no such event
-    pub block_none : length b ≤ at → Nowhere ≡ place_as ill_block
+    pub block_none : length b ≤ at → None ≡ place_as ill_block
     unfolding ill_formed roles_from
     block_none l = sym (ap place_as (left.left ∙ ap (λ (parts : List Part). ill_formed rows i (roles_from parts)) (left-none role_length base b at l)))
 
@@ -267,13 +266,13 @@ module _ (rows : List Row) (base : ℕ) (b : List ℕ) where
 
       module _ {p : Place} (found : IllRole rows i (drop at b) p) where
         -- one of the record is found
-        pub block-ill : {event : ℕ} → p ≡ At event → At (base + at + event) ≡ place_as ill_block
+        pub block-ill : {event : ℕ} → p ≡ Some event → Some (base + at + event) ≡ place_as ill_block
         block-ill {event} e =
             rw block-cons (found_first (base + at + event) (ill_role rows i (drop at b) (base + at)) others
             (rw e at (found.place (base + at))))
 
         -- where there is none, the record is passed
-        pub block_more : p ≡ Nowhere → {size : ℕ} → size ≡ role_length (drop at b) → BlockLeft (i + 1) (at + size)
+        pub block_more : p ≡ None → {size : ℕ} → size ≡ role_length (drop at b) → BlockLeft (i + 1) (at + size)
         block_more e f = rw f (record {
           good = rw (add-one i) passed.1;
           left = block-cons ∙ found-later (ill_role rows i (drop at b) (base + at)) others (rw e at (found.place (base + at)));

@@ -4,13 +4,13 @@ use Rattle.packing.specs.Packing.{kind-two}
 use Rattle.packing.proofs.claim_bits.Goals as goal
 
 pub overflow_mul-result : goal.overflow_mul-result
-overflow_mul-result c = record { fits = omega (arith, kind-two c.args.kind) }
+overflow_mul-result c = record { fits = omega (arith, kind-two c.args.c.kind) }
 
 pub overflow_add-result : goal.overflow_add-result
-overflow_add-result c = record { fits = omega (arith, kind-two c.args.kind) }
+overflow_add-result c = record { fits = omega (arith, kind-two c.args.c.kind) }
 
 pub overflow_add-result-2 : goal.overflow_add-result-2
-overflow_add-result-2 c = record { fits = omega (arith, kind-two c.args.kind) }
+overflow_add-result-2 c = record { fits = omega (arith, kind-two c.args.c.kind) }
 
 pub returns : goal.returns
-returns c = let two = kind-two c.args.kind in (omega arith, omega arith)
+returns c = let two = kind-two c.args.c.kind in (omega arith, omega arith)

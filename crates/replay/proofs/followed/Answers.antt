@@ -18,7 +18,7 @@ use Rattle.state.specs.declared.State.{State as CodeState}
 use Rattle.state.specs.laws.Given.{opened-knowledge, given-layout}
 use Rattle.replay_steps.specs.declared.Stepped.{Stepped}
 use Rattle.replay_steps.specs.Steps.{StepDone}
-use Rattle.replay.specs.laws.Follow.{FollowedSteps, follow-start, follow-end, follow-refused, follow-size, follow-on, claim-broken, claim-none}
+use Rattle.replay.specs.laws.Follow.{FollowedSteps, follow-start, follow-end, follow-refused, follow-size, follow-on, claim-answered}
 use Rattle.replay.proofs.followed.Goals as goal
 
 -- what the accepted file gives to a step and to the claims
@@ -73,17 +73,12 @@ loop-at-preserved c =
     let w = taken (given c.requires c.runs_of-r.ensures c.block_of-t.ensures) c.loop-at.invariant.1 c.loop-at-test.true c.step-stepped.ensures (not-false _ c.if-not-stepped.false) in
     (w.1, w.2)
 
-pub broken-claimed-requires : goal.broken-claimed-requires
-broken-claimed-requires c =
+pub broken-requires : goal.broken-requires
+broken-requires c =
     let f = c.loop-at.invariant.1 in
     (_, f.d, _, given c.requires c.runs_of-r.ensures c.block_of-t.ensures, f.is_state, refl, refl)
 
-pub returns-in-Broken : goal.returns-in-Broken
-returns-in-Broken c =
+pub returns : goal.returns
+returns c =
     let f = c.loop-at.invariant.1 in
-    claim-broken _ _ f.d (sym (c.broken-claimed.ensures _ f.d _ (given c.requires c.runs_of-r.ensures c.block_of-t.ensures) f.is_state refl refl) ∙ c.in-Broken.is) (follow-end f c.loop-at-test.false)
-
-pub returns-in-Nothing : goal.returns-in-Nothing
-returns-in-Nothing c =
-    let f = c.loop-at.invariant.1 in
-    claim-none _ _ f.d (sym (c.broken-claimed.ensures _ f.d _ (given c.requires c.runs_of-r.ensures c.block_of-t.ensures) f.is_state refl refl) ∙ c.in-Nothing.is) (follow-end f c.loop-at-test.false)
+    claim-answered _ _ f.d (c.broken.ensures _ f.d _ (given c.requires c.runs_of-r.ensures c.block_of-t.ensures) f.is_state refl refl) (follow-end f c.loop-at-test.false)

@@ -1,5 +1,5 @@
 -- A trace followed step by step: what is left of it, its end, and a step that is refused. Assumes nothing.
-use Rattle.std.specs.Prelude.{ℕ, zero, suc, ◌+◌, ◌*◌, ◌-◌, ◌<◌, ◌≤◌, ◌≡◌, Bool, true, false, List, [], ◌∷◌, leb, length, take, drop}
+use Rattle.std.specs.Prelude.{ℕ, zero, suc, ◌+◌, ◌*◌, ◌-◌, ◌<◌, ◌≤◌, ◌≡◌, Bool, true, false, List, [], ◌∷◌, leb, length, take, drop, Err, None, Ok, Some}
 use Rattle.std.proofs.Common.{arith, sym, ◌∙◌, true≢false, take_all, drop-drop, leb-true}
 use Rattle.std.proofs.Math.Path.{refl, ap}
 use Rattle.std.proofs.Math.Option.{Option, none, some, some-injective, none-ne-some}
@@ -12,18 +12,15 @@ use Rattle.semantics.specs.Moves.{Move}
 use Rattle.semantics.specs.Replay.{after, values_in, first_step, replayed_from, replayed}
 use Rattle.semantics.specs.State as states
 use Rattle.semantics.specs.Verdict.{broken}
-use Rattle.answers.specs.Answers.{claimed_as}
+use Rattle.answers.specs.Answers.{Claimed, claimed_as}
 use Rattle.answers.specs.declared.Claim.{Claim}
-use Rattle.answers.specs.declared.Claimed.TheVariants as claimed
 use Rattle.answers.specs.Answers.{opened_as, replayed_as}
 use Rattle.answers.specs.laws.Answers.{opened-refused}
 use Rattle.answers.specs.declared.Refusal.{Refusal}
-use Rattle.answers.specs.declared.Opened.TheVariants as opening
 use Rattle.state.specs.State.{IsState}
 use Rattle.state.specs.declared.State.{State as CodeState}
 use Rattle.replay_steps.specs.declared.Stepped.{Stepped}
 use Rattle.replay_steps.specs.Steps.{step_after, StepDone, is_step, no_step}
-use Rattle.answers.specs.declared.Replayed.TheVariants.{Refused, Broken, NoClaim}
 use Rattle.replay.specs.Replay.{followed_of}
 
 -- nothing is left
@@ -154,21 +151,10 @@ module _ (file trace : List ℕ) where
   replayed-accepted sc e = rw e refl
 
   -- a refused one
-  pub replayed-refused : {x : Refusal} → opening.Refused x ≡ opened_as file (opened file) → Refused x ≡ replayed_as (replayed file trace)
+  pub replayed-refused : {x : Refusal} → Err x ≡ opened_as file (opened file) → Err x ≡ replayed_as (replayed file trace)
   unfolding replayed
   replayed-refused e = rw (opened-refused file (opened file) e) refl
 
 -- the answer by the claim broken
-pub claim-broken : (sc : Scenario) (trace : List ℕ) (d : State) {c : Claim} → claimed_as (broken sc d) ≡ claimed.Broken c → followed_of sc trace ≡ accepted (broken sc d) → Broken c ≡ replayed_as (followed_of sc trace)
-claim-broken sc trace d {c} e f = go (broken sc d) e ∙ ap replayed_as (sym f)
-  where
-    go : (o : Option states.Claim) → claimed_as o ≡ claimed.Broken c → Broken c ≡ replayed_as (accepted o)
-    go none q = let z : ◌≡◌ {A = ℕ} 0 1 = cc in absurd (omega arith)
-    go (some k) q = cc
-
-pub claim-none : (sc : Scenario) (trace : List ℕ) (d : State) → claimed_as (broken sc d) ≡ claimed.Nothing → followed_of sc trace ≡ accepted (broken sc d) → NoClaim ≡ replayed_as (followed_of sc trace)
-claim-none sc trace d e f = go (broken sc d) e ∙ ap replayed_as (sym f)
-  where
-    go : (o : Option states.Claim) → claimed_as o ≡ claimed.Nothing → NoClaim ≡ replayed_as (accepted o)
-    go none q = refl
-    go (some k) q = let z : ◌≡◌ {A = ℕ} 0 1 = cc in absurd (omega arith)
+pub claim-answered : (sc : Scenario) (trace : List ℕ) (d : State) {o : Claimed} → o ≡ claimed_as (broken sc d) → followed_of sc trace ≡ accepted (broken sc d) → Ok o ≡ replayed_as (followed_of sc trace)
+claim-answered sc trace d e f = ap Ok e ∙ ap replayed_as (sym f)

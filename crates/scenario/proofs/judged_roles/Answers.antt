@@ -1,26 +1,27 @@
 -- `judged_roles` is refusal 6, of a record or of a row that names an absent role. Assumes nothing.
 use native.Mathlib.Omega.{arith}
+use Rattle.rows.specs.laws.Places.{none_left}
 use Rattle.scenario.specs.laws.Open.{records-refused, names-judged}
 use Rattle.scenario.specs.laws.Blocks.{rows_in, terms-sized, roles-read, count-read, names-read}
 use Rattle.scenario.proofs.judged_roles.Goals as goal
 
-pub bad_role-place-requires : goal.bad_role-place-requires
-bad_role-place-requires c = (terms-sized c.args.file.now c.block_of-terms.ensures c.requires.1, omega arith)
+pub bad_role-requires : goal.bad_role-requires
+bad_role-requires c = (terms-sized c.args.file.now c.block_of-terms.ensures c.requires.1, omega arith)
 
 pub absent_role-requires : goal.absent_role-requires
 absent_role-requires c = (terms-sized c.args.file.now c.block_of-terms.ensures c.requires.1, omega arith)
 
-pub returns-in-At : goal.returns-in-At
-returns-in-At c =
+pub returns-in-Some : goal.returns-in-Some
+returns-in-Some c =
     let file = c.args.file.now in
     records-refused file (rows_in file)
-    (roles-read file c.block_of-terms.ensures c.block_of-roles.ensures c.start_of-base.ensures.0 c.bad_role-place.ensures)
-    c.in-At.is
+    (roles-read file c.block_of-terms.ensures c.block_of-roles.ensures c.start_of-base.ensures.0 c.bad_role.ensures)
+    c.in-Some.is
 
-pub returns-in-Nowhere : goal.returns-in-Nowhere
-returns-in-Nowhere c =
+pub returns : goal.returns
+returns c =
     let file = c.args.file.now in
     names-judged file (rows_in file)
-    (roles-read file c.block_of-terms.ensures c.block_of-roles.ensures c.start_of-base.ensures.0 c.bad_role-place.ensures)
-    c.in-Nowhere.is
+    (roles-read file c.block_of-terms.ensures c.block_of-roles.ensures c.start_of-base.ensures.0 c.bad_role.ensures)
+    (none_left c.bad_role.result c.in_default.not-Some)
     (names-read file c.block_of-terms.ensures c.start_of-first.ensures.0 (count-read file c.block_of-roles.ensures c.roles_present-count.ensures) c.absent_role.ensures)

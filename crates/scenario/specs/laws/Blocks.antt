@@ -9,9 +9,9 @@ use Rattle.semantics.specs.WellFormed.{ill_formed}
 use Rattle.semantics.specs.Runs.{run_records, bad_run, bad_knowledge_from}
 use Rattle.semantics.specs.Scenario.{term_part, role_part, run_part, knowledge_part, role_parts, role_count, run_parts}
 use Rattle.rows.specs.Rows.{Sized, rows_of, place_as, Shape}
-use Rattle.rows.specs.declared.Place.{Place}
+use Rattle.rows.specs.Rows.{Place}
 use Rattle.table.specs.Check.{judged_as}
-use Rattle.table.specs.declared.Judged.{Judged}
+use Rattle.table.specs.Check.{Judged}
 use Rattle.cells.specs.laws.Shape.{shape-sized}
 use Rattle.records.specs.Records.{part_at}
 

@@ -1,5 +1,5 @@
 -- The laws of Open's sequence of conditions, as the code goes through it. Assumes nothing.
-use Rattle.std.specs.Prelude.{ℕ, suc, ◌+◌, ◌<◌, ◌≤◌, ◌≡◌, length}
+use Rattle.std.specs.Prelude.{ℕ, suc, ◌+◌, ◌<◌, ◌≤◌, ◌≡◌, length, Err, None, Ok, Some}
 use Rattle.std.proofs.Common.{arith, sym, ◌∙◌}
 use Rattle.std.proofs.Math.Path.{refl, ap, fun_ext}
 use mathlib.Core.List.{List, [], ◌∷◌}
@@ -16,23 +16,19 @@ use Rattle.semantics.specs.Scenario.{Scenario, term_part, role_part, run_part, k
 use Rattle.semantics.proofs.laws.Open.{bad_role-present}
 use Rattle.rows.specs.Rows.{rows_of, place_as, Shape}
 use Rattle.rows.specs.laws.Places.{at_some, nowhere-none}
-use Rattle.rows.specs.declared.Place.{Place}
-use Rattle.rows.specs.declared.Place.TheVariants.{At, Nowhere}
+use Rattle.rows.specs.Rows.{Place}
 use Rattle.frame.specs.Framing.{framing_of}
 use Rattle.table.specs.Check.{judged_as}
-use Rattle.table.specs.declared.Judged.{Judged}
-use Rattle.table.specs.declared.Judged.TheVariants as judged
+use Rattle.table.specs.Check.{Judged}
 use Rattle.table.specs.laws.Table.{judged-refused, judged-sized, table-accepted}
 use Rattle.records.specs.Records.{part_at}
 use Rattle.records.specs.laws.Records.{records_left, left-cons, left-none, left-all}
 use Rattle.records.specs.laws.Runs.{run-bytes}
 use Rattle.answers.specs.Answers.{numbered, checked_as, layout_of, opened_as}
 use Rattle.answers.specs.declared.Refusal.{Refusal}
-use Rattle.answers.specs.declared.Checked.{Checked}
-use Rattle.answers.specs.declared.Checked.TheVariants as checking
+use Rattle.answers.specs.Answers.{Checked}
 use Rattle.answers.specs.declared.Layout.{Layout}
-use Rattle.answers.specs.declared.Opened.{Opened}
-use Rattle.answers.specs.declared.Opened.TheVariants.{Refused, Accepted}
+use Rattle.answers.specs.Answers.{Opened}
 use Rattle.scenario.specs.Opened.{roles_refusal, judged_runs, judged_rows}
 
 -- two conditions with one number, one after the other
@@ -43,14 +39,14 @@ six-cases (some at) b rest = refl
 
 module _ (file : List ℕ) where
   -- a refused frame
-  framing-cases : (a b c : Option ℕ) (rest : Answer Scenario) {x : Refusal} → checked_as (◌>>◌ (checked 1 a) (◌>>◌ (checked 2 b) (checked 3 c))) ≡ checking.Refused x
+  framing-cases : (a b c : Option ℕ) (rest : Answer Scenario) {x : Refusal} → checked_as (◌>>◌ (checked 1 a) (◌>>◌ (checked 2 b) (checked 3 c))) ≡ Err x
       → ◌>>◌ (checked 1 a) (◌>>◌ (checked 2 b) (◌>>◌ (checked 3 c) rest)) ≡ refuse x.number x.place
   framing-cases none none none rest e = let z : ◌≡◌ {A = ℕ} 0 1 = cc in absurd (omega arith)
   framing-cases none none (some at) rest e = cc
   framing-cases none (some at) c rest e = cc
   framing-cases (some at) b c rest e = cc
 
-  framed-cases : (a b c : Option ℕ) (rest : Answer Scenario) → checked_as (◌>>◌ (checked 1 a) (◌>>◌ (checked 2 b) (checked 3 c))) ≡ checking.Passed
+  framed-cases : (a b c : Option ℕ) (rest : Answer Scenario) → checked_as (◌>>◌ (checked 1 a) (◌>>◌ (checked 2 b) (checked 3 c))) ≡ (Ok tt)
       → ◌>>◌ (checked 1 a) (◌>>◌ (checked 2 b) (◌>>◌ (checked 3 c) rest)) ≡ rest
   framed-cases none none none rest e = refl
   framed-cases none none (some at) rest e = let z : ◌≡◌ {A = ℕ} 0 1 = cc in absurd (omega arith)
@@ -73,19 +69,19 @@ module _ (file : List ℕ) where
       (fun_ext after_same)
 
   module _ {f : Checked} (check : f ≡ checked_as (framing_of file)) where
-    pub frame_refused : {x : Refusal} → f ≡ checking.Refused x → Refused x ≡ opened_as file (opened file)
+    pub frame_refused : {x : Refusal} → f ≡ Err x → Err x ≡ opened_as file (opened file)
     frame_refused e = rw (opened_after, framing-cases (unversioned file) (too_long file) (misframed file) after_frame (sym check ∙ e)) refl
 
-    module _ (framed : f ≡ checking.Passed) where
+    module _ (framed : f ≡ (Ok tt)) where
       pub opened-framed : opened file ≡ after_frame
       opened-framed = opened_after ∙ framed-cases (unversioned file) (too_long file) (misframed file) after_frame (sym check ∙ framed)
 
       module _ {j : Judged} (table : j ≡ judged_as (rows_from (term_part file).start [] (term_part file).bytes)) where
-        pub table-refused : {x : Refusal} → j ≡ judged.Refused x → Refused x ≡ opened_as file (opened file)
+        pub table-refused : {x : Refusal} → j ≡ Err x → Err x ≡ opened_as file (opened file)
         table-refused {x} e =
             rw (opened-framed, judged-refused (rows_from (term_part file).start [] (term_part file).bytes) x (sym table ∙ e)) refl
 
-        module _ {n : ℕ} (rows : j ≡ judged.Rows n) where
+        module _ {n : ℕ} (rows : j ≡ Ok n) where
           pub terms-shape : Shape (term_part file).bytes n 0
           terms-shape = judged-sized (term_part file).start (term_part file).bytes n (sym table ∙ rows)
 
@@ -95,11 +91,11 @@ module _ (file : List ℕ) where
 module _ (file : List ℕ) (rows : List Row) where
   -- refusal 6: of records, of rows, or none
   module _ {p : Place} (roles : p ≡ place_as (bad_role rows (role_parts file))) where
-    pub records-refused : {at : ℕ} → p ≡ At at → At at ≡ place_as (roles_refusal file rows)
+    pub records-refused : {at : ℕ} → p ≡ Some at → Some at ≡ place_as (roles_refusal file rows)
     unfolding roles_refusal
     records-refused e = rw (at_some (bad_role rows (role_parts file)) (sym e ∙ roles)) refl
 
-    pub names-judged : p ≡ Nowhere → {q : Place} → q ≡ place_as (absent_role_from (role_count file) (term_part file).start rows) → q ≡ place_as (roles_refusal file rows)
+    pub names-judged : p ≡ None → {q : Place} → q ≡ place_as (absent_role_from (role_count file) (term_part file).start rows) → q ≡ place_as (roles_refusal file rows)
     unfolding roles_refusal
     names-judged good {q} names = names ∙ rw (nowhere-none (bad_role rows (role_parts file)) (sym good ∙ roles)) (first_alone (absent_role_from (role_count file) (term_part file).start rows))
       where
@@ -109,11 +105,11 @@ module _ (file : List ℕ) (rows : List Row) where
 
   -- refusal 6, then 7, then the rest
   module _ {p : Place} (roles : p ≡ place_as (roles_refusal file rows)) where
-    pub roles-refused : {at : ℕ} → p ≡ At at → Refused (numbered 6 at) ≡ opened_as file (judged_rows file rows)
+    pub roles-refused : {at : ℕ} → p ≡ Some at → Err (numbered 6 at) ≡ opened_as file (judged_rows file rows)
     unfolding judged_rows
     roles-refused e = rw (at_some (roles_refusal file rows) (sym e ∙ roles)) refl
 
-    module _ (good : p ≡ Nowhere) where
+    module _ (good : p ≡ None) where
       no-refusal : roles_refusal file rows ≡ none
       no-refusal = nowhere-none (roles_refusal file rows) (sym good ∙ roles)
 
@@ -126,32 +122,32 @@ module _ (file : List ℕ) (rows : List Row) where
           first-none (some at) b e = e
 
       module _ {w : Place} (events : w ≡ place_as (ill_formed rows 0 (roles_from (role_parts file)))) where
-        pub events-refused : {at : ℕ} → w ≡ At at → Refused (numbered 7 at) ≡ opened_as file (judged_rows file rows)
+        pub events-refused : {at : ℕ} → w ≡ Some at → Err (numbered 7 at) ≡ opened_as file (judged_rows file rows)
         unfolding judged_rows
         events-refused e = rw (no-refusal, at_some (ill_formed rows 0 (roles_from (role_parts file))) (sym e ∙ events)) refl
 
-        pub events-passed : w ≡ Nowhere → opened_as file (judged_runs file rows) ≡ opened_as file (judged_rows file rows)
+        pub events-passed : w ≡ None → opened_as file (judged_runs file rows) ≡ opened_as file (judged_rows file rows)
         unfolding judged_rows
         events-passed e = rw (no-refusal, nowhere-none (ill_formed rows 0 (roles_from (role_parts file))) (sym e ∙ events)) refl
 
   -- refusals 8 and 9, or accepted
   module _ {x : Place} (runs : x ≡ place_as (bad_run rows (role_count file) (run_parts file))) where
-    pub runs-refused : {at : ℕ} → x ≡ At at → Refused (numbered 8 at) ≡ opened_as file (judged_runs file rows)
+    pub runs-refused : {at : ℕ} → x ≡ Some at → Err (numbered 8 at) ≡ opened_as file (judged_runs file rows)
     unfolding judged_runs
     runs-refused e = rw (at_some (bad_run rows (role_count file) (run_parts file)) (sym e ∙ runs)) refl
 
-    module _ (fit : x ≡ Nowhere) {y : Place} (known : y ≡ place_as (bad_knowledge_from rows (knowledge_part file).start 0 (knowledge_part file).bytes)) where
+    module _ (fit : x ≡ None) {y : Place} (known : y ≡ place_as (bad_knowledge_from rows (knowledge_part file).start 0 (knowledge_part file).bytes)) where
       no-bad-run : bad_run rows (role_count file) (run_parts file) ≡ none
       no-bad-run = nowhere-none (bad_run rows (role_count file) (run_parts file)) (sym fit ∙ runs)
 
-      pub known-refused : {at : ℕ} → y ≡ At at → Refused (numbered 9 at) ≡ opened_as file (judged_runs file rows)
+      pub known-refused : {at : ℕ} → y ≡ Some at → Err (numbered 9 at) ≡ opened_as file (judged_runs file rows)
       unfolding judged_runs
       known-refused e = rw (no-bad-run, at_some (bad_knowledge_from rows (knowledge_part file).start 0 (knowledge_part file).bytes) (sym e ∙ known)) refl
 
-      pub all-accepted : y ≡ Nowhere → {layout : Layout} → layout ≡ layout_of file (scenario_of file rows) → Accepted layout ≡ opened_as file (judged_runs file rows)
+      pub all-accepted : y ≡ None → {layout : Layout} → layout ≡ layout_of file (scenario_of file rows) → Ok layout ≡ opened_as file (judged_runs file rows)
       unfolding judged_runs
       all-accepted e h =
-          rw (no-bad-run, nowhere-none (bad_knowledge_from rows (knowledge_part file).start 0 (knowledge_part file).bytes) (sym e ∙ known)) (ap Accepted h)
+          rw (no-bad-run, nowhere-none (bad_knowledge_from rows (knowledge_part file).start 0 (knowledge_part file).bytes) (sym e ∙ known)) (ap Ok h)
 
 -- the layout of an accepted file, from what was read of it
 pub layout-right : (file : List ℕ) (rows : List Row) → bad_role rows (role_parts file) ≡ none

@@ -1,5 +1,7 @@
 -- `search_in` opens a file, asks for the buffer's length and judges the file. Assumes nothing.
 use mathlib.Core.Path.{sym, ap, ◌∙◌}
+use Rattle.std.specs.Prelude.{Ok}
+use Rattle.std.proofs.lemmas.Result.{err_from_is_err_and}
 use Rattle.answers.specs.Answers.{searched_as}
 use Rattle.search_runs.specs.Runs.{list_as}
 use Rattle.answers.specs.laws.Answers.{opened-accepts}
@@ -8,22 +10,24 @@ use Rattle.search.proofs.search_in.Goals as goal
 
 pub judged-requires : goal.judged-requires
 judged-requires c =
-    (opened-accepts _ (sym c.in-Accepted.is ∙ c.open-opened.ensures), buffer-passed _ (sym c.in-Passed.is ∙ c.check_buffer-checked.ensures))
+    (opened-accepts _ (sym c.in_ok-layout.was ∙ c.«open».ensures), buffer-passed _ (sym c.in_ok-check_buffer.was ∙ c.check_buffer.ensures))
 
-pub returns-in-Refused : goal.returns-in-Refused
-returns-in-Refused c =
-    let v = searched-refused (list_as c.args.list) c.args.file.now c.args.trace.now (sym c.in-Refused.is ∙ c.open-opened.ensures) in
-    record { value = v.0; trace_after = v.1 }
+pub returns-in_err-layout : goal.returns-in_err-layout
+returns-in_err-layout c =
+    let v = searched-refused (list_as c.args.list) c.args.file.now c.args.trace.now (sym c.in_err-layout.was ∙ c.«open».ensures) in
+    let left = err_from_is_err_and c.from_residual.result c.from_residual.ensures.1 in
+    record { value = rw (left.1, left.2) v.0; trace_after = v.1 }
 
-pub returns-in-Refused-checked : goal.returns-in-Refused-checked
-returns-in-Refused-checked c =
-    let a = opened-accepts _ (sym c.in-Accepted.is ∙ c.open-opened.ensures) in
-    let v = searched-short (list_as c.args.list) c.args.file.now c.args.trace.now a.is_opened (sym c.in-Refused-checked.is ∙ c.check_buffer-checked.ensures) in
-    record { value = v.0; trace_after = v.1 }
+pub returns-in_err-check_buffer : goal.returns-in_err-check_buffer
+returns-in_err-check_buffer c =
+    let a = opened-accepts _ (sym c.in_ok-layout.was ∙ c.«open».ensures) in
+    let v = searched-short (list_as c.args.list) c.args.file.now c.args.trace.now a.is_opened (sym c.in_err-check_buffer.was ∙ c.check_buffer.ensures) in
+    let left = err_from_is_err_and c.from_residual-in_err-check_buffer.result c.from_residual-in_err-check_buffer.ensures.1 in
+    record { value = rw (left.1, left.2) v.0; trace_after = v.1 }
 
-pub returns-in-Passed : goal.returns-in-Passed
-returns-in-Passed c =
-    let a = opened-accepts _ (sym c.in-Accepted.is ∙ c.open-opened.ensures) in
-    let passed = sym c.in-Passed.is ∙ c.check_buffer-checked.ensures in
+pub returns : goal.returns
+returns c =
+    let a = opened-accepts _ (sym c.in_ok-layout.was ∙ c.«open».ensures) in
+    let passed = sym c.in_ok-check_buffer.was ∙ c.check_buffer.ensures in
     let v = c.judged.ensures in
-    record { value = v.value ∙ ap searched_as (sym (searched-judged _ _ _ a.is_opened passed)); trace_after = v.trace_after ∙ sym (buffer-judged _ _ _ a.is_opened passed) }
+    record { value = ap Ok v.value ∙ ap searched_as (sym (searched-judged _ _ _ a.is_opened passed)); trace_after = v.trace_after ∙ sym (buffer-judged _ _ _ a.is_opened passed) }

@@ -1,5 +1,5 @@
 -- The verdict by what the walk through a whole list finds, and Search by the verdict. Assumes nothing.
-use Rattle.std.specs.Prelude.{ℕ, ◌+◌, ◌≤◌, ◌≡◌, Bool, true, false, List, ◌++◌, ltb, length, drop}
+use Rattle.std.specs.Prelude.{ℕ, ◌+◌, ◌≤◌, ◌≡◌, Bool, true, false, List, ◌++◌, ltb, length, drop, Err, Ok}
 use Rattle.std.proofs.Common.{arith, ◌∙◌, ltb-false}
 use Rattle.std.proofs.Math.Path.{refl, sym, ap}
 use Rattle.semantics.specs.Basic.{provided}
@@ -13,14 +13,11 @@ use Rattle.semantics.proofs.laws.Open.{opened-inverts}
 use Rattle.answers.specs.Answers.{scenario_in, checked_as, opened_as, verdict_as, searched_as, answered}
 use Rattle.answers.specs.laws.Answers.{opened-refused, answer-found}
 use Rattle.answers.specs.declared.Refusal.{Refusal}
-use Rattle.answers.specs.declared.Checked.TheVariants as checking
-use Rattle.answers.specs.declared.Opened.TheVariants as opening
 use Rattle.search_breaks.specs.Walk.{judged, over, buffer_as, Finds}
 use Rattle.search_breaks.specs.laws.Walk.{walk-cut}
 use Rattle.answers.specs.declared.Walked.{Walked}
 use Rattle.answers.specs.declared.Walked.TheVariants as walking
 use Rattle.answers.specs.declared.Verdict.{Verdict as CodeVerdict}
-use Rattle.answers.specs.declared.Verdict.TheVariants.{Refused}
 
 -- a trace at the buffer's front
 over-front : (before bytes : List ℕ) → over before 0 bytes ≡ bytes ++ drop (length bytes) before
@@ -56,7 +53,7 @@ first-cut which sc {left} z before = walk-cut (moves_in which sc) sc left (initi
 
 module _ (which : Listing) (file buffer : List ℕ) where
   -- a refused file
-  pub searched-refused : {x : Refusal} → opening.Refused x ≡ opened_as file (opened file) → (Refused x ≡ searched_as (searched_in which file buffer)) × (buffer ≡ buffer_in which file buffer)
+  pub searched-refused : {x : Refusal} → Err x ≡ opened_as file (opened file) → (Err x ≡ searched_as (searched_in which file buffer)) × (buffer ≡ buffer_in which file buffer)
   unfolding searched_in buffer_in
   searched-refused e = rw (opened-refused file (opened file) e) (refl, refl)
 
@@ -66,23 +63,23 @@ module _ (which : Listing) (file buffer : List ℕ) where
     by-buffer = rw is_opened refl
 
     -- a buffer that is too short
-    pub searched-short : {x : Refusal} → checking.Refused x ≡ checked_as (checked 10 (short_buffer buffer)) → (Refused x ≡ searched_as (searched_in which file buffer)) × (buffer ≡ buffer_in which file buffer)
+    pub searched-short : {x : Refusal} → Err x ≡ checked_as (checked 10 (short_buffer buffer)) → (Err x ≡ searched_as (searched_in which file buffer)) × (buffer ≡ buffer_in which file buffer)
     unfolding buffer_in
     searched-short {x} e = let w = go (checked 10 (short_buffer buffer)) e in (w.0 ∙ ap searched_as (sym by-buffer), w.1 ∙ ap (written buffer) (sym by-buffer))
       where
         rest : Answer Verdict
         rest = accepted (verdict which (scenario_in file))
 
-        go : (a : Answer (Unit {0})) → checking.Refused x ≡ checked_as a → (Refused x ≡ searched_as (◌>>◌ a rest)) × (buffer ≡ written buffer (◌>>◌ a rest))
+        go : (a : Answer (Unit {0})) → Err x ≡ checked_as a → (Err x ≡ searched_as (◌>>◌ a rest)) × (buffer ≡ written buffer (◌>>◌ a rest))
         go (refused r) q = (cc, refl)
         go (accepted u) q = let z : ◌≡◌ {A = ℕ} 0 1 = cc in absurd (omega arith)
 
     -- one that is not
-    module _ (passed : checking.Passed ≡ checked_as (checked 10 (short_buffer buffer))) where
+    module _ (passed : Ok tt ≡ checked_as (checked 10 (short_buffer buffer))) where
       pub searched-judged : searched_in which file buffer ≡ accepted (verdict which (scenario_in file))
       searched-judged = by-buffer ∙ go (checked 10 (short_buffer buffer)) passed
         where
-          go : (a : Answer (Unit {0})) → checking.Passed ≡ checked_as a → ◌≡◌ {A = Answer Verdict} (◌>>◌ a (accepted (verdict which (scenario_in file)))) (accepted (verdict which (scenario_in file)))
+          go : (a : Answer (Unit {0})) → Ok tt ≡ checked_as a → ◌≡◌ {A = Answer Verdict} (◌>>◌ a (accepted (verdict which (scenario_in file)))) (accepted (verdict which (scenario_in file)))
           go (refused r) q = let z : ◌≡◌ {A = ℕ} 0 1 = cc in absurd (omega arith)
           go (accepted u) q = refl
 
@@ -91,10 +88,10 @@ module _ (which : Listing) (file buffer : List ℕ) where
       buffer-judged = ap (written buffer) searched-judged
 
 -- a buffer that is not too short
-pub buffer-passed : (buffer : List ℕ) → checking.Passed ≡ checked_as (checked 10 (short_buffer buffer)) → 128 ≤ length buffer
+pub buffer-passed : (buffer : List ℕ) → Ok tt ≡ checked_as (checked 10 (short_buffer buffer)) → 128 ≤ length buffer
 unfolding short_buffer
 buffer-passed buffer e = go (ltb (length buffer) 128) refl e
   where
-    go : (b : Bool) → ltb (length buffer) 128 ≡ b → checking.Passed ≡ checked_as (checked 10 (provided b (length buffer))) → 128 ≤ length buffer
+    go : (b : Bool) → ltb (length buffer) 128 ≡ b → Ok tt ≡ checked_as (checked 10 (provided b (length buffer))) → 128 ≤ length buffer
     go true h q = let z : ◌≡◌ {A = ℕ} 0 1 = cc in absurd (omega arith)
     go false h q = ltb-false (length buffer) 128 h

@@ -13,7 +13,7 @@ use Rattle.semantics.specs.Verdict.{Entry, Finding, found, later, walked, broken
 use Rattle.semantics.specs.State as states
 use Rattle.semantics.proofs.laws.Tree.{listed-zero, listed_suc}
 use Rattle.answers.specs.Answers.{claimed_as, walked_as}
-use Rattle.answers.specs.declared.Claimed.{Claimed}
+use Rattle.answers.specs.Answers.{Claimed}
 use Rattle.answers.specs.declared.Walked.{Walked}
 use Rattle.answers.specs.declared.Walked.TheVariants.{Clean, Cut}
 use Rattle.search_findings.specs.Findings.{own_as, goes_on, count_of}

@@ -5,8 +5,8 @@ use Rattle.search_findings.specs.Findings.{own_of}
 use Rattle.search_findings.specs.laws.Findings.{own-some}
 use Rattle.search_findings.proofs.own.Goals as goal
 
-pub returns-in-Broken : goal.returns-in-Broken
-returns-in-Broken c = ap Broken c.own_break.ensures ∙ sym (own-some _ _ c.if-left-eq0.false ∙ ap own_of c.in-Broken.is)
+pub returns-in-Some : goal.returns-in-Some
+returns-in-Some c = ap Broken c.own_break.ensures ∙ sym (own-some _ _ c.if-left-eq0.false ∙ ap own_of c.in-Some.is)
 
-pub returns-in-Nothing : goal.returns-in-Nothing
-returns-in-Nothing c = sym (own-some _ _ c.if-left-eq0.false ∙ ap own_of c.in-Nothing.is)
+pub returns-in-None : goal.returns-in-None
+returns-in-None c = sym (own-some _ _ c.if-left-eq0.false ∙ ap own_of c.in-None.is)

@@ -1,7 +1,7 @@
 -- What a walk finds, by the budget. Assumes nothing.
 use Rattle.std.specs.Prelude.{ℕ, zero, suc, ◌<◌, ◌≤◌, ◌≡◌, refl, Bool}
 use Rattle.std.proofs.Common.{ap, lt-ltb, le-ltb}
-use Rattle.answers.specs.declared.Claimed.{Claimed}
+use Rattle.answers.specs.Answers.{Claimed}
 use Rattle.answers.specs.declared.Walked.TheVariants.{Clean, Cut}
 use Rattle.search_findings.specs.Findings.{own_of, own_as, known_by, known_as}
 

@@ -264,12 +264,12 @@ walk_values-next_value-next-requires t c =
     let m = c.requires.some_choice in
     (m.read.move.clear.here.reached.given.shape, (of_values.row_low c.next_unset-x.ensures c.args.reach m c.if-x-plan.false, c.loop-y.invariant.2))
 
-pub walk_values-returns-in-Nothing : goal.walk_values-returns-in-Nothing
-walk_values-returns-in-Nothing t c = record {
+pub walk_values-returns-in-None : goal.walk_values-returns-in-None
+walk_values-returns-in-None t c = record {
   finds_choice = λ m. let l = c.loop-y in
       let unset = c.next_unset-x.ensures in
       let more = c.if-x-plan.false in
-      rw (← l.invariant.0) (of_values.tried-end unset c.args.reach m more c.next_value-next.ensures c.in-Nothing.is (l.invariant.3 m unset more) l.trace);
+      rw (← l.invariant.0) (of_values.tried-end unset c.args.reach m more c.next_value-next.ensures c.in-None.is (l.invariant.3 m unset more) l.trace);
   remembers = c.loop-y.invariant.4;
 }
 

@@ -1,5 +1,5 @@
 -- What the check of a table knows once it has passed i rows, and what it answers from there. Assumes nothing.
-use Rattle.std.specs.Prelude.{ℕ, suc, ◌+◌, ◌*◌, ◌-◌, ◌≤◌, ◌<◌, ◌≡◌, T, length, get_or, take, drop}
+use Rattle.std.specs.Prelude.{ℕ, suc, ◌+◌, ◌*◌, ◌-◌, ◌≤◌, ◌<◌, ◌≡◌, T, length, get_or, take, drop, Err, Ok}
 use Rattle.std.proofs.Common.{add-one, arith, sym, ◌∙◌, take-append-drop, length-drop, length-take-le, drop-cons, take-add}
 use Rattle.std.proofs.Math.Numerals.{add-two, add-three}
 use Rattle.std.proofs.Math.Path.{refl, ap}
@@ -11,7 +11,6 @@ use Rattle.semantics.specs.Guarantee.{GoodTable}
 use Rattle.semantics.specs.Table.{Row, variable_row, admissible, repeated, row_refusal, rows_from}
 use Rattle.semantics.proofs.laws.Table.{row_refusal-none, rows_from-then, rows_from-short}
 use Rattle.answers.specs.Answers.{numbered}
-use Rattle.table.specs.declared.Judged.TheVariants.{Refused, Rows}
 use Rattle.rows.specs.Rows.{IsTable, decoded_at}
 use Rattle.table.specs.Check.{number_or, judged_as}
 use Rattle.rows.specs.laws.Table.{table-good}
@@ -52,19 +51,19 @@ module _ (t : List ℕ) (i v : ℕ) (p : PassedRows t i v) where
       ∙ ap (λ (n : ℕ). rows_from (at + n) (rows_below t i) (drop (3 * i) t)) (length-take-le (3 * i) t p.within)
 
   -- all rows are passed where the bytes end
-  pub passed-all : (at : ℕ) → length t ≡ 3 * i → Rows i ≡ judged_as (rows_from at [] t)
+  pub passed-all : (at : ℕ) → length t ≡ 3 * i → Ok i ≡ judged_as (rows_from at [] t)
   unfolding rows_from
-  passed-all at e = rw (passed-rest at, drop_of_length-le t {i = 3 * i} (omega arith)) (ap Rows (sym (below_length t i p.within p.table)))
+  passed-all at e = rw (passed-rest at, drop_of_length-le t {i = 3 * i} (omega arith)) (ap Ok (sym (below_length t i p.within p.table)))
 
   -- a row that is not complete is refused
-  pub passed-short : (at : ℕ) → ¬ (length t ≡ 3 * i) → length t - 3 * i < 3 → Refused (numbered 4 (at + 3 * i)) ≡ judged_as (rows_from at [] t)
+  pub passed-short : (at : ℕ) → ¬ (length t ≡ 3 * i) → length t - 3 * i < 3 → Err (numbered 4 (at + 3 * i)) ≡ judged_as (rows_from at [] t)
   passed-short at n l =
       let size = length-drop (3 * i) t in
       rw (passed-rest at, rows_from-short (at + 3 * i) (rows_below t i) (drop (3 * i) t) (omega (arith, p.within, n)) (omega arith))
 
   module _ (whole : 3 * i + 3 ≤ length t) where
     -- a row is refused by its number
-    pub passed-refused : (at n : ℕ) → n ≡ number_or (row_refusal (rows_below t i) (decoded_at t i)) → ¬ (n ≡ 0) → Refused (numbered n (at + 3 * i)) ≡ judged_as (rows_from at [] t)
+    pub passed-refused : (at n : ℕ) → n ≡ number_or (row_refusal (rows_below t i) (decoded_at t i)) → ¬ (n ≡ 0) → Err (numbered n (at + 3 * i)) ≡ judged_as (rows_from at [] t)
     unfolding decoded_at
     passed-refused at n e z =
         let below = rows_below t i in

@@ -1,5 +1,5 @@
 -- The laws of tables of bytes: what their rows are, whatever the place at which they are read. Assumes nothing.
-use Rattle.std.specs.Prelude.{ℕ, suc, ◌+◌, ◌≡◌, refl, ◌↔◌, List, [], ◌∷◌, ◌++◌, T, length}
+use Rattle.std.specs.Prelude.{ℕ, suc, ◌+◌, ◌≡◌, refl, ◌↔◌, List, [], ◌∷◌, ◌++◌, T, length, Err, Ok}
 use Rattle.std.proofs.Common.{arith, sym, ap, ◌∙◌}
 use Rattle.std.proofs.Math.Option.{some}
 use Rattle.semantics.specs.Answer.{Answer, refused, accepted, refuse}
@@ -9,7 +9,6 @@ use Rattle.semantics.proofs.laws.Encoding.{table-exactly}
 use Rattle.rows.specs.Rows.{IsTable, Sized, rows_of, rows_or}
 use Rattle.answers.specs.declared.Refusal.{Refusal}
 use Rattle.table.specs.Check.{judged_as}
-use Rattle.table.specs.declared.Judged.TheVariants.{Refused, Rows}
 use Rattle.rows.specs.laws.Table.{table-good, table-length}
 
 -- after bytes that are read, the rest is read on from where they end
@@ -30,12 +29,12 @@ unfolding rows_of
 accepted-table at bytes rows e = let z = (rows_from-place at 0 bytes rows).0 e in (z ∙ ap accepted (sym (ap rows_or z)), ap rows_or z)
 
 -- what an answer is by what the check says of it: so many rows
-pub judged-accepted : (a : Answer (List Row)) (n : ℕ) → judged_as a ≡ Rows n → (rows : List Row) × (a ≡ accepted rows) × (n ≡ length rows)
+pub judged-accepted : (a : Answer (List Row)) (n : ℕ) → judged_as a ≡ Ok n → (rows : List Row) × (a ≡ accepted rows) × (n ≡ length rows)
 judged-accepted (refused r) n e = let z : ◌≡◌ {A = ℕ} 0 1 = cc in absurd (omega arith)
 judged-accepted (accepted rows) n e = (rows, refl, let z : length rows ≡ n = cc in sym z)
 
 -- or a refusal with its place
-pub judged-refused : (a : Answer (List Row)) (x : Refusal) → judged_as a ≡ Refused x → a ≡ refuse x.number x.place
+pub judged-refused : (a : Answer (List Row)) (x : Refusal) → judged_as a ≡ Err x → a ≡ refuse x.number x.place
 judged-refused (refused r) x e =
     let p : r.number ≡ x.number = cc in
     let q : r.place ≡ x.place = cc in
@@ -43,14 +42,14 @@ judged-refused (refused r) x e =
 judged-refused (accepted rows) x e = let z : ◌≡◌ {A = ℕ} 0 1 = cc in absurd (omega arith)
 
 -- what a caller of the check knows of the bytes where it answers with a number of rows
-pub judged-table : (at : ℕ) (bytes : List ℕ) (n : ℕ) → judged_as (rows_from at [] bytes) ≡ Rows n → IsTable bytes × (n ≡ length (rows_of bytes))
+pub judged-table : (at : ℕ) (bytes : List ℕ) (n : ℕ) → judged_as (rows_from at [] bytes) ≡ Ok n → IsTable bytes × (n ≡ length (rows_of bytes))
 judged-table at bytes n j =
     let w = judged-accepted (rows_from at [] bytes) n j in
     let t = accepted-table at bytes w.0 w.1 in
     (t.0, rw t.1 w.2)
 
 -- the bytes of an accepted table
-pub judged-sized : (at : ℕ) (bytes : List ℕ) (n : ℕ) → judged_as (rows_from at [] bytes) ≡ Rows n → Sized bytes n
+pub judged-sized : (at : ℕ) (bytes : List ℕ) (n : ℕ) → judged_as (rows_from at [] bytes) ≡ Ok n → Sized bytes n
 judged-sized at bytes n j =
     let w = judged-table at bytes n j in
     record {

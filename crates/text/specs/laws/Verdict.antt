@@ -1,22 +1,21 @@
 -- The verdict's text by Search's answer. Assumes nothing.
-use Rattle.std.specs.Prelude.{ℕ, ◌≤◌, ◌≡◌, refl, List, ◌++◌, length, take, drop}
+use Rattle.std.specs.Prelude.{Err, Ok, ℕ, ◌≤◌, ◌≡◌, refl, List, ◌++◌, length, take, drop}
 use Rattle.std.proofs.Common.{arith, sym, ap, ◌∙◌, length-append, length-take, take_at}
 use Rattle.semantics.specs.Answer.{Answer, refused, accepted}
 use Rattle.semantics.specs.Moves.{Move}
 use Rattle.semantics.specs.Verdict.{Verdict, broken_at, held, stopped, trace_bytes, written}
 use Rattle.answers.specs.declared.Break.{Break}
-use Rattle.answers.specs.Answers.{searched_as}
+use Rattle.answers.specs.Answers.{Searched, break_as, searched_as}
 use Rattle.answers.specs.declared.Refusal.{Refusal}
-use Rattle.answers.specs.declared.Verdict as code
-use Rattle.answers.specs.declared.Verdict.TheVariants.{Refused, Broken, Held, Stopped}
+use Rattle.answers.specs.declared.Verdict.TheVariants.{Broken, Held, Stopped}
 use Rattle.text.specs.Text.{word, line_text, refused_text, broken_text, verdict_text}
 
 -- what an answer of the code says of a text; nothing if it is a break, whose trace it does not hold
-abbrev Tells : code.Verdict → List ℕ → Type 0
-Tells (Refused r) text = refused_text r.number r.place ≡ text
-Tells (Broken b) text = Unit {0}
-Tells (Held n) text = word "HELD " ++ line_text n ≡ text
-Tells (Stopped n) text = word "STOPPED " ++ line_text n ≡ text
+abbrev Tells : Searched → List ℕ → Type 0
+Tells (Err r) text = refused_text r.number r.place ≡ text
+Tells (Ok (Broken b)) text = Unit {0}
+Tells (Ok (Held n)) text = word "HELD " ++ line_text n ≡ text
+Tells (Ok (Stopped n)) text = word "STOPPED " ++ line_text n ≡ text
 
 -- it tells the text of the answer
 tells : (a : Answer Verdict) → Tells (searched_as a) (verdict_text a)
@@ -27,17 +26,17 @@ tells (accepted (held n)) = refl
 tells (accepted (stopped n)) = refl
 
 -- whichever way it is given
-told : (a : Answer Verdict) {answer : code.Verdict} → answer ≡ searched_as a → Tells answer (verdict_text a)
+told : (a : Answer Verdict) {answer : Searched} → answer ≡ searched_as a → Tells answer (verdict_text a)
 told a e = rw e (tells a)
 
 module _ (a : Answer Verdict) where
-  pub text-refused : {x : Refusal} → Refused x ≡ searched_as a → refused_text x.number x.place ≡ verdict_text a
+  pub text-refused : {x : Refusal} → Err x ≡ searched_as a → refused_text x.number x.place ≡ verdict_text a
   text-refused e = told a e
 
-  pub text-held : {m : ℕ} → Held m ≡ searched_as a → word "HELD " ++ line_text m ≡ verdict_text a
+  pub text-held : {m : ℕ} → Ok (Held m) ≡ searched_as a → word "HELD " ++ line_text m ≡ verdict_text a
   text-held e = told a e
 
-  pub text-stopped : {m : ℕ} → Stopped m ≡ searched_as a → word "STOPPED " ++ line_text m ≡ verdict_text a
+  pub text-stopped : {m : ℕ} → Ok (Stopped m) ≡ searched_as a → word "STOPPED " ++ line_text m ≡ verdict_text a
   text-stopped e = told a e
 
 -- a break whose trace stands at the buffer's front
@@ -46,17 +45,18 @@ pub record BreakText (a : Answer Verdict) (b : Break) (after : List ℕ) : Type 
   pub fits : b.length ≤ length after
   pub short : length (take b.length after) ≤ length after
   pub trace : take b.length after ≡ trace_bytes moves
-  pub text : broken_text b.place b.run b.event moves ≡ verdict_text a
+  pub text : broken_text b.place b.claim.run b.claim.event moves ≡ verdict_text a
 
-pub text-broken : (a : Answer Verdict) (buffer : List ℕ) {b : Break} {after : List ℕ} → Broken b ≡ searched_as a → after ≡ written buffer a → BreakText a b after
+pub text-broken : (a : Answer Verdict) (buffer : List ℕ) {b : Break} {after : List ℕ} → Ok (Broken b) ≡ searched_as a → after ≡ written buffer a → BreakText a b after
 unfolding verdict_text
 text-broken (refused r) buffer e w = let z : ◌≡◌ {A = ℕ} 0 1 = cc in absurd (omega arith)
 text-broken (accepted (held n)) buffer e w = let z : ◌≡◌ {A = ℕ} 0 1 = cc in absurd (omega arith)
 text-broken (accepted (stopped n)) buffer e w = let z : ◌≡◌ {A = ℕ} 0 1 = cc in absurd (omega arith)
 text-broken (accepted (broken_at p ms c)) buffer {b} {after} e w =
+    let whole : b ≡ break_as p ms c = cc in
     let place : b.place ≡ p = cc in
-    let run : b.run ≡ c.run = cc in
-    let event : b.event ≡ c.event = cc in
+    let run : b.claim.run ≡ c.run = ap (λ (x : Break). x.claim.run) whole in
+    let event : b.claim.event ≡ c.event = ap (λ (x : Break). x.claim.event) whole in
     let size : b.length ≡ length (trace_bytes ms) = cc in
     record {
       moves = ms;
