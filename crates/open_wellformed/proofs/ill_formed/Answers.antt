@@ -7,6 +7,7 @@ use lib.ListN.{length, take, drop}
 use Rattle.semantics.specs.Table.{Row}
 use Rattle.rows.specs.Rows.{rows_of}
 use Rattle.rows.specs.Rows.{Place}
+use Rattle.rows.specs.laws.Places.{none_left}
 use Rattle.records.specs.laws.Records.{rest-whole}
 use Rattle.open_wellformed.specs.WellFormed.{IllRole}
 use Rattle.open_wellformed.specs.laws.IllFormed.{block_start, block_none, block-good, event-near, block-ill, block_more}
@@ -19,24 +20,24 @@ found b at h = rw rest-whole at h
 pub loop-at-init : goal.loop-at-init
 loop-at-init c = (omega arith, (omega arith, block_start (rows_of c.args.t.now) c.args.base c.args.b.now c.requires.1.1))
 
-pub ill_formed_role-place-requires : goal.ill_formed_role-place-requires
-ill_formed_role-place-requires c =
+pub ill_formed_role-requires : goal.ill_formed_role-requires
+ill_formed_role-requires c =
     (c.requires.0, (c.classes_of-classes.ensures, rw rest-whole (block-good (rows_of c.args.t.now) c.args.base c.args.b.now c.loop-at.i c.loop-at.at c.loop-at.invariant.1.1 c.loop-at-test.true)))
 
 pub overflow_add-result-in-Some : goal.overflow_add-result-in-Some
 overflow_add-result-in-Some c =
-    omega (arith, event-near (found c.args.b.now c.loop-at.at c.ill_formed_role-place.ensures) c.in-Some.is)
+    omega (arith, event-near (found c.args.b.now c.loop-at.at c.ill_formed_role.ensures) c.in-Some.is)
 
 pub returns-in-Some : goal.returns-in-Some
 returns-in-Some c =
-    block-ill (rows_of c.args.t.now) c.args.base c.args.b.now c.loop-at.i c.loop-at.at c.loop-at.invariant.1.1 c.loop-at-test.true (found c.args.b.now c.loop-at.at c.ill_formed_role-place.ensures) c.in-Some.is
+    block-ill (rows_of c.args.t.now) c.args.base c.args.b.now c.loop-at.i c.loop-at.at c.loop-at.invariant.1.1 c.loop-at-test.true (found c.args.b.now c.loop-at.at c.ill_formed_role.ensures) c.in-Some.is
 
 pub loop-at-preserved : goal.loop-at-preserved
 loop-at-preserved c = (
   omega arith,
   (
     omega arith,
-    block_more (rows_of c.args.t.now) c.args.base c.args.b.now c.loop-at.i c.loop-at.at c.loop-at.invariant.1.1 c.loop-at-test.true (found c.args.b.now c.loop-at.at c.ill_formed_role-place.ensures) c.in-None.is
+    block_more (rows_of c.args.t.now) c.args.base c.args.b.now c.loop-at.i c.loop-at.at c.loop-at.invariant.1.1 c.loop-at-test.true (found c.args.b.now c.loop-at.at c.ill_formed_role.ensures) (none_left c.ill_formed_role.result c.in_default.not-Some)
         (rw rest-whole at c.role_length-at.ensures.0),
   ),
 )

@@ -18,7 +18,7 @@ use Rattle.semantics.proofs.laws.Bytes.{set-few, trace-bytes}
 use Rattle.state.specs.State.{IsState}
 use Rattle.moves.specs.Moves.{AtEvent, TellsAllowed, MarksAfter}
 use Rattle.moves.specs.laws.Allowed.{told-some, told_none}
-use Rattle.answers.specs.Answers.{kind_as, break_as, walked_as}
+use Rattle.answers.specs.Answers.{claim_as, break_as, walked_as}
 use Rattle.answers.specs.declared.Break.{Break}
 use Rattle.answers.specs.declared.Walked.{Walked}
 use Rattle.answers.specs.declared.Walked.TheVariants.{Broken, Clean, Cut}
@@ -211,7 +211,7 @@ module _ {file t : List ℕ} {plan : Plan} {course : Course} {names classes : Li
         (λ i. over (y.written i) reach.at (step-bytes m.of i)) ∙ over-over b reach.at (move_bytes its) (trace_bytes y.entry.0) start (omega (arith, y.fits)) ∙ ap (over b reach.at) (sym (trace-more its y.entry.0)) in
         finds-same sc reach.left all (record {
           answer = ap (λ (z : Break). Broken (made_longer z (step_size turn))) y.is_break
-              ∙ ap (λ (l : ℕ). Broken (record { place = y.place; length = l; run = y.claim.run; event = y.claim.event; kind = kind_as y.claim.kind })) (sym long)
+              ∙ ap (λ (l : ℕ). Broken (record { place = y.place; length = l; claim = claim_as y.claim })) (sym long)
               ∙ sym (ap (walked_as (map (after_move its) after)) is-found);
           buffer = whole ∙ sym (ap (buffer_as b reach.at) is-found);
         })
