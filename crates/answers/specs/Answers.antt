@@ -1,5 +1,5 @@
 -- For each answer of the definitions its case of the code's enum. Assumes nothing.
-use Rattle.std.specs.Prelude.{Option as CodeOption, Result, ℕ, ◌≡◌, Bool, true, false, List, [], length, Err, None, Ok, Some}
+use Rattle.std.specs.Prelude.{Option as CodeOption, Result, ℕ, ◌-◌, get_or, ◌∷◌, ◌≡◌, Bool, true, false, List, [], length, Err, None, Ok, Some}
 use Rattle.std.proofs.Math.Option.{Option, none, some}
 use Rattle.semantics.specs.Answer as definitions
 use Rattle.semantics.specs.Answer.{Answer, refused, accepted}
@@ -11,6 +11,8 @@ use Rattle.semantics.specs.Roles.{secrecy}
 use Rattle.semantics.specs.State as states
 use Rattle.semantics.specs.Verdict as verdicts
 use Rattle.semantics.specs.Verdict.{broken_at, held, stopped, trace_bytes, Entry, Finding, found, nothing, cut}
+use Rattle.answers.specs.declared.Reason.{Reason}
+use Rattle.answers.specs.declared.Reason.TheVariants.{Version, Size, Framing, Row, RepeatedRow, Role, Event, Run, Knowledge, Buffer, AbsentRow, Step}
 use Rattle.answers.specs.declared.Refusal.{Refusal}
 use Rattle.answers.specs.declared.Layout.{Layout}
 use Rattle.answers.specs.declared.Claim.{Claim}
@@ -22,9 +24,31 @@ use Rattle.answers.specs.declared.Verdict.TheVariants as searching
 use Rattle.answers.specs.declared.Walked.{Walked}
 use Rattle.answers.specs.declared.Walked.TheVariants as walking
 
--- a refusal: its number and its place
+-- the number of a reason
+abbrev pub number_of : Reason → ℕ
+number_of Version = 1
+number_of Size = 2
+number_of Framing = 3
+number_of Row = 4
+number_of RepeatedRow = 5
+number_of Role = 6
+number_of Event = 7
+number_of Run = 8
+number_of Knowledge = 9
+number_of Buffer = 10
+number_of AbsentRow = 11
+number_of Step = 12
+
+-- the reason with a number from 1 to 12; no refusal has another
+abbrev pub reasons : List Reason
+reasons = Version ∷ Size ∷ Framing ∷ Row ∷ RepeatedRow ∷ Role ∷ Event ∷ Run ∷ Knowledge ∷ Buffer ∷ AbsentRow ∷ Step ∷ []
+
+abbrev pub reason_of : ℕ → Reason
+reason_of n = get_or reasons (n - 1) Step
+
+-- a refusal: the reason with its number, and its place
 abbrev pub numbered : ℕ → ℕ → Refusal
-numbered n at = record { number = n; place = at }
+numbered n at = record { reason = reason_of n; place = at }
 
 abbrev pub refusal_as : definitions.Refusal → Refusal
 refusal_as r = numbered r.number r.place
@@ -38,9 +62,9 @@ checked_as (refused r) = Err (refusal_as r)
 checked_as (accepted u) = Ok tt
 
 -- a condition that holds at a place refuses
-abbrev pub refused_at : ℕ → CodeOption ℕ → Checked
-refused_at n (Some at) = Err (numbered n at)
-refused_at n None = Ok tt
+abbrev pub refused_at : Reason → CodeOption ℕ → Checked
+refused_at r (Some at) = Err (record { reason = r; place = at })
+refused_at r None = Ok tt
 
 -- Derive: derivable or not, or refused
 abbrev pub Derived : Type 0

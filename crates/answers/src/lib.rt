@@ -4,12 +4,38 @@
 ghost use Rattle.std.specs.Prelude.{◌≡◌};
 ghost use Rattle.semantics.specs.Answer.{checked};
 ghost use Rattle.semantics.specs.Verdict.{short_buffer};
-ghost use Rattle.answers.specs.Answers.{checked_as, refused_at, answered};
+ghost use Rattle.answers.specs.Answers.{number_of, checked_as, refused_at, answered};
+
+// Why a call is refused, in the order of the refusals' numbers, which begin with 1.
+#[derive(Clone, Copy, PartialEq, Eq)]
+pub enum Reason {
+    Version = 1,
+    Size,
+    Framing,
+    Row,
+    RepeatedRow,
+    Role,
+    Event,
+    Run,
+    Knowledge,
+    Buffer,
+    AbsentRow,
+    Step,
+}
+
+impl Reason {
+    // The number that C gets and that is printed.
+    pub fn number(self) -> usize
+        ensures { result ≡ number_of self }
+    {
+        self as usize
+    }
+}
 
 // "A refusal is a number and a place, the offset of the item's first byte"
 #[derive(Clone, Copy)]
 pub struct Refusal {
-    pub number: usize,
+    pub reason: Reason,
     pub place: usize,
 }
 
@@ -77,11 +103,11 @@ impl Trace {
 }
 
 // The refusal of a condition that holds at a place, if there is one.
-pub fn refused_at(number: usize, place: Option<usize>) -> Result<(), Refusal>
-    ensures { result ≡ refused_at number place }
+pub fn refused_at(reason: Reason, place: Option<usize>) -> Result<(), Refusal>
+    ensures { result ≡ refused_at reason place }
 {
     match place {
-        Some(place) => Err(Refusal { number, place }),
+        Some(place) => Err(Refusal { reason, place }),
         None => Ok(()),
     }
 }
@@ -92,7 +118,7 @@ pub fn check_buffer(trace: &[u8]) -> Result<(), Refusal>
 {
     if trace.len() < Trace::MOST_BYTES {
         return Err(Refusal {
-            number: 10,
+            reason: Reason::Buffer,
             place: trace.len(),
         });
     }

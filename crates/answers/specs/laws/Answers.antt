@@ -1,15 +1,17 @@
 -- What a refusal of the code says of the definitions' answer, and the verdict by what a walk found. Assumes nothing.
-use Rattle.std.specs.Prelude.{Option as CodeOption, ℕ, ◌<◌, ◌≤◌, ◌≡◌, refl, Bool, List, length, Err, None, Ok, Some}
+use Rattle.std.specs.Prelude.{Option as CodeOption, ℕ, zero, suc, ◌<◌, ◌≤◌, ◌≡◌, refl, Bool, List, length, Err, None, Ok, Some}
 use Rattle.std.proofs.Common.{arith, sym, ◌∙◌, lt-ltb, le-ltb}
 use Rattle.std.proofs.Math.Path.{ap}
 use Rattle.semantics.specs.Basic.{provided}
-use Rattle.semantics.specs.Answer.{Answer, refused, accepted, refuse, checked}
+use Rattle.semantics.specs.Answer as definitions
+use Rattle.semantics.specs.Answer.{Answer, refused, accepted, checked}
 use Rattle.semantics.specs.Scenario.{Scenario, opened}
 use Rattle.semantics.specs.Verdict.{Entry, Finding, found, nothing, cut, verdict_from, short_buffer}
+use Rattle.answers.specs.declared.Reason.{Reason}
 use Rattle.answers.specs.declared.Refusal.{Refusal}
 use Rattle.answers.specs.declared.Layout.{Layout}
 use Rattle.answers.specs.declared.Walked.{Walked}
-use Rattle.answers.specs.Answers.{numbered, refused_at, checked_as, layout_of, opened_as, scenario_or, scenario_in, Accepts, verdict_as, walked_as, answered}
+use Rattle.answers.specs.Answers.{number_of, reason_of, numbered, refusal_as, refused_at, checked_as, layout_of, opened_as, scenario_or, scenario_in, Accepts, verdict_as, walked_as, answered}
 
 -- what a walk through the whole list finds is answered with the verdict
 pub answer-found : (es : List Entry) (budget : ℕ) (f : Finding) {w : Walked} → w ≡ walked_as es f → answered budget w ≡ verdict_as (verdict_from (length es) budget f)
@@ -21,11 +23,8 @@ answer-found es budget f e = ap (answered budget) e ∙ go f
     go cut = refl
 
 -- a file that Open refuses: the definition's refusal is the code's
-pub opened-refused : (file : List ℕ) (a : Answer Scenario) {x : Refusal} → Err x ≡ opened_as file a → a ≡ refuse x.number x.place
-opened-refused file (refused r) {x} e =
-    let p : r.number ≡ x.number = cc in
-    let q : r.place ≡ x.place = cc in
-    λ i. refused (record { number = p i; place = q i })
+pub opened-refused : (file : List ℕ) (a : Answer Scenario) {x : Refusal} → Err x ≡ opened_as file a → (r : definitions.Refusal) × (a ≡ refused r) × (x ≡ refusal_as r)
+opened-refused file (refused r) {x} e = (r, refl, cc)
 opened-refused file (accepted sc) e = let z : ◌≡◌ {A = ℕ} 0 1 = cc in absurd (omega arith)
 
 -- a file that Open accepts
@@ -51,10 +50,27 @@ module _ (buffer : List ℕ) where
   buffer-long l = by_size _ (le-ltb (length buffer) 128 l)
 
 -- a condition that refuses holds at a place, and one that passes at none
-pub at_refused : (n : ℕ) (p : CodeOption ℕ) {x : Refusal} → refused_at n p ≡ Err x → (p ≡ Some x.place) × (numbered n x.place ≡ x)
+pub at_refused : (r : Reason) (p : CodeOption ℕ) {x : Refusal} → refused_at r p ≡ Err x → (p ≡ Some x.place) × (record { reason = r; place = x.place } ≡ x)
 at_refused n (Some at) e = (cc, cc)
 at_refused n None e = let z : ◌≡◌ {A = ℕ} 0 1 = cc in absurd (omega arith)
 
-pub at_passed : (n : ℕ) (p : CodeOption ℕ) {u : Unit {0}} → refused_at n p ≡ Ok u → p ≡ None
+pub at_passed : (r : Reason) (p : CodeOption ℕ) {u : Unit {0}} → refused_at r p ≡ Ok u → p ≡ None
 at_passed n (Some at) e = let z : ◌≡◌ {A = ℕ} 0 1 = cc in absurd (omega arith)
 at_passed n None e = refl
+
+-- a number from 1 to 12 is that of its reason
+pub number-back : (n : ℕ) → 1 ≤ n → n ≤ 12 → number_of (reason_of n) ≡ n
+number-back zero p q = absurd (omega arith)
+number-back (suc zero) p q = refl
+number-back (suc (suc zero)) p q = refl
+number-back (suc (suc (suc zero))) p q = refl
+number-back (suc (suc (suc (suc zero)))) p q = refl
+number-back (suc (suc (suc (suc (suc zero))))) p q = refl
+number-back (suc (suc (suc (suc (suc (suc zero)))))) p q = refl
+number-back (suc (suc (suc (suc (suc (suc (suc zero))))))) p q = refl
+number-back (suc (suc (suc (suc (suc (suc (suc (suc zero)))))))) p q = refl
+number-back (suc (suc (suc (suc (suc (suc (suc (suc (suc zero))))))))) p q = refl
+number-back (suc (suc (suc (suc (suc (suc (suc (suc (suc (suc zero)))))))))) p q = refl
+number-back (suc (suc (suc (suc (suc (suc (suc (suc (suc (suc (suc zero))))))))))) p q = refl
+number-back (suc (suc (suc (suc (suc (suc (suc (suc (suc (suc (suc (suc zero)))))))))))) p q = refl
+number-back (suc (suc (suc (suc (suc (suc (suc (suc (suc (suc (suc (suc (suc n))))))))))))) p q = absurd (omega arith)
