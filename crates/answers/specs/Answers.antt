@@ -53,6 +53,11 @@ numbered n at = record { reason = reason_of n; place = at }
 abbrev pub refusal_as : definitions.Refusal → Refusal
 refusal_as r = numbered r.number r.place
 
+-- the number of an answer's refusal is that of a reason, so that the code's answer says it
+abbrev pub Numbered : {A : Type 0} → Answer A → Type 0
+Numbered (refused r) = number_of (reason_of r.number) ≡ r.number
+Numbered (accepted a) = Unit {0}
+
 -- a check: refused or passed
 abbrev pub Checked : Type 0
 Checked = Result (Unit {0}) Refusal
@@ -60,11 +65,6 @@ Checked = Result (Unit {0}) Refusal
 abbrev pub checked_as : Answer (Unit {0}) → Checked
 checked_as (refused r) = Err (refusal_as r)
 checked_as (accepted u) = Ok tt
-
--- a condition that holds at a place refuses
-abbrev pub refused_at : Reason → CodeOption ℕ → Checked
-refused_at r (Some at) = Err (record { reason = r; place = at })
-refused_at r None = Ok tt
 
 -- Derive: derivable or not, or refused
 abbrev pub Derived : Type 0

@@ -1,2 +1,3 @@
 -- The laws of answers, with their proofs.
 pub mod Answers
+pub mod Numbers

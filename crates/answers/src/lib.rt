@@ -4,7 +4,7 @@
 ghost use Rattle.std.specs.Prelude.{◌≡◌};
 ghost use Rattle.semantics.specs.Answer.{checked};
 ghost use Rattle.semantics.specs.Verdict.{short_buffer};
-ghost use Rattle.answers.specs.Answers.{number_of, checked_as, refused_at, answered};
+ghost use Rattle.answers.specs.Answers.{number_of, checked_as, answered};
 
 // Why a call is refused, in the order of the refusals' numbers, which begin with 1.
 #[derive(Clone, Copy, PartialEq, Eq)]
@@ -102,17 +102,8 @@ impl Trace {
     pub const MOST_BYTES: usize = 128;
 }
 
-// The refusal of a condition that holds at a place, if there is one.
-pub fn refused_at(reason: Reason, place: Option<usize>) -> Result<(), Refusal>
-    ensures { result ≡ refused_at reason place }
-{
-    match place {
-        Some(place) => Err(Refusal { reason, place }),
-        None => Ok(()),
-    }
-}
-
 // "10 if the trace buffer is shorter than 128 bytes, place its length"
+#[tactic(auto, unfolding(semantics::specs::Verdict::short_buffer))]
 pub fn check_buffer(trace: &[u8]) -> Result<(), Refusal>
     ensures { result ≡ checked_as (checked 10 (short_buffer trace.now)) }
 {

@@ -9,23 +9,17 @@ ghost use Rattle.role_level.specs.RoleLevel.{ListedBelow};
 ghost use Rattle.answers.specs.Answers.{derived_as};
 ghost use Rattle.derive.specs.Absent.{AbsentAt};
 
-use answers::Refusal;
+use answers::{Reason, Refusal};
 
 // Refusal 11: the place of the first listed row that is absent, or the list's length if the target is.
 fn absent_at(list: &[u8], n: usize, target: u64) -> Option<usize>
     ensures { AbsentAt n list.now target result }
 {
-    let mut i = 0;
-    while i < list.len() {
-        if n <= rows::wide(list[i]) {
-            return Some(i);
-        }
-        i += 1;
+    match list.iter().position(|&row| n <= usize::from(row)) {
+        Some(i) => Some(i),
+        None if n as u64 <= target => Some(list.len()),
+        None => None,
     }
-    if n as u64 <= target {
-        return Some(i);
-    }
-    None
 }
 
 // Whether a row of a table is derivable from listed rows.
@@ -43,7 +37,11 @@ pub fn derive(t: &[u8], list: &[u8], target: u64) -> Result<bool, Refusal>
     ensures { result ≡ derived_as (derived t.now list.now target) }
 {
     let n = table::check(t, 0)?;
-    let absent = absent_at(list, n, target);
-    answers::refused_at(11, absent)?;
+    if let Some(place) = absent_at(list, n, target) {
+        return Err(Refusal {
+            reason: Reason::AbsentRow,
+            place,
+        });
+    }
     Ok(is_known(t, n, list, target as usize))
 }

@@ -7,7 +7,7 @@ ghost use Rattle.rows.specs.Rows.{place_as};
 ghost use Rattle.answers.specs.Answers.{checked_as};
 ghost use Rattle.frame.specs.Framing.{framing_of, IsFramed};
 
-use answers::Refusal;
+use answers::{Reason, Refusal};
 
 // The limit of a file.
 #[derive(Drop)]
@@ -20,29 +20,19 @@ impl File {
 }
 
 // The length of the block at the front, from its first two bytes.
-pub fn length_of(s: &[u8]) -> usize
+fn length_of(s: &[u8]) -> usize
     requires { 2 ≤ length s.now }
     ensures { (result ≡ block_length s.now) × (result < 65536) }
 {
-    rows::wide(s[0]) * 256 + rows::wide(s[1])
+    usize::from(u16::from_be_bytes([s[0], s[1]]))
 }
 
-// The bytes of the block at the front.
-pub fn front(s: &[u8]) -> &[u8]
+// The bytes of the block at the front, and those after it.
+fn split(s: &[u8]) -> (&[u8], &[u8])
     requires { 2 + block_length s.now ≤ length s.now }
-    ensures { result.now ≡ take (block_length s.now) (drop 2 s.now) }
+    ensures { (result.0.now ≡ take (block_length s.now) (drop 2 s.now)) × (result.1.now ≡ drop (2 + block_length s.now) s.now) }
 {
-    let end = 2 + length_of(s);
-    &s[2..end]
-}
-
-// The bytes after the block at the front.
-pub fn rest(s: &[u8]) -> &[u8]
-    requires { 2 + block_length s.now ≤ length s.now }
-    ensures { result.now ≡ drop (2 + block_length s.now) s.now }
-{
-    let end = 2 + length_of(s);
-    &s[end..]
+    s[2..].split_at(length_of(s))
 }
 
 // Whether so many whole blocks stand one after the other, and nothing remains.
@@ -50,25 +40,19 @@ fn is_framed(s: &[u8], n: usize) -> bool
     ensures { result ≡ framed n s.now }
 {
     if n == 0 {
-        return s.len() == 0;
+        return s.is_empty();
     }
-    if s.len() < 2 {
+    if s.len() < 2 || s.len() < 2 + length_of(s) {
         return false;
     }
-    if s.len() < 2 + length_of(s) {
-        return false;
-    }
-    is_framed(rest(s), n - 1)
+    is_framed(split(s).1, n - 1)
 }
 
 // Refusal 1: the file is empty, or its version is not 1.
 fn unversioned(file: &[u8]) -> Option<usize>
     ensures { result ≡ place_as (unversioned file.now) }
 {
-    if file.len() == 0 {
-        return Some(0);
-    }
-    if file[0] != 1 {
+    if file.is_empty() || file[0] != 1 {
         return Some(0);
     }
     None
@@ -88,22 +72,26 @@ fn too_long(file: &[u8]) -> Option<usize>
 fn misframed(file: &[u8]) -> Option<usize>
     ensures { result ≡ place_as (misframed file.now) }
 {
-    if file.len() < 5 {
+    if file.len() < 5 || !is_framed(&file[5..], File::BLOCKS) {
         return Some(file.len());
     }
-    if is_framed(&file[5..], File::BLOCKS) {
-        return None;
-    }
-    Some(file.len())
+    None
 }
 
 // Refusals 1 to 3, in this order.
 pub fn check(file: &[u8]) -> Result<(), Refusal>
     ensures { result ≡ checked_as (framing_of file.now) }
 {
-    answers::refused_at(1, unversioned(file))?;
-    answers::refused_at(2, too_long(file))?;
-    answers::refused_at(3, misframed(file))
+    if let Some(place) = unversioned(file) {
+        return Err(Refusal { reason: Reason::Version, place });
+    }
+    if let Some(place) = too_long(file) {
+        return Err(Refusal { reason: Reason::Size, place });
+    }
+    if let Some(place) = misframed(file) {
+        return Err(Refusal { reason: Reason::Framing, place });
+    }
+    Ok(())
 }
 
 // The budget: how many traces of the list may be judged.
@@ -111,20 +99,20 @@ pub fn budget(file: &[u8]) -> usize
     requires { 5 ≤ length file.now }
     ensures { (result ≡ budget_of file.now) × (result < 4294967296) }
 {
-    let high = rows::wide(file[1]) * 256 + rows::wide(file[2]);
-    let low = rows::wide(file[3]) * 256 + rows::wide(file[4]);
-    high * 65536 + low
+    u32::from_be_bytes([file[1], file[2], file[3], file[4]]) as usize
 }
 
-// The bytes of block k, counted from 0, in bytes that are framed as n blocks.
-fn block_from(s: &[u8], n: usize, k: usize) -> &[u8]
-    requires { (framed n s.now ≡ true) × (k < n) }
-    ensures { result.now ≡ (block_from k 0 s.now).bytes }
+// Where block k begins, counted from the length of the first, and its bytes, in bytes that are framed as n blocks.
+fn block_from(s: &[u8], n: usize, k: usize) -> (usize, &[u8])
+    requires { (framed n s.now ≡ true) × ((k < n) × (length s.now ≤ 4096)) }
+    ensures { ((result.0 ≡ (block_from k 0 s.now).start) × (result.0 ≤ length s.now)) × (result.1.now ≡ (block_from k 0 s.now).bytes) }
 {
+    let (block, rest) = split(s);
     if k == 0 {
-        return front(s);
+        return (2, block);
     }
-    block_from(rest(s), n - 1, k - 1)
+    let (start, bytes) = block_from(rest, n - 1, k - 1);
+    (2 + block.len() + start, bytes)
 }
 
 // The bytes of block k of a framed file: terms, roles, runs, knowledge.
@@ -132,18 +120,7 @@ pub fn block_of(file: &[u8], k: usize) -> &[u8]
     requires { IsFramed file.now × (k < 4) }
     ensures { result.now ≡ (block k file.now).bytes }
 {
-    block_from(&file[5..], File::BLOCKS, k)
-}
-
-// Where block k begins, counted from the length of the first, in bytes that are framed as n blocks.
-fn start_from(s: &[u8], n: usize, k: usize) -> usize
-    requires { (framed n s.now ≡ true) × ((k < n) × (length s.now ≤ 4096)) }
-    ensures { (result ≡ (block_from k 0 s.now).start) × (result ≤ length s.now) }
-{
-    if k == 0 {
-        return 2;
-    }
-    2 + length_of(s) + start_from(rest(s), n - 1, k - 1)
+    block_from(&file[5..], File::BLOCKS, k).1
 }
 
 // Where the bytes of block k begin in a framed file.
@@ -151,5 +128,5 @@ pub fn start_of(file: &[u8], k: usize) -> usize
     requires { IsFramed file.now × (k < 4) }
     ensures { (result ≡ (block k file.now).start) × (result ≤ 4096) }
 {
-    5 + start_from(&file[5..], File::BLOCKS, k)
+    5 + block_from(&file[5..], File::BLOCKS, k).0
 }

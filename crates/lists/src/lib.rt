@@ -17,18 +17,9 @@ fn clear_row(t: &[u8], n: usize, clear: &[bool], r: usize, low: usize, high: usi
 {
     let kind = rows::kind_of(t, r);
     if kind < Kind::FIRST_MADE {
-        if kind < low {
-            return true;
-        }
-        return high < kind;
+        return kind < low || high < kind;
     }
-    if clear[rows::left_of(t, r)] {
-        if kind < Kind::SHARED_KEY {
-            return true;
-        }
-        return clear[rows::right_of(t, r)];
-    }
-    false
+    clear[rows::left_of(t, r)] && (kind < Kind::SHARED_KEY || clear[rows::right_of(t, r)])
 }
 
 // Which rows have a value if atoms of the kinds from low to high have none.
@@ -37,11 +28,8 @@ pub fn clear_rows(t: &[u8], n: usize, low: usize, high: usize) -> [bool; 96]
     ensures { (reading : Reading) → Bars low high reading → Valued (rows_of t.now) reading result }
 {
     let mut clear = [false; 96];
-    let mut r = 0;
-    while r < n {
-        let b = clear_row(t, n, &clear, r, low, high);
-        clear[r] = b;
-        r += 1;
+    for r in 0..n {
+        clear[r] = clear_row(t, n, &clear, r, low, high);
     }
     clear
 }
@@ -51,21 +39,13 @@ pub fn unfit_row(b: &[u8], base: usize, n: usize, clear: &[bool]) -> Option<usiz
     requires { (n ≤ 96) × ((length clear.now ≡ 96) × (base ≤ 65536)) }
     ensures { result ≡ place_as (unfit_from (has_value n clear.now) base 0 b.now) }
 {
-    let mut i = 0;
     let mut least = 0;
-    while i < b.len() {
-        let r = rows::wide(b[i]);
-        if r < least {
-            return Some(base + i);
-        }
-        if n <= r {
-            return Some(base + i);
-        }
-        if !clear[r] {
+    for (i, x) in b.iter().enumerate() {
+        let r = usize::from(*x);
+        if r < least || n <= r || !clear[r] {
             return Some(base + i);
         }
         least = r + 1;
-        i += 1;
     }
     None
 }

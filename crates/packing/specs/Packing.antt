@@ -3,6 +3,7 @@ use Rattle.std.specs.Prelude.{ℕ, ◌≡◌, refl, Bool, true, false, List, len
 use Rattle.std.proofs.Common.{ap}
 use Rattle.std.proofs.Math.Option.{Option, none, some}
 use Rattle.semantics.specs.Roles.{secrecy}
+use Rattle.semantics.specs.Answer as definitions
 use Rattle.semantics.specs.Answer.{Answer, refused, accepted}
 use Rattle.semantics.specs.Scenario.{Scenario}
 use Rattle.semantics.specs.Roles as roles
@@ -10,7 +11,7 @@ use Rattle.semantics.specs.State as states
 use Rattle.semantics.specs.Verdict as verdicts
 use Rattle.semantics.specs.Verdict.{broken_at, held, stopped, trace_bytes}
 use Rattle.semantics.specs.Packing.{held_word, stopped_word, accepted_word, derivable_word, not_derivable_word, no_claim_word, word_alone, packed_refusal, packed_number, packed_claim, packed_break, packed_kind, packed_derived, packed_opened, packed_replayed, packed_searched}
-use Rattle.answers.specs.Answers.{Derived, Opened, Replayed, Searched, kind_as, derived_as, opened_as, replayed_as, searched_as}
+use Rattle.answers.specs.Answers.{Numbered, number_of, reason_of, refusal_as, Derived, Opened, Replayed, Searched, kind_as, derived_as, opened_as, replayed_as, searched_as}
 use Rattle.answers.specs.declared.Refusal.{Refusal}
 use Rattle.answers.specs.declared.Claim.{Claim}
 use Rattle.answers.specs.declared.ClaimKind.{ClaimKind}
@@ -21,7 +22,11 @@ use Rattle.answers.specs.declared.Verdict.TheVariants as searching
 
 -- a refusal
 abbrev pub packed_refused : Refusal → ℕ
-packed_refused r = packed_refusal r.number r.place
+packed_refused r = packed_refusal (number_of r.reason) r.place
+
+-- the two agree, for a number that is a reason's
+packed-back : (r : definitions.Refusal) → number_of (reason_of r.number) ≡ r.number → packed_refused (refusal_as r) ≡ packed_refusal r.number r.place
+packed-back r known = ap (λ (n : ℕ). packed_refusal n r.place) known
 
 -- Derive's answer
 abbrev pub packed_deriving : Derived → ℕ
@@ -30,10 +35,10 @@ packed_deriving (Ok true) = word_alone derivable_word
 packed_deriving (Ok false) = word_alone not_derivable_word
 
 -- the two agree
-pub packed-derived : (a : Answer Bool) → packed_deriving (derived_as a) ≡ packed_derived a
-packed-derived (refused r) = refl
-packed-derived (accepted true) = refl
-packed-derived (accepted false) = refl
+pub packed-derived : (a : Answer Bool) → Numbered a → packed_deriving (derived_as a) ≡ packed_derived a
+packed-derived (refused r) known = packed-back r known
+packed-derived (accepted true) known = refl
+packed-derived (accepted false) known = refl
 
 -- Open's answer
 abbrev pub packed_opening : Opened → ℕ
@@ -41,9 +46,9 @@ packed_opening (Err r) = packed_refused r
 packed_opening (Ok layout) = word_alone accepted_word
 
 -- the two agree
-pub packed-opened : (file : List ℕ) (a : Answer Scenario) → packed_opening (opened_as file a) ≡ packed_opened a
-packed-opened file (refused r) = refl
-packed-opened file (accepted sc) = refl
+pub packed-opened : (file : List ℕ) (a : Answer Scenario) → Numbered a → packed_opening (opened_as file a) ≡ packed_opened a
+packed-opened file (refused r) known = packed-back r known
+packed-opened file (accepted sc) known = refl
 
 -- Replay's answer
 abbrev pub packed_code_kind : ClaimKind → ℕ
@@ -57,18 +62,14 @@ packed_replaying (Err r) = packed_refused r
 packed_replaying (Ok None) = word_alone no_claim_word
 packed_replaying (Ok (Some c)) = packed_code_claim c
 
--- there is one kind
-pub kind-two : (k : ClaimKind) → packed_code_kind k ≡ 2
-kind-two Secrecy = refl
-
 -- the two agree
 packed-kind : (k : roles.ClaimKind) → packed_code_kind (kind_as k) ≡ packed_kind k
 packed-kind secrecy = refl
 
-pub packed-replayed : (a : Answer (Option states.Claim)) → packed_replaying (replayed_as a) ≡ packed_replayed a
-packed-replayed (refused r) = refl
-packed-replayed (accepted none) = refl
-packed-replayed (accepted (some c)) = ap (packed_claim c.run c.event) (packed-kind c.kind)
+pub packed-replayed : (a : Answer (Option states.Claim)) → Numbered a → packed_replaying (replayed_as a) ≡ packed_replayed a
+packed-replayed (refused r) known = packed-back r known
+packed-replayed (accepted none) known = refl
+packed-replayed (accepted (some c)) known = ap (packed_claim c.run c.event) (packed-kind c.kind)
 
 -- Search's answer
 abbrev pub packed_code_break : Break → ℕ
@@ -84,8 +85,8 @@ packed_searching (Err r) = packed_refused r
 packed_searching (Ok v) = packed_verdict v
 
 -- the two agree
-pub packed-searched : (a : Answer verdicts.Verdict) → packed_searching (searched_as a) ≡ packed_searched a
-packed-searched (refused r) = refl
-packed-searched (accepted (broken_at p ms c)) = ap (packed_break p (length (trace_bytes ms)) c.run c.event) (packed-kind c.kind)
-packed-searched (accepted (held n)) = refl
-packed-searched (accepted (stopped n)) = refl
+pub packed-searched : (a : Answer verdicts.Verdict) → Numbered a → packed_searching (searched_as a) ≡ packed_searched a
+packed-searched (refused r) known = packed-back r known
+packed-searched (accepted (broken_at p ms c)) known = ap (packed_break p (length (trace_bytes ms)) c.run c.event) (packed-kind c.kind)
+packed-searched (accepted (held n)) known = refl
+packed-searched (accepted (stopped n)) known = refl

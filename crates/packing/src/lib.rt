@@ -1,7 +1,7 @@
 // The packing of each operation's answer into 64 bits, as C gets it.
 #![tactic(auto)]
 
-ghost use Rattle.std.specs.Prelude.{◌≡◌, ◌<◌, ◌≤◌, min};
+ghost use Rattle.std.specs.Prelude.{◌≡◌, ◌<◌, ◌≤◌};
 ghost use Rattle.semantics.specs.Packing.{word_alone, packed_number, claim_bits};
 ghost use Rattle.packing.specs.Packing.{packed_refused, packed_deriving, packed_opening, packed_code_kind, packed_code_claim, packed_replaying, packed_code_break, packed_searching};
 
@@ -27,39 +27,32 @@ const CLAIM: u64 = 7;
 
 const NO_CLAIM: u64 = 8;
 
-// Where each part of the number begins, as what a 1 there is worth: bits 60, 52, 44, 40, 36 and 32. Places and counts begin at bit 0.
-const WORD_BIT: u64 = 1152921504606846976;
+// Where each part of the number begins, as what a 1 there is worth. Places and counts begin at bit 0.
+const WORD_BIT: u64 = 1 << 60;
 
-const NUMBER_BIT: u64 = 4503599627370496;
+const NUMBER_BIT: u64 = 1 << 52;
 
-const LENGTH_BIT: u64 = 17592186044416;
+const LENGTH_BIT: u64 = 1 << 44;
 
-const KIND_BIT: u64 = 1099511627776;
+const KIND_BIT: u64 = 1 << 40;
 
-const EVENT_BIT: u64 = 68719476736;
+const EVENT_BIT: u64 = 1 << 36;
 
-const RUN_BIT: u64 = 4294967296;
+const RUN_BIT: u64 = 1 << 32;
 
 // The largest value of each part; of run and event alike.
 const MOST_NUMBER: u64 = 255;
 
-const MOST_PLACE: u64 = 4503599627370495;
+const MOST_PLACE: u64 = NUMBER_BIT - 1;
 
 const MOST_LENGTH: u64 = 511;
 
 const MOST_INDEX: u64 = 15;
 
-const MOST_COUNT: u64 = 4294967295;
+const MOST_COUNT: u64 = RUN_BIT - 1;
 
 // The number of a secrecy claim's event, which its kind has too.
 const SECRECY: u64 = 2;
-
-// The smaller of two numbers.
-fn least(a: u64, b: u64) -> u64
-    ensures { result ≡ min a b }
-{
-    if a <= b { a } else { b }
-}
 
 // A word and nothing with it.
 fn word_alone(word: u64) -> u64
@@ -74,14 +67,14 @@ fn with_count(word: u64, n: usize) -> u64
     requires { word ≤ 15 }
     ensures { result ≡ packed_number word n }
 {
-    word * WORD_BIT + least(n as u64, MOST_COUNT)
+    word * WORD_BIT + (n as u64).min(MOST_COUNT)
 }
 
 // A refusal: number and place.
 fn refusal(r: Refusal) -> u64
     ensures { result ≡ packed_refused r }
 {
-    least(r.number as u64, MOST_NUMBER) * NUMBER_BIT + least(r.place as u64, MOST_PLACE)
+    (r.reason.number() as u64).min(MOST_NUMBER) * NUMBER_BIT + (r.place as u64).min(MOST_PLACE)
 }
 
 // The number of a claim's kind.
@@ -99,8 +92,8 @@ fn claim_bits(c: Claim) -> u64
 {
     let kind = c.kind;
     kind_number(kind) * KIND_BIT
-        + least(c.event as u64, MOST_INDEX) * EVENT_BIT
-        + least(c.run as u64, MOST_INDEX) * RUN_BIT
+        + (c.event as u64).min(MOST_INDEX) * EVENT_BIT
+        + (c.run as u64).min(MOST_INDEX) * RUN_BIT
 }
 
 // A claim: run, event and kind.
@@ -114,10 +107,9 @@ fn claim(c: Claim) -> u64
 fn broken(b: Break) -> u64
     ensures { result ≡ packed_code_break b }
 {
-    let claim = b.claim;
     with_count(BROKEN, b.place)
-        + least(b.length as u64, MOST_LENGTH) * LENGTH_BIT
-        + claim_bits(claim)
+        + (b.length as u64).min(MOST_LENGTH) * LENGTH_BIT
+        + claim_bits(b.claim)
 }
 
 // Derive's answer as one number.

@@ -41,10 +41,10 @@ pub fn role_length(s: &[u8]) -> usize
     requires { 1 ≤ length s.now }
     ensures { (result ≡ role_length s.now) × ((2 ≤ result) × (result ≤ 1277)) }
 {
-    let knowledge = rows::wide(s[0]);
+    let knowledge = usize::from(s[0]);
     let at = 1 + knowledge;
     if at < s.len() {
-        return 2 + knowledge + 4 * rows::wide(s[at]);
+        return 2 + knowledge + 4 * usize::from(s[at]);
     }
     2 + knowledge
 }
@@ -53,16 +53,14 @@ pub fn role_length(s: &[u8]) -> usize
 pub fn roles_present(b: &[u8]) -> usize
     ensures { (at : ℕ) → result ≡ roles_present (role_records (part_at at b.now)) }
 {
-    let mut i = 0;
     let mut at = 0;
-    while i < Table::MOST_ROLES {
+    for i in 0..Table::MOST_ROLES {
         if b.len() <= at {
             return i;
         }
         at += role_length(&b[at..]);
-        i += 1;
     }
-    i
+    Table::MOST_ROLES
 }
 
 // Where role record i begins in a block.
@@ -71,11 +69,9 @@ pub fn role_at(b: &[u8], i: usize) -> usize
     ensures upper_bound { result < length b.now }
     ensures role_at { RoleAt b.now i result }
 {
-    let mut j = 0;
     let mut at = 0;
-    while j < i {
+    for _j in 0..i {
         at += role_length(&b[at..]);
-        j += 1;
     }
     at
 }
@@ -85,7 +81,7 @@ fn knowledge_fits(s: &[u8], n: usize, clear: &[bool]) -> bool
     requires { (role_length s.now ≤ length s.now) × ((n ≤ 96) × (length clear.now ≡ 96)) }
     ensures { (rows : List Row) → n ≡ length rows → Valued rows without_variables clear.now → result ≡ knowledge_fits rows (knowledge_in s.now) }
 {
-    let end = 1 + rows::wide(s[0]);
+    let end = 1 + usize::from(s[0]);
     lists::unfit_row(&s[1..end], 0, n, clear).is_none()
 }
 
@@ -94,16 +90,14 @@ fn event_fits(s: &[u8], at: usize, n: usize, roles: usize) -> bool
     requires { at + 3 < length s.now }
     ensures { (rows : List Row) (place : ℕ) → n ≡ length rows → result ≡ event_fits rows roles (event_at s.now at place) }
 {
-    if n <= rows::wide(s[at + 3]) {
-        return false;
-    }
-    let kind = s[at];
-    let peer = rows::wide(s[at + 2]);
-    match kind {
-        0 | 1 => peer < roles,
-        2 => peer == 0,
-        _ => false,
-    }
+    let peer = usize::from(s[at + 2]);
+    let row = usize::from(s[at + 3]);
+    row < n
+        && match s[at] {
+            0 | 1 => peer < roles,
+            2 => peer == 0,
+            _ => false,
+        }
 }
 
 // Whether all events of a role record fit.
@@ -111,16 +105,9 @@ fn events_fit(s: &[u8], n: usize, roles: usize) -> bool
     requires { role_length s.now ≤ length s.now }
     ensures { (rows : List Row) (start : ℕ) → n ≡ length rows → result ≡ every (event_fits rows roles) (events_in (part_at start s.now)) }
 {
-    let first = 2 + rows::wide(s[0]);
-    let count = rows::wide(s[first - 1]);
-    let mut j = 0;
-    while j < count {
-        if !event_fits(s, first + 4 * j, n, roles) {
-            return false;
-        }
-        j += 1;
-    }
-    true
+    let first = 2 + usize::from(s[0]);
+    let count = usize::from(s[first - 1]);
+    (0..count).all(|j| event_fits(s, first + 4 * j, n, roles))
 }
 
 // Whether role record i, which begins at the front, is within the rules.
@@ -134,7 +121,7 @@ fn good_role(s: &[u8], n: usize, clear: &[bool], roles: usize, i: usize) -> bool
     if Table::MOST_ROLES <= i {
         return false;
     }
-    if Limits::MOST_EVENTS < rows::wide(s[1 + rows::wide(s[0])]) {
+    if Limits::MOST_EVENTS < usize::from(s[1 + usize::from(s[0])]) {
         return false;
     }
     if !knowledge_fits(s, n, clear) {
@@ -152,6 +139,7 @@ pub fn bad_role(b: &[u8], base: usize, t: &[u8], n: usize) -> Option<usize>
     let roles = roles_present(b);
     let mut i = 0;
     let mut at = 0;
+    // stays: records differ in length, so there is no range to go over
     while at < b.len() {
         let s = &b[at..];
         if !good_role(s, n, &clear, roles, i) {
@@ -168,14 +156,10 @@ pub fn absent_role(t: &[u8], n: usize, roles: usize, base: usize) -> Option<usiz
     requires { Sized t.now n × (base ≤ 65536) }
     ensures { result ≡ place_as (absent_role_from roles base (rows_of t.now)) }
 {
-    let mut r = 0;
-    while r < n {
-        if rows::kind_of(t, r) == Kind::ROLE {
-            if roles <= rows::left_of(t, r) {
-                return Some(base + 3 * r);
-            }
+    for r in 0..n {
+        if rows::kind_of(t, r) == Kind::ROLE && roles <= rows::left_of(t, r) {
+            return Some(base + 3 * r);
         }
-        r += 1;
     }
     None
 }
@@ -185,14 +169,9 @@ fn agents_fit(s: &[u8], t: &[u8], n: usize, roles: usize) -> bool
     requires { Sized t.now n × ((1 + roles ≤ length s.now) × (roles ≤ 4)) }
     ensures { result ≡ every (λ r. is_agent (atom_at (rows_of t.now) r)) (agents_in roles s.now) }
 {
-    let mut i = 0;
-    while i < roles {
-        if !rows::is_agent(t, n, rows::wide(s[1 + i])) {
-            return false;
-        }
-        i += 1;
-    }
-    true
+    s[1..1 + roles]
+        .iter()
+        .all(|&agent| rows::is_agent(t, n, usize::from(agent)))
 }
 
 // Whether run record i, which begins at the front, is within the rules.
@@ -206,7 +185,7 @@ fn good_run(s: &[u8], t: &[u8], n: usize, roles: usize, i: usize) -> bool
     if Limits::MOST_RUNS <= i {
         return false;
     }
-    if roles <= rows::wide(s[0]) {
+    if roles <= usize::from(s[0]) {
         return false;
     }
     agents_fit(s, t, n, roles)

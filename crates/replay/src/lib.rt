@@ -6,7 +6,7 @@ ghost use Rattle.semantics.specs.Replay.{replayed};
 ghost use Rattle.answers.specs.Answers.{scenario_in, Accepts, replayed_as};
 ghost use Rattle.replay.specs.Replay.{followed_of};
 
-use answers::{Layout, Refusal};
+use answers::{Layout, Reason, Refusal};
 use state::State;
 
 // A trace followed through an accepted file: refused with 12 at a step, the claim broken, or none.
@@ -23,7 +23,7 @@ fn followed(file: &[u8], l: Layout, trace: &[u8]) -> Result<Option<Claim>, Refus
         let stepped = replay_steps::step(file, t, n, r, s, &trace[at..]);
         if !stepped.allowed {
             return Err(Refusal {
-                number: 12,
+                reason: Reason::Step,
                 place: at,
             });
         }

@@ -3,3 +3,4 @@ pub mod Decode
 pub mod Table
 pub mod Places
 pub mod Agents
+pub mod Ranges

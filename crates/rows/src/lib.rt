@@ -47,7 +47,7 @@ impl Kind {
 pub fn wide(x: u8) -> usize
     ensures { (result ≡ x) × (result < 256) }
 {
-    x as usize
+    usize::from(x)
 }
 
 // The kind of a row.
@@ -55,7 +55,7 @@ pub fn kind_of(t: &[u8], r: usize) -> usize
     requires { 3 * r + 2 < length t.now }
     ensures { (result ≡ get_or t.now (3 * r) 0) × (result < 256) }
 {
-    wide(t[3 * r])
+    usize::from(t[3 * r])
 }
 
 // The left byte of a row.
@@ -63,7 +63,7 @@ pub fn left_of(t: &[u8], r: usize) -> usize
     requires { 3 * r + 2 < length t.now }
     ensures { (result ≡ get_or t.now (3 * r + 1) 0) × (result < 256) }
 {
-    wide(t[3 * r + 1])
+    usize::from(t[3 * r + 1])
 }
 
 // The right byte of a row.
@@ -71,7 +71,7 @@ pub fn right_of(t: &[u8], r: usize) -> usize
     requires { 3 * r + 2 < length t.now }
     ensures { (result ≡ get_or t.now (3 * r + 2) 0) × (result < 256) }
 {
-    wide(t[3 * r + 2])
+    usize::from(t[3 * r + 2])
 }
 
 // Whether a row is an agent's.
@@ -79,10 +79,7 @@ pub fn is_agent(t: &[u8], n: usize, r: usize) -> bool
     requires { Sized t.now n }
     ensures { result ≡ is_agent (atom_at (rows_of t.now) r) }
 {
-    if n <= r {
-        return false;
-    }
-    kind_of(t, r) <= Kind::UNTRUSTED
+    r < n && kind_of(t, r) <= Kind::UNTRUSTED
 }
 
 // Whether a row is a trusted agent's.
@@ -90,8 +87,5 @@ pub fn is_trusted(t: &[u8], n: usize, r: usize) -> bool
     requires { Sized t.now n }
     ensures { result ≡ is_trusted (atom_at (rows_of t.now) r) }
 {
-    if n <= r {
-        return false;
-    }
-    kind_of(t, r) == Kind::TRUSTED
+    r < n && kind_of(t, r) == Kind::TRUSTED
 }

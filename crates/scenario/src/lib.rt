@@ -10,7 +10,7 @@ ghost use Rattle.records.specs.Records.{part_at};
 ghost use Rattle.answers.specs.Answers.{layout_of, opened_as};
 ghost use Rattle.scenario.specs.Opened.{GoodRoles, roles_refusal, judged_runs, judged_rows};
 
-use answers::{Block, Layout, Refusal};
+use answers::{Block, Layout, Reason, Refusal};
 
 // How many run records begin in a block.
 fn run_count(b: &[u8], roles: usize) -> usize
@@ -79,10 +79,18 @@ fn judged_runs(file: &[u8], n: usize) -> Result<Layout, Refusal>
     let roles = records::roles_present(frame::block_of(file, 1));
     let runs = frame::block_of(file, 2);
     let knowledge = frame::block_of(file, 3);
-    let bad_run = records::bad_run(runs, frame::start_of(file, 2), terms, n, roles);
-    answers::refused_at(8, bad_run)?;
-    let bad_row = lists::bad_knowledge(knowledge, frame::start_of(file, 3), terms, n);
-    answers::refused_at(9, bad_row)?;
+    if let Some(place) = records::bad_run(runs, frame::start_of(file, 2), terms, n, roles) {
+        return Err(Refusal {
+            reason: Reason::Run,
+            place,
+        });
+    }
+    if let Some(place) = lists::bad_knowledge(knowledge, frame::start_of(file, 3), terms, n) {
+        return Err(Refusal {
+            reason: Reason::Knowledge,
+            place,
+        });
+    }
     Ok(parts_of(file, n, roles))
 }
 
@@ -91,12 +99,20 @@ fn judged(file: &[u8], n: usize) -> Result<Layout, Refusal>
     requires { IsFramed file.now × Shape (term_part file.now).bytes n 0 }
     ensures { result ≡ opened_as file.now (judged_rows file.now (rows_of (term_part file.now).bytes)) }
 {
-    let bad_role = judged_roles(file, n);
-    answers::refused_at(6, bad_role)?;
+    if let Some(place) = judged_roles(file, n) {
+        return Err(Refusal {
+            reason: Reason::Role,
+            place,
+        });
+    }
     let terms = frame::block_of(file, 0);
     let roles = frame::block_of(file, 1);
-    let ill_formed = open_wellformed::ill_formed(roles, frame::start_of(file, 1), terms, n);
-    answers::refused_at(7, ill_formed)?;
+    if let Some(place) = open_wellformed::ill_formed(roles, frame::start_of(file, 1), terms, n) {
+        return Err(Refusal {
+            reason: Reason::Event,
+            place,
+        });
+    }
     judged_runs(file, n)
 }
 

@@ -1,9 +1,11 @@
 -- What the functions that check a table answer, in terms of the definitions. Assumes nothing.
-use Rattle.std.specs.Prelude.{Result, ℕ, ◌+◌, ◌*◌, Bool, false, ◌&&◌, List, eqb, length, get_or, Err, Ok}
+use Rattle.std.specs.Prelude.{Result, ℕ, ◌+◌, ◌*◌, Bool, false, ◌&&◌, List, Some, None, eqb, length, get_or, Err, Ok}
 use Rattle.std.proofs.Math.Option.{Option, none, some}
+use Rattle.std.specs.declared.option.Option as code
 use Rattle.semantics.specs.Answer.{Answer, refused, accepted}
 use Rattle.semantics.specs.Table.{Row, fits, repeated}
-use Rattle.answers.specs.Answers.{refusal_as}
+use Rattle.answers.specs.Answers.{reason_of, refusal_as}
+use Rattle.answers.specs.declared.Reason.{Reason}
 use Rattle.answers.specs.declared.Refusal.{Refusal}
 
 -- the answer of a table's check: 4 or 5 with its place, or how many rows there are
@@ -24,10 +26,10 @@ abbrev pub repeats_decoded : List Row → Option Row → Bool
 repeats_decoded below none = false
 repeats_decoded below (some row) = repeated below row
 
--- a number, or 0 for none
-abbrev pub number_or : Option ℕ → ℕ
-number_or none = 0
-number_or (some n) = n
+-- the reason of a refusal, if there is one
+abbrev pub reason_as : Option ℕ → code.Option Reason
+reason_as none = None
+reason_as (some n) = Some (reason_of n)
 
 -- whether two rows have the same three bytes
 abbrev pub same_bytes : List ℕ → ℕ → ℕ → Bool

@@ -6,9 +6,9 @@ ghost use Rattle.std.proofs.Math.ListN.{get_elem?};
 ghost use Rattle.semantics.specs.Basic.{keep};
 ghost use Rattle.semantics.specs.Table.{rows_from, agent_like, no_pair, variable_row, row_refusal};
 ghost use Rattle.rows.specs.Rows.{IsTable, decoded_at, rows_of};
-ghost use Rattle.table.specs.Check.{fits_decoded, repeats_decoded, same_bytes, number_or, judged_as};
+ghost use Rattle.table.specs.Check.{fits_decoded, repeats_decoded, same_bytes, reason_as, judged_as};
 
-use answers::Refusal;
+use answers::{Reason, Refusal};
 use rows::Kind;
 
 // The limits of a table.
@@ -28,15 +28,12 @@ fn agent_like(t: &[u8], i: usize, a: usize) -> bool
     requires { (3 * i ≤ length t.now) × IsTable (take (3 * i) t.now) }
     ensures { result ≡ agent_like (get_elem? (rows_of (take (3 * i) t.now)) a) }
 {
-    if i <= a {
-        return false;
-    }
-    let kind = rows::kind_of(t, a);
-    match kind {
-        1 | 2 | 5 => true,
-        6 => rows::right_of(t, a) == 0,
-        _ => false,
-    }
+    a < i
+        && match rows::kind_of(t, a) {
+            1 | 2 | 5 => true,
+            6 => rows::right_of(t, a) == 0,
+            _ => false,
+        }
 }
 
 // Whether row a is below row i and no pair.
@@ -44,10 +41,7 @@ fn no_pair(t: &[u8], i: usize, a: usize) -> bool
     requires { (3 * i ≤ length t.now) × IsTable (take (3 * i) t.now) }
     ensures { result ≡ no_pair (get_elem? (rows_of (take (3 * i) t.now)) a) }
 {
-    if i <= a {
-        return false;
-    }
-    rows::kind_of(t, a) != Kind::PAIR
+    a < i && rows::kind_of(t, a) != Kind::PAIR
 }
 
 // Whether the bytes of row i are a row of the table of kinds that fits the rows below it.
@@ -60,36 +54,12 @@ fn fits_row(t: &[u8], i: usize) -> bool
     let right = rows::right_of(t, i);
     match kind {
         1 | 2 | 3 | 4 | 7 => right == 0,
-        5 => {
-            if left < Table::MOST_ROLES {
-                right == 0
-            } else {
-                false
-            }
-        }
+        5 => left < Table::MOST_ROLES && right == 0,
         6 => right <= 1,
-        8 | 9 => {
-            if right == 0 {
-                agent_like(t, i, left)
-            } else {
-                false
-            }
-        }
-        10 => {
-            if agent_like(t, i, left) {
-                agent_like(t, i, right)
-            } else {
-                false
-            }
-        }
-        11 => {
-            if no_pair(t, i, left) {
-                right < i
-            } else {
-                false
-            }
-        }
-        12 => { if left < i { right < i } else { false } }
+        8 | 9 => right == 0 && agent_like(t, i, left),
+        10 => agent_like(t, i, left) && agent_like(t, i, right),
+        11 => no_pair(t, i, left) && right < i,
+        12 => left < i && right < i,
         _ => false,
     }
 }
@@ -99,13 +69,7 @@ fn same_bytes(t: &[u8], i: usize, j: usize) -> bool
     requires { (3 * i + 2 < length t.now) × (3 * j + 2 < length t.now) }
     ensures { result ≡ same_bytes t.now i j }
 {
-    if t[3 * i] != t[3 * j] {
-        return false;
-    }
-    if t[3 * i + 1] != t[3 * j + 1] {
-        return false;
-    }
-    t[3 * i + 2] == t[3 * j + 2]
+    t[3 * i..3 * i + 3] == t[3 * j..3 * j + 3]
 }
 
 // Whether row i repeats an earlier row.
@@ -113,14 +77,7 @@ fn repeats(t: &[u8], i: usize) -> bool
     requires { (3 * i + 3 ≤ length t.now) × IsTable (take (3 * i) t.now) }
     ensures { result ≡ repeats_decoded (rows_of (take (3 * i) t.now)) (decoded_at t.now i) }
 {
-    let mut j = 0;
-    while j < i {
-        if same_bytes(t, i, j) {
-            return true;
-        }
-        j += 1;
-    }
-    false
+    (0..i).any(|j| same_bytes(t, i, j))
 }
 
 // How many variables there are up to row i, given how many there are below it.
@@ -134,24 +91,18 @@ fn with_variable(t: &[u8], i: usize, variables: usize) -> usize
     variables
 }
 
-// The refusal of row i after the rows below it: 4, 5, or 0 for none.
-fn row_refusal(t: &[u8], i: usize, variables: usize) -> usize
+// The number of the refusal of row i after the rows below it, 4 or 5, if there is one.
+fn row_refusal(t: &[u8], i: usize, variables: usize) -> Option<Reason>
     requires { (3 * i + 3 ≤ length t.now) × (IsTable (take (3 * i) t.now) × ((variables ≡ length (keep variable_row (rows_of (take (3 * i) t.now)))) × (variables ≤ 8))) }
-    ensures { result ≡ number_or (row_refusal (rows_of (take (3 * i) t.now)) (decoded_at t.now i)) }
+    ensures { result ≡ reason_as (row_refusal (rows_of (take (3 * i) t.now)) (decoded_at t.now i)) }
 {
-    if Table::MOST_ROWS <= i {
-        return 4;
+    if Table::MOST_ROWS <= i || Table::MOST_VARIABLES < with_variable(t, i, variables) {
+        return Some(Reason::Row);
     }
-    if Table::MOST_VARIABLES < with_variable(t, i, variables) {
-        return 4;
+    if !fits_row(t, i) {
+        return Some(Reason::Row);
     }
-    if fits_row(t, i) {
-        if repeats(t, i) {
-            return 5;
-        }
-        return 0;
-    }
-    4
+    if repeats(t, i) { Some(Reason::RepeatedRow) } else { None }
 }
 
 // The rows of a table that begins at a place: how many there are, or the first refusal.
@@ -159,22 +110,21 @@ pub fn check(t: &[u8], at: usize) -> Result<usize, Refusal>
     requires { at ≤ 65536 }
     ensures { result ≡ judged_as (rows_from at [] t.now) }
 {
-    let mut i = 0;
+    let rows = t.len() / 3;
     let mut variables = 0;
-    loop {
-        let start = 3 * i;
-        let place = at + start;
-        if t.len() == start {
-            return Ok(i);
-        }
-        if t.len() - start < 3 {
-            return Err(Refusal { number: 4, place });
-        }
-        let number = row_refusal(t, i, variables);
-        if number != 0 {
-            return Err(Refusal { number, place });
+    for i in 0..rows {
+        if let Some(reason) = row_refusal(t, i, variables) {
+            let place = at + 3 * i;
+            return Err(Refusal { reason, place });
         }
         variables = with_variable(t, i, variables);
-        i += 1;
     }
+    if 3 * rows < t.len() {
+        let place = at + 3 * rows;
+        return Err(Refusal {
+            reason: Reason::Row,
+            place,
+        });
+    }
+    Ok(rows)
 }

@@ -9,7 +9,7 @@ use Rattle.semantics.specs.Answer.{Answer, refused, accepted}
 use Rattle.semantics.specs.State.{Value}
 use Rattle.semantics.specs.Moves.{Move}
 use Rattle.semantics.specs.Verdict.{Verdict, broken_at, held, stopped, written}
-use Rattle.answers.specs.Answers.{Searched, searched_as}
+use Rattle.answers.specs.Answers.{Numbered, Searched, searched_as}
 use Rattle.text.specs.declared.Text.{Text}
 
 -- the bytes of a word, whose letters have one byte each
@@ -80,3 +80,4 @@ pub record Shown (a : Answer Verdict) (answer : Searched) (after : List ℕ) : T
   pub buffer : List ℕ
   pub is_written : after ≡ written buffer a
   pub small : length after ≤ 128
+  pub known : Numbered a

@@ -8,12 +8,12 @@ ghost use Rattle.semantics.specs.State.{Value};
 ghost use Rattle.semantics.specs.Moves.{Move};
 ghost use Rattle.semantics.specs.Verdict as verdicts;
 ghost use Rattle.semantics.specs.Verdict.{value_bytes, trace_bytes};
+ghost use Rattle.answers.specs.Answers.{number_of};
 ghost use Rattle.text.specs.Text.{decimal, value_text, line_text, step_text, refused_text, broken_text, verdict_text, limits_text, HoldsText, Adds, Shown};
 
 use answers::{Break, Refusal, Trace, Verdict};
 use frame::File;
 use records::Limits;
-use rows::wide;
 use table::Table;
 
 // Bytes, of which the first are the text.
@@ -49,14 +49,11 @@ fn put(t: Text, word: &[u8]) -> Text
     requires { t.len + length word.now ≤ 1024 }
     ensures { Adds t word.now result }
 {
-    let mut more = t;
-    let mut i = 0;
-    while i < word.len() {
-        let next = push(more, word[i]);
-        more = next;
-        i += 1;
-    }
-    more
+    let at = t.len;
+    let len = at + word.len();
+    let mut bytes = t.bytes;
+    bytes[at..len].copy_from_slice(word);
+    Text { bytes, len }
 }
 
 // A text with a number more.
@@ -96,8 +93,8 @@ fn put_values(t: Text, values: &[u8]) -> Text
     if values.len() < 2 {
         return t;
     }
-    let row = put_with(t, b" ", wide(values[0]));
-    let run = put_with(row, b".", wide(values[1]));
+    let row = put_with(t, b" ", usize::from(values[0]));
+    let run = put_with(row, b".", usize::from(values[1]));
     put_values(run, &values[2..])
 }
 
@@ -118,16 +115,16 @@ fn put_steps(t: Text, trace: &[u8]) -> Text
     if trace.len() == 0 {
         return t;
     }
-    let end = 2 + 2 * wide(trace[1]);
-    let more = put_step(t, wide(trace[0]), &trace[2..end]);
+    let end = 2 + 2 * usize::from(trace[1]);
+    let more = put_step(t, usize::from(trace[0]), &trace[2..end]);
     put_steps(more, &trace[end..])
 }
 
 // The text of a refusal.
 fn refused(r: Refusal) -> Text
-    ensures { HoldsText result (refused_text r.number r.place) }
+    ensures { HoldsText result (refused_text (number_of r.reason) r.place) }
 {
-    put_line(put(put_with(empty(), b"REFUSED ", r.number), b" "), r.place)
+    put_line(put(put_with(empty(), b"REFUSED ", r.reason.number()), b" "), r.place)
 }
 
 // The text of a break, with its trace.

@@ -4,14 +4,14 @@ use Rattle.std.proofs.Common.{arith, sym, ◌∙◌, lt-ltb, le-ltb}
 use Rattle.std.proofs.Math.Path.{ap}
 use Rattle.semantics.specs.Basic.{provided}
 use Rattle.semantics.specs.Answer as definitions
-use Rattle.semantics.specs.Answer.{Answer, refused, accepted, checked}
+use Rattle.semantics.specs.Answer.{Answer, refused, accepted}
 use Rattle.semantics.specs.Scenario.{Scenario, opened}
 use Rattle.semantics.specs.Verdict.{Entry, Finding, found, nothing, cut, verdict_from, short_buffer}
 use Rattle.answers.specs.declared.Reason.{Reason}
 use Rattle.answers.specs.declared.Refusal.{Refusal}
 use Rattle.answers.specs.declared.Layout.{Layout}
 use Rattle.answers.specs.declared.Walked.{Walked}
-use Rattle.answers.specs.Answers.{number_of, reason_of, numbered, refusal_as, refused_at, checked_as, layout_of, opened_as, scenario_or, scenario_in, Accepts, verdict_as, walked_as, answered}
+use Rattle.answers.specs.Answers.{number_of, reason_of, numbered, refusal_as, layout_of, opened_as, scenario_or, scenario_in, Accepts, verdict_as, walked_as, answered}
 
 -- what a walk through the whole list finds is answered with the verdict
 pub answer-found : (es : List Entry) (budget : ℕ) (f : Finding) {w : Walked} → w ≡ walked_as es f → answered budget w ≡ verdict_as (verdict_from (length es) budget f)
@@ -36,27 +36,6 @@ opened-accepts file {l} e = go (opened file) refl e
     go (refused r) o q = let z : ◌≡◌ {A = ℕ} 0 1 = cc in absurd (omega arith)
     go (accepted sc) o q = let same : scenario_or (opened file) ≡ sc = ap scenario_or o in
         record { is_opened = o ∙ ap accepted (sym same); layout = let l' : l ≡ layout_of file sc = cc in l' ∙ ap (layout_of file) (sym same) }
-
--- refusal 10 of a buffer that is too short, and none of one that is not
-module _ (buffer : List ℕ) where
-  by_size : (b : Bool) → lib.Dec.ltb (length buffer) 128 ≡ b → checked_as (checked 10 (short_buffer buffer)) ≡ checked_as (checked 10 (provided b (length buffer)))
-  unfolding short_buffer
-  by_size b e = ap (λ (x : Bool). checked_as (checked 10 (provided x (length buffer)))) e
-
-  pub buffer-short : length buffer < 128 → checked_as (checked 10 (short_buffer buffer)) ≡ Err (numbered 10 (length buffer))
-  buffer-short l = by_size _ (lt-ltb (length buffer) 128 l)
-
-  pub buffer-long : 128 ≤ length buffer → checked_as (checked 10 (short_buffer buffer)) ≡ (Ok tt)
-  buffer-long l = by_size _ (le-ltb (length buffer) 128 l)
-
--- a condition that refuses holds at a place, and one that passes at none
-pub at_refused : (r : Reason) (p : CodeOption ℕ) {x : Refusal} → refused_at r p ≡ Err x → (p ≡ Some x.place) × (record { reason = r; place = x.place } ≡ x)
-at_refused n (Some at) e = (cc, cc)
-at_refused n None e = let z : ◌≡◌ {A = ℕ} 0 1 = cc in absurd (omega arith)
-
-pub at_passed : (r : Reason) (p : CodeOption ℕ) {u : Unit {0}} → refused_at r p ≡ Ok u → p ≡ None
-at_passed n (Some at) e = let z : ◌≡◌ {A = ℕ} 0 1 = cc in absurd (omega arith)
-at_passed n None e = refl
 
 -- a number from 1 to 12 is that of its reason
 pub number-back : (n : ℕ) → 1 ≤ n → n ≤ 12 → number_of (reason_of n) ≡ n

@@ -1,21 +1,20 @@
--- `absent_at` is refusal 11: the rows before place i are there. The measure is what is left of the list. Assumes nothing.
-use native.Mathlib.Omega.{arith}
-use Prim.Native.Nat.{ℕ, ◌<◌, ◌≤◌}
-use mathlib.Core.Path.{refl, subst}
-use Rattle.derive.specs.laws.Derive.{absent-here, absent-on, target-absent, none-absent}
+-- `absent_at` is refusal 11: the first listed row that is absent, or that all are there. Assumes nothing.
+use Rattle.std.proofs.Common.{ℕ, ◌<◌, ◌≤◌, length, get_or, arith, rules}
+use Rattle.std.proofs.iter.runs.Made.{chains}
+use Rattle.derive.specs.laws.Derive.{left-below, absent-here, target-absent, none-absent}
 use Rattle.derive.proofs.absent_at.Goals as goal
 
-pub loop-i-init : goal.loop-i-init
-loop-i-init c = (omega arith, λ rows e. refl)
+pub returns-in-Some : goal.returns-in-Some
+returns-in-Some c =
+    let found : (c.in-Some.i < length c.args.list.now) × (c.args.n ≤ get_or c.args.list.now c.in-Some.i 0) × ((k : ℕ) → k < c.in-Some.i → get_or c.args.list.now k 0 < c.args.n) = search (rules, chains) in
+    absent-here c.args.list.now c.args.n c.args.target c.in-Some.i (left-below c.args.list.now c.args.n c.args.target c.in-Some.i (omega arith) found.2) found.0 found.1
 
-pub returns-then-n-wide : goal.returns-then-n-wide
-returns-then-n-wide c = absent-here c.args.list.now c.args.n c.args.target c.loop-i.i c.loop-i.invariant.1 c.loop-i-test.true (subst (λ (k : ℕ). c.args.n ≤ k) c.wide.ensures.0 c.if-n-wide.true)
+pub returns-in-None : goal.returns-in-None
+returns-in-None c =
+    let there : (k : ℕ) → k < length c.args.list.now → get_or c.args.list.now k 0 < c.args.n = search (rules, chains) in
+    target-absent c.args.list.now c.args.n c.args.target there c.if-n-target.true
 
-pub loop-i-preserved : goal.loop-i-preserved
-loop-i-preserved c = (omega arith, absent-on c.args.list.now c.args.n c.args.target c.loop-i.i c.loop-i.invariant.1 c.loop-i-test.true (subst (λ (k : ℕ). k < c.args.n) c.wide.ensures.0 c.if-n-wide.false))
-
-pub returns-then-n-target : goal.returns-then-n-target
-returns-then-n-target c = target-absent c.args.list.now c.args.n c.args.target c.loop-i.i c.loop-i.invariant.1 c.loop-i-test.false c.if-n-target.true
-
-pub returns : goal.returns
-returns c = none-absent c.args.list.now c.args.n c.args.target c.loop-i.i c.loop-i.invariant.1 c.loop-i-test.false c.if-n-target.false
+pub returns-in-None-2 : goal.returns-in-None-2
+returns-in-None-2 c =
+    let there : (k : ℕ) → k < length c.args.list.now → get_or c.args.list.now k 0 < c.args.n = search (rules, chains) in
+    none-absent c.args.list.now c.args.n c.args.target there c.if-n-target.false

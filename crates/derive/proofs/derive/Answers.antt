@@ -1,14 +1,11 @@
 -- `derive::derive` meets its contract: the table, the listed rows and the target, then the answer. Assumes nothing.
-use Rattle.std.proofs.Common.{sym, ◌∙◌}
 use Rattle.std.proofs.lemmas.Result.{err_from_is_err_and}
-use Rattle.answers.specs.laws.Answers.{at_refused, at_passed}
 use Rattle.derive.specs.laws.Answer.{derive-refused, derive-shape, derive-absent, derive-listed, derive-answer}
 use Rattle.derive.proofs.derive.Goals as goal
 
 pub is_known-requires : goal.is_known-requires
 is_known-requires c =
-    let none = at_passed _ c.absent_at-absent.result (sym c.refused_at.ensures ∙ c.in_ok-refused_at.was) in
-    let w = derive-listed c.args.t.now c.args.list.now c.args.target c.check.ensures c.in_ok-n.was c.absent_at-absent.ensures none in
+    let w = derive-listed c.args.t.now c.args.list.now c.args.target c.check.ensures c.in_ok-n.was c.absent_at.ensures c.in_default.is in
     (derive-shape c.args.t.now c.args.list.now c.args.target c.check.ensures c.in_ok-n.was, (w.0, w.1))
 
 pub returns-in_err-n : goal.returns-in_err-n
@@ -16,13 +13,8 @@ returns-in_err-n c =
     let left = err_from_is_err_and c.from_residual.result c.from_residual.ensures.1 in
     rw (left.1, left.2) (derive-refused c.args.t.now c.args.list.now c.args.target c.check.ensures c.in_err-n.was)
 
-pub returns-in_err-refused_at : goal.returns-in_err-refused_at
-returns-in_err-refused_at c =
-    let r = at_refused _ c.absent_at-absent.result (sym c.refused_at.ensures ∙ c.in_err-refused_at.was) in
-    let left = err_from_is_err_and c.from_residual-in_err-refused_at.result c.from_residual-in_err-refused_at.ensures.1 in
-    rw (left.1, left.2, ← r.1) (derive-absent c.args.t.now c.args.list.now c.args.target c.check.ensures c.in_ok-n.was c.absent_at-absent.ensures r.0)
+pub returns-in-Some : goal.returns-in-Some
+returns-in-Some c = derive-absent c.args.t.now c.args.list.now c.args.target c.check.ensures c.in_ok-n.was c.absent_at.ensures c.in-Some.is
 
 pub returns : goal.returns
-returns c =
-    let none = at_passed _ c.absent_at-absent.result (sym c.refused_at.ensures ∙ c.in_ok-refused_at.was) in
-    derive-answer c.args.t.now c.args.list.now c.args.target c.check.ensures c.in_ok-n.was c.absent_at-absent.ensures none c.is_known.ensures
+returns c = derive-answer c.args.t.now c.args.list.now c.args.target c.check.ensures c.in_ok-n.was c.absent_at.ensures c.in_default.is c.is_known.ensures

@@ -1,7 +1,7 @@
 -- The laws of Derive's answer: refusals passed on, what an accepted table and list give, and the two other answers. Assumes nothing.
 use Rattle.std.specs.Prelude.{ℕ, ◌<◌, ◌≡◌, Bool, Err, None, Ok, Some}
 use Rattle.std.proofs.Common.{arith, ◌∙◌}
-use Rattle.std.proofs.Math.Path.{refl, sym}
+use Rattle.std.proofs.Math.Path.{refl, sym, ap}
 use mathlib.Core.List.{List, []}
 use Rattle.std.proofs.Math.Option.{none}
 use Rattle.semantics.specs.Answer.{accepted}
@@ -24,7 +24,9 @@ module _ (table list : List ℕ) (target : ℕ) {j : Judged} (check : j ≡ judg
   -- a refused table
   pub derive-refused : {x : Refusal} → j ≡ Err x → Err x ≡ derived_as (derived table list target)
   unfolding derived
-  derive-refused {x} e = rw (judged-refused (rows_from 0 [] table) x (sym check ∙ e)) refl
+  derive-refused {x} e =
+      let w = judged-refused (rows_from 0 [] table) x (sym check ∙ e) in
+      rw w.1 (ap Err w.2)
 
   module _ {n : ℕ} (rows : j ≡ Ok n) where
     -- an accepted one

@@ -1,5 +1,5 @@
 -- The laws of Derive's loops: absent rows, names at role level, marks of listed rows. Assumes nothing.
-use Rattle.std.specs.Prelude.{ℕ, ◌+◌, ◌<◌, ◌≤◌, ◌≡◌, length, get_or, drop, None, Some}
+use Rattle.std.specs.Prelude.{ℕ, zero, suc, ◌+◌, ◌<◌, ◌≤◌, ◌≡◌, length, get_or, drop, None, Some}
 use Rattle.std.proofs.Common.{add-one, arith, ◌∙◌}
 use Rattle.std.proofs.Math.Path.{refl}
 use mathlib.Core.List.{List}
@@ -26,12 +26,20 @@ module _ (list : List ℕ) (n target : ℕ) where
     unfolding absent_from
     absent-on l h rows e = left rows e ∙ rw (add-one i, drop-cons list i 0 l, lt-ltb (get_or list i 0) (length rows) (omega arith), absent_from) refl
 
+  -- the rows of a front are all there
+  pub left-below : (i : ℕ) → i ≤ length list → ((k : ℕ) → k < i → get_or list k 0 < n) → LeftAt i
+  left-below zero l there = λ rows e. refl
+  left-below (suc i) l there = rw (← add-one i) (absent-on i (left-below i (omega arith) (λ k h. there k (omega arith))) (omega arith) (there i (omega arith)))
+
+  module _ (there : (k : ℕ) → k < length list → get_or list k 0 < n) where
     -- all are, and the target is not
-    pub target-absent : length list ≤ i → n ≤ target → (rows : List Row) → n ≡ length rows → Some i ≡ place_as (absent_from rows 0 list target)
+    pub target-absent : n ≤ target → (rows : List Row) → n ≡ length rows → Some (length list) ≡ place_as (absent_from rows 0 list target)
     unfolding absent_from
-    target-absent l h rows e = rw (left rows e, drop_of_length-le list {i = i} l, le-ltb target (length rows) (omega arith)) refl
+    target-absent h rows e =
+        rw (left-below (length list) (omega arith) there rows e, drop_of_length-le list {i = length list} (omega arith), le-ltb target (length rows) (omega arith)) refl
 
     -- all are
-    pub none-absent : length list ≤ i → target < n → (rows : List Row) → n ≡ length rows → None ≡ place_as (absent_from rows 0 list target)
+    pub none-absent : target < n → (rows : List Row) → n ≡ length rows → None ≡ place_as (absent_from rows 0 list target)
     unfolding absent_from
-    none-absent l h rows e = rw (left rows e, drop_of_length-le list {i = i} l, lt-ltb target (length rows) (omega arith)) refl
+    none-absent h rows e =
+        rw (left-below (length list) (omega arith) there rows e, drop_of_length-le list {i = length list} (omega arith), lt-ltb target (length rows) (omega arith)) refl

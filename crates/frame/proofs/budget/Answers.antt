@@ -1,6 +1,8 @@
 -- `frame::budget` meets its contract: the number of its four bytes. Assumes nothing.
-use Rattle.frame.specs.laws.Frame.{budget-read}
+use native.Mathlib.Omega.{arith}
+use mathlib.Core.Path.{◌∙◌}
+use Rattle.frame.specs.laws.Frame.{budget-bytes}
 use Rattle.frame.proofs.budget.Goals as goal
 
 pub returns : goal.returns
-returns c = let w = c.wide.ensures in budget-read c.args.file.now c.requires w.0 c.wide-2.ensures.0 c.wide-3.ensures.0 c.wide-4.ensures.0 w.1 c.wide-2.ensures.1 c.wide-3.ensures.1 c.wide-4.ensures.1
+returns c = (c.from_be_bytes.ensures ∙ budget-bytes c.args.file.now c.requires, omega arith)

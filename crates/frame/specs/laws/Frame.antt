@@ -1,6 +1,6 @@
 -- The laws of framing: lengths of blocks, blocks one after the other, and refusals 1 to 3. Assumes nothing.
 use Rattle.std.specs.Prelude.{ℕ, zero, suc, ◌+◌, ◌*◌, ◌-◌, ◌<◌, ◌≤◌, ◌≡◌, Bool, true, false, ◌&&◌, not, List, [], ◌∷◌, T, ltb, leb, eqb, length, get_or, take, drop, Err, None, Ok, Some}
-use Rattle.std.proofs.Common.{zero-add, arith, ap, ◌∙◌, true≢false, le-leb, lt-ltb, le-ltb, eq-eqb, ne_eqb, leb-true, leb→le, nltb→le, length-drop, take_all}
+use Rattle.std.proofs.Common.{zero-add, arith, ap, ◌∙◌, true≢false, le-leb, lt-ltb, le-ltb, eq-eqb, ne_eqb, leb-true, leb→le, nltb→le, length-drop, length-take-le, take_all}
 use Rattle.std.proofs.Math.Path.{refl, sym}
 use Rattle.std.proofs.Math.Option.{Option, none, some}
 use Rattle.std.proofs.lemmas.Bool.{lt-leb}
@@ -11,22 +11,15 @@ use Rattle.semantics.specs.Frame.{block_length, budget_of, framed, unversioned, 
 use Rattle.rows.specs.Rows.{place_as}
 use Rattle.rows.specs.laws.Places.{at_some, nowhere-none}
 use Rattle.rows.specs.Rows.{Place}
-use Rattle.answers.specs.Answers.{numbered, refused_at, checked_as}
+use Rattle.answers.specs.Answers.{checked_as}
 use Rattle.answers.specs.declared.Refusal.{Refusal}
 use Rattle.frame.specs.Framing.{framing_of, IsFramed}
 
 sub-suc : (n : ℕ) → suc n - 1 ≡ n
 sub-suc n = omega arith
 
--- the length of a block is the number of its two bytes
-pub length-bytes : (s : List ℕ) → 2 ≤ length s → get_or s 0 0 * 256 + get_or s 1 0 ≡ block_length s
-length-bytes [] l = absurd (omega arith)
-length-bytes (a ∷ []) l = absurd (omega arith)
-length-bytes (a ∷ b ∷ s) l = rw zero-add refl
-
 -- the budget is the number of its four bytes
-pub budget-bytes : (file : List ℕ) → 5 ≤ length file
-    → (get_or file 1 0 * 256 + get_or file 2 0) * 65536 + (get_or file 3 0 * 256 + get_or file 4 0) ≡ budget_of file
+pub budget-bytes : (file : List ℕ) → 5 ≤ length file → get_or file 1 0 * 16777216 + get_or file 2 0 * 65536 + get_or file 3 0 * 256 + get_or file 4 0 ≡ budget_of file
 unfolding budget_of
 budget-bytes [] l = absurd (omega arith)
 budget-bytes (v ∷ []) l = absurd (omega arith)
@@ -125,11 +118,6 @@ unfolding unversioned
 version-one [] l e = absurd (omega arith)
 version-one (v ∷ file) l e = rw (eq-eqb v 1 e) refl
 
--- a condition refuses where the definition's does
-refused-checked : (n : ℕ) (o : Option ℕ) → refused_at n (place_as o) ≡ checked_as (checked n o)
-refused-checked n none = refl
-refused-checked n (some at) = refl
-
 module _ (file : List ℕ) where
   -- refusal 2: too many bytes, or not
   pub size-long : 4096 < length file → Some 4096 ≡ place_as (too_long file)
@@ -153,27 +141,6 @@ module _ (file : List ℕ) where
     pub blocks-good : b ≡ true → None ≡ place_as (misframed file)
     unfolding misframed
     blocks-good e = rw (le-leb 5 (length file) size, sym blocks ∙ e) refl
-
-  -- one condition after the other: the first that holds refuses
-  module _ {v : Place} (version : v ≡ place_as (unversioned file)) where
-    pub version-refused : {at : ℕ} → v ≡ Some at → Err (numbered 1 at) ≡ checked_as (framing_of file)
-    version-refused e = rw (at_some (unversioned file) (sym e ∙ version)) refl
-
-    module _ (versioned : v ≡ None) {l : Place} (size : l ≡ place_as (too_long file)) where
-      -- condition 1 does not hold
-      passed-1 : unversioned file ≡ none
-      passed-1 = nowhere-none (unversioned file) (sym versioned ∙ version)
-
-      pub size-refused : {at : ℕ} → l ≡ Some at → Err (numbered 2 at) ≡ checked_as (framing_of file)
-      size-refused e = rw (passed-1, at_some (too_long file) (sym e ∙ size)) refl
-
-      module _ (few : l ≡ None) {m : Place} (blocks : m ≡ place_as (misframed file)) where
-        -- nor condition 2
-        passed-2 : too_long file ≡ none
-        passed-2 = nowhere-none (too_long file) (sym few ∙ size)
-
-        pub blocks-judged : refused_at 3 m ≡ checked_as (framing_of file)
-        blocks-judged = rw (blocks, passed-1, passed-2) (refused-checked 3 (misframed file))
 
 -- none of three conditions holds
 refused-framed : {P : Type 0} {x : Refusal} {u : Unit {0}} → Err x ≡ Ok u → P
@@ -202,21 +169,13 @@ framing-framed file e =
     not-long : (T (ltb 4096 (length file)) → ⊥) → length file ≤ 4096
     not-long n = nltb→le 4096 (length file) (not_T (ltb 4096 (length file)) n)
 
--- a part of a slice, from a start on
-pub part-front : (s : List ℕ) {l : ℕ} → l ≡ block_length s → take (2 + l - 2) (drop 2 s) ≡ take (block_length s) (drop 2 s)
-part-front s {l} e = let h : 2 + l - 2 ≡ block_length s = omega arith in ap (λ (n : ℕ). take n (drop 2 s)) h
+-- the bytes of the block at the front are as many as its length says
+pub front_length : (s : List ℕ) → 2 + block_length s ≤ length s → {bytes : List ℕ} → bytes ≡ take (block_length s) (drop 2 s) → length bytes ≡ block_length s
+front_length s h e = omega (arith, ap length e, length-take-le (block_length s) (drop 2 s) (omega (arith, length-drop 2 s)))
 
+-- a part of a slice, from a start on
 pub part-rest : (s : List ℕ) (k : ℕ) → take (length s - k) (drop k s) ≡ drop k s
 part-rest s k = take_all (length s - k) (drop k s) (rw length-drop (omega arith))
-
--- the number of bytes as they are read
-pub length-read : (s : List ℕ) → 2 ≤ length s → {a b : ℕ} → a ≡ get_or s 0 0 → b ≡ get_or s 1 0 → a < 256 → b < 256 → (a * 256 + b ≡ block_length s) × (a * 256 + b < 65536)
-length-read s l e f p q = (rw (e, f) (length-bytes s l), omega arith)
-
-pub budget-read : (file : List ℕ) → 5 ≤ length file → {a b c d : ℕ} → a ≡ get_or file 1 0 → b ≡ get_or file 2 0 → c ≡ get_or file 3 0 → d ≡ get_or file 4 0
-    → a < 256 → b < 256 → c < 256 → d < 256
-    → ((a * 256 + b) * 65536 + (c * 256 + d) ≡ budget_of file) × ((a * 256 + b) * 65536 + (c * 256 + d) < 4294967296)
-budget-read file l e f g h p q r s = (rw (e, f, g, h) (budget-bytes file l), omega arith)
 
 -- the bytes after the block at the front decide what is left
 module _ (s : List ℕ) {rest : List ℕ} (after : rest ≡ drop (2 + block_length s) s) where

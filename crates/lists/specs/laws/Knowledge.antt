@@ -53,10 +53,6 @@ module _ (fits : ℕ → Bool) where
   abbrev pub unfit_left : ℕ → List ℕ → ℕ → ℕ → Option ℕ
   unfit_left base b least i = unfit_from fits (base + i) least (drop i b)
 
-  -- from the front on it is that of the bytes
-  pub unfit-all : (base : ℕ) (b : List ℕ) → unfit_from fits base 0 b ≡ unfit_left base b 0 0
-  unfit-all base b = rw (add-zero base)
-
   -- behind the end there is none
   pub unfit-none : (base : ℕ) (b : List ℕ) (least i : ℕ) → length b ≤ i → unfit_left base b least i ≡ none
   unfolding unfit_from

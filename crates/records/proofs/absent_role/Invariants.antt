@@ -1,6 +1,4 @@
--- `records::absent_role` meets its contract. The loop's invariant: the first row that names an absent role is that of the rows from row r on.
--- The measure is how many rows are left. Assumes nothing.
-use Prim.Native.Nat.{◌-◌, ◌≤◌}
+-- `records::absent_role` meets its contract. The loop's invariant: the first row that names an absent role is that of the rows from row r on. Assumes nothing.
 use mathlib.Core.Path.{◌≡◌}
 use Rattle.semantics.specs.Roles.{absent_role_from}
 use Rattle.rows.specs.Rows.{rows_of}
@@ -8,7 +6,4 @@ use Rattle.records.specs.laws.Absent.{absent_left}
 use Rattle.records.proofs.absent_role.Given as goal
 
 abbrev pub invariant-loop-r : goal.invariant-loop-r
-invariant-loop-r l = (l.r ≤ l.n) × (absent_role_from l.roles l.base (rows_of l.t) ≡ absent_left l.t l.roles l.base l.r)
-
-abbrev pub decreases-loop-r : goal.decreases-loop-r
-decreases-loop-r l = l.n - l.r
+invariant-loop-r l = absent_role_from l.roles l.base (rows_of l.t) ≡ absent_left l.t l.roles l.base l.r

@@ -1,36 +1,28 @@
--- `records::events_fit` meets its contract. The loop's invariant: all events fit exactly if those from event j on do. The measure is how many are left. Assumes nothing.
+-- `records::events_fit` meets its contract: all events fit, or there is one that does not. Assumes nothing.
 use Prim.Native.Nat.{◌+◌}
 use native.Mathlib.Omega.{arith}
-use mathlib.Core.Path.{◌≡◌, sym, ap, ◌∙◌}
+use mathlib.Core.Path.{◌≡◌, refl, ap}
+use lib.ListN.{get_or}
+use Rattle.std.proofs.Common.{rules}
+use Rattle.std.proofs.iter.runs.Sources.{ranges, range_runs}
 use Rattle.semantics.specs.Roles.{event_count}
-use Rattle.records.specs.laws.Events.{count-read, fits-none, fits-bad, fits_more, fits_all}
+use Rattle.rows.specs.laws.Ranges.{walked_number}
+use Rattle.records.specs.laws.Events.{count-read, fits-if}
 use Rattle.records.proofs.events_fit.Goals as goal
-use Rattle.records.proofs.events_fit.Goals.{After-wide-count}
+use Rattle.records.proofs.events_fit.Goals.{After-from-count}
 
 -- the number read is the number of events
-counted : (c : After-wide-count) → c.wide-count.result ≡ event_count c.args.s.now
-counted c = count-read c.args.s.now c.wide-first.result c.wide-count.result c.wide-first.ensures.0 c.wide-count.ensures.0
-
-pub loop-j-init : goal.loop-j-init
-loop-j-init c = (
-  omega arith,
-  fits-none c.args.s.now c.args.n c.args.roles (2 + c.wide-first.result) c.wide-count.result (ap (◌+◌ 2) c.wide-first.ensures.0) (counted c),
-)
-
-pub event_fits-requires : goal.event_fits-requires
-event_fits-requires c = omega (arith, counted (goal.at.event_fits-requires c).After-wide-count)
-
-pub returns-then-not-event_fits : goal.returns-then-not-event_fits
-returns-then-not-event_fits c =
-    fits-bad c.args.s.now c.args.n c.args.roles (2 + c.wide-first.result) c.wide-count.result c.loop-j.j c.loop-j.invariant.1 c.loop-j-test.true
-    (omega (arith, counted (goal.at.returns-then-not-event_fits c).After-wide-count)) (λ rows place e. sym c.if-not-event_fits.true ∙ c.event_fits.ensures rows place e)
-
-pub loop-j-preserved : goal.loop-j-preserved
-loop-j-preserved c = (
-  omega arith,
-  fits_more c.args.s.now c.args.n c.args.roles (2 + c.wide-first.result) c.wide-count.result c.loop-j.j c.loop-j.invariant.1 c.loop-j-test.true
-      (omega (arith, counted (goal.at.loop-j-preserved c).After-wide-count)) (λ rows place e. sym c.if-not-event_fits.false ∙ c.event_fits.ensures rows place e),
-)
+counted : (c : After-from-count) → c.from-count.result ≡ event_count c.args.s.now
+counted c = count-read c.args.s.now c.from.result c.from-count.result c.from.ensures c.from-count.ensures
 
 pub returns : goal.returns
-returns c = fits_all c.args.s.now c.args.n c.args.roles (2 + c.wide-first.result) c.wide-count.result c.loop-j.j c.loop-j.invariant.1 c.loop-j-test.false
+returns c =
+    let counted' = counted (goal.at.returns c).After-from-count in
+    fits-if c.args.s.now c.args.n c.args.roles (2 + c.from.result) c.from-count.result (omega (arith, counted')) (ap (◌+◌ 2) c.from.ensures) counted'
+    (λ e j l. let z : get_or c.args.s.now j 0 ≡ get_or c.args.s.now j 0 = refl in search (rules, ranges))
+    (λ e.
+    let run = c.all.ensures.runs.0 in
+    let found = (rw e at c.all.ensures.runs.2) (λ a r f' z. search rules) in
+    let w = walked_number _ _ _ ((range_runs run run.seen).2 found.0) found.2 in
+    let end : run.from.end ≡ c.from-count.result = cc in
+    (w.0, omega arith, λ rows place k. let h = w.2 in search rules))

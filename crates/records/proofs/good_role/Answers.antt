@@ -10,17 +10,17 @@ returns-then-s-role_length c = λ rows start e v. role-short rows c.args.roles c
 pub returns-then-i-ge-MOST_ROLES : goal.returns-then-i-ge-MOST_ROLES
 returns-then-i-ge-MOST_ROLES c = λ rows start e v. role-fifth rows c.args.roles c.args.i start c.args.s.now (omega arith) (omega arith)
 
-pub returns-then-wide-gt-MOST_EVENTS : goal.returns-then-wide-gt-MOST_EVENTS
-returns-then-wide-gt-MOST_EVENTS c =
-    λ rows start e v. role-long rows c.args.roles c.args.i start c.args.s.now (omega arith) (omega arith) (rw (← c.wide.ensures.0, ← c.wide-2.ensures.0) (omega arith))
+pub returns-then-from-gt-MOST_EVENTS : goal.returns-then-from-gt-MOST_EVENTS
+returns-then-from-gt-MOST_EVENTS c =
+    λ rows start e v. role-long rows c.args.roles c.args.i start c.args.s.now (omega arith) (omega arith) (rw (← c.from.ensures, ← c.from-2.ensures) (omega arith))
 
 pub returns-then-not-knowledge_fits : goal.returns-then-not-knowledge_fits
 returns-then-not-knowledge_fits c =
-    λ rows start e v. role-unknown rows c.args.roles c.args.i start c.args.s.now (omega arith) (omega arith) (rw (← c.wide.ensures.0, ← c.wide-2.ensures.0) (omega arith))
+    λ rows start e v. role-unknown rows c.args.roles c.args.i start c.args.s.now (omega arith) (omega arith) (rw (← c.from.ensures, ← c.from-2.ensures) (omega arith))
     (sym (c.knowledge_fits.ensures rows e v) ∙ c.if-not-knowledge_fits.true)
 
 pub returns : goal.returns
 returns c =
     λ rows start e v. c.events_fit.ensures rows start e
-    ∙ role-events rows c.args.roles c.args.i start c.args.s.now (omega arith) (omega arith) (rw (← c.wide.ensures.0, ← c.wide-2.ensures.0) (omega arith))
+    ∙ role-events rows c.args.roles c.args.i start c.args.s.now (omega arith) (omega arith) (rw (← c.from.ensures, ← c.from-2.ensures) (omega arith))
     (sym (c.knowledge_fits.ensures rows e v) ∙ c.if-not-knowledge_fits.false)

@@ -11,8 +11,8 @@ returns-then-s-roles c = λ start. run_short (rows_of c.args.t.now) c.args.roles
 pub returns-then-i-ge-MOST_RUNS : goal.returns-then-i-ge-MOST_RUNS
 returns-then-i-ge-MOST_RUNS c = λ start. run-fifth (rows_of c.args.t.now) c.args.roles c.args.i start c.args.s.now (omega arith) (omega arith)
 
-pub returns-then-roles-wide : goal.returns-then-roles-wide
-returns-then-roles-wide c =
+pub returns-then-roles-from : goal.returns-then-roles-from
+returns-then-roles-from c =
     λ start. run-absent (rows_of c.args.t.now) c.args.roles c.args.i start c.args.s.now (omega arith) (omega arith) (omega arith)
 
 pub returns : goal.returns

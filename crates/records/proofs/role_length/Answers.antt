@@ -5,7 +5,7 @@ use Rattle.records.proofs.role_length.Goals as goal
 
 pub returns-then-at-s : goal.returns-then-at-s
 returns-then-at-s c =
-    (length-counts c.args.s.now c.wide-knowledge.result c.wide.result c.wide-knowledge.ensures.0 c.wide.ensures.0, omega arith)
+    (length-counts c.args.s.now c.from-knowledge.result c.from.result c.from-knowledge.ensures c.from.ensures, omega arith)
 
 pub returns : goal.returns
-returns c = (length-short c.args.s.now c.wide-knowledge.result c.wide-knowledge.ensures.0 (omega arith), omega arith)
+returns c = (length-short c.args.s.now c.from-knowledge.result c.from-knowledge.ensures (omega arith), omega arith)

@@ -4,6 +4,7 @@ use Rattle.std.proofs.Common.{add-one, sym, ap, ◌∙◌, drop-cons, lt-ltb, le
 use Rattle.std.proofs.Math.Numerals.{add-two, add-three, add-four}
 use native.Mathlib.Omega.{arith}
 use Rattle.std.proofs.Math.Bool.{and-true, and-false}
+use Rattle.std.proofs.Math.Decide.{ℕ_discrete}
 use Rattle.std.proofs.Math.Option.{Option, none, some}
 use Rattle.std.proofs.Math.ListN.{get_elem?}
 use Rattle.semantics.specs.Basic.{every}
@@ -106,29 +107,40 @@ EventFits s n roles at b = (rows : List Row) (place : ℕ) → n ≡ length rows
 abbrev pub EventsFit : List ℕ → ℕ → ℕ → Bool → Type 0
 EventsFit s n roles b = (rows : List Row) (start : ℕ) → n ≡ length rows → b ≡ every (event_fits rows roles) (events_in (part_at start s))
 
-module _ (s : List ℕ) (n roles first count : ℕ) where
-  -- all fit exactly if those from one on do
-  abbrev pub FitsFrom : ℕ → Type 0
-  FitsFrom j =
-      (rows : List Row) (start : ℕ) → n ≡ length rows → every (event_fits rows roles) (events_in (part_at start s)) ≡ every (event_fits rows roles) (events_left start s first count j)
+module _ (s : List ℕ) (n roles first count : ℕ) (within : first + 4 * count ≤ length s) where
+  module _ (rows : List Row) (start : ℕ) where
+    -- whether an event fits, and whether all from one on do
+    abbrev here : ℕ → Bool
+    here j = event_fits rows roles (event_at s (first + 4 * j) (start + (first + 4 * j)))
 
-  -- none is passed at first
-  pub fits-none : first ≡ 2 + knowledge_count s → count ≡ event_count s → FitsFrom 0
-  fits-none e f rows start h = ap (every (event_fits rows roles)) (left-events-all start s first count e f)
+    abbrev left : ℕ → Bool
+    left j = every (event_fits rows roles) (events_left start s first count j)
 
-  module _ (j : ℕ) (fits : FitsFrom j) where
-    -- one that does not fit decides
-    pub fits-bad : j < count → first + 4 * count ≤ length s → EventFits s n roles (first + 4 * j) false → EventsFit s n roles false
-    fits-bad l h e rows start k =
-        sym (fits rows start k ∙ ap (every (event_fits rows roles)) (left-events-cons start s first count j l h)
-        ∙ rw (← e rows (start + (first + 4 * j)) k))
+    step : (j : ℕ) → j < count → left j ≡ (here j && left (j + 1))
+    step j l = ap (every (event_fits rows roles)) (left-events-cons start s first count j l within)
 
-    -- one that fits is passed
-    pub fits_more : j < count → first + 4 * count ≤ length s → EventFits s n roles (first + 4 * j) true → FitsFrom (j + 1)
-    fits_more l h e rows start k =
-        fits rows start k ∙ ap (every (event_fits rows roles)) (left-events-cons start s first count j l h)
-        ∙ rw (← e rows (start + (first + 4 * j)) k)
+    -- all fit if each does
+    left-each : (m j : ℕ) → j + m ≡ count → ((i : ℕ) → i < count → here i ≡ true) → left j ≡ true
+    left-each zero j e fits = ap (every (event_fits rows roles)) (left-events-none start s first count j (omega arith))
+    left-each (suc m) j e fits = step j (omega arith) ∙ rw (fits j (omega arith)) (left-each m (j + 1) (omega arith) fits)
 
-    -- with all passed all fit
-    pub fits_all : count ≤ j → EventsFit s n roles true
-    fits_all l rows start k = sym (fits rows start k ∙ ap (every (event_fits rows roles)) (left-events-none start s first count j l))
+    -- and not if one does not
+    left_one : (m j : ℕ) → j + m ≡ count → (i : ℕ) → j ≤ i → i < count → here i ≡ false → left j ≡ false
+    left_one zero j e i l h unfit = absurd (omega arith)
+    left_one (suc m) j e i l h unfit = step j (omega arith) ∙ later (ℕ_discrete i j) (λ n. left_one m (j + 1) (omega arith) i (omega arith) h unfit)
+      where
+        later : Dec (i ≡ j) → (¬ (i ≡ j) → left (j + 1) ≡ false) → (here j && left (j + 1)) ≡ false
+        later (yes f) rest = rw (← f) (rw unfit)
+        later (no f) rest = rw (rest f) (and-false (here j))
+
+  -- all events of the record fit exactly if each does
+  pub fits-if : first ≡ 2 + knowledge_count s → count ≡ event_count s → {r : Bool}
+      → (r ≡ true → (j : ℕ) → j < count → EventFits s n roles (first + 4 * j) true) → (r ≡ false → (j : ℕ) × (j < count) × EventFits s n roles (first + 4 * j) false)
+      → EventsFit s n roles r
+  fits-if e f {r = true} each unfit rows start k =
+      sym (ap (every (event_fits rows roles)) (left-events-all start s first count e f)
+      ∙ left-each rows start count 0 (omega arith) (λ i l. sym (each refl i l rows (start + (first + 4 * i)) k)))
+  fits-if e f {r = false} each unfit rows start k =
+      let w = unfit refl in
+      sym (ap (every (event_fits rows roles)) (left-events-all start s first count e f)
+      ∙ left_one rows start count 0 (omega arith) w.0 (omega arith) w.1 (sym (w.2 rows (start + (first + 4 * w.0)) k)))

@@ -1,8 +1,9 @@
 -- Run records: which are good. Assumes nothing.
-use Rattle.std.specs.Prelude.{ℕ, suc, ◌+◌, ◌≤◌, ◌<◌, ◌≡◌, Bool, true, false, ◌&&◌, List, ltb, leb, length, get_or, take}
-use Rattle.std.proofs.Common.{arith, sym, ap, ◌∙◌, length-take, drop_of_length-le, le-leb, lt-ltb, le-ltb}
-use Rattle.std.proofs.Math.Seq.{slice, slice-cons, get_or-take}
+use Rattle.std.specs.Prelude.{ℕ, zero, suc, ◌+◌, ◌-◌, ◌≤◌, ◌<◌, ◌≡◌, refl, Bool, false, ◌&&◌, List, [], ◌∷◌, ltb, leb, length, get_or, take, drop}
+use Rattle.std.proofs.Common.{arith, sym, ap, ◌∙◌, le-leb, lt-ltb, le-ltb}
+use Rattle.std.proofs.Math.Seq.{get_or-take}
 use Rattle.std.proofs.lemmas.Bool.{lt-leb}
+use Rattle.std.specs.List.{list_all}
 use Rattle.semantics.specs.Basic.{every}
 use Rattle.semantics.specs.Limits.{most_runs}
 use Rattle.semantics.specs.Table.{Row}
@@ -15,25 +16,20 @@ use Rattle.records.specs.laws.Records.{leb-taken, records_left, left-all}
 pub run-bytes : (roles : ℕ) (s : List ℕ) → 0 < run_length roles s
 run-bytes roles s = omega arith
 
-module _ (p : ℕ → Bool) (roles : ℕ) (s : List ℕ) where
-  -- the agent bytes all pass a test exactly if those from one on do
-  abbrev pub AgentsFrom : ℕ → Type 0
-  AgentsFrom i = every p (agents_in roles s) ≡ every p (slice (1 + i) (suc roles) s)
+-- a part of no bytes
+take-nil : (n : ℕ) → take n (drop {A = ℕ} 1 []) ≡ []
+take-nil zero = refl
+take-nil (suc n) = refl
 
-  module _ (i : ℕ) (from : AgentsFrom i) where
-    -- one that fails decides
-    pub agents-bad : i < roles → 1 + roles ≤ length s → p (get_or s (1 + i) 0) ≡ false → every p (agents_in roles s) ≡ false
-    agents-bad l h e = from ∙ rw (slice-cons (1 + i) (suc roles) s 0 (omega arith) (omega arith)) (rw e)
+-- the agent bytes, as a part of the bytes
+pub agents-part : (roles : ℕ) (s : List ℕ) → take (1 + roles - 1) (drop 1 s) ≡ agents_in roles s
+agents-part roles [] = let z : 1 + roles - 1 ≡ roles = omega arith in rw z (take-nil roles)
+agents-part roles (x ∷ s) = let z : 1 + roles - 1 ≡ roles = omega arith in ap (λ (n : ℕ). take n s) z
 
-    -- one that passes is passed
-    pub agents-more : i < roles → 1 + roles ≤ length s → p (get_or s (1 + i) 0) ≡ true → AgentsFrom (i + 1)
-    agents-more l h e =
-        let z : 1 + (i + 1) ≡ suc (1 + i) = omega arith in
-        from ∙ rw z (rw (slice-cons (1 + i) (suc roles) s 0 (omega arith) (omega arith)) (rw e))
-
-    -- with all passed all pass
-    pub agents-all : roles ≤ i → every p (agents_in roles s) ≡ true
-    agents-all l = from ∙ rw (drop_of_length-le (take (suc roles) s) {i = 1 + i} (omega (arith, length-take (suc roles) s)))
+-- the library's test of all elements is the definitions'
+pub all-every : (p : ℕ → Bool) (xs : List ℕ) → list_all p xs ≡ every p xs
+all-every p [] = refl
+all-every p (x ∷ xs) = ap (λ b. p x && b) (all-every p xs)
 
 module _ (rows : List Row) (roles i start : ℕ) (s : List ℕ) where
   -- what a good run record is, in the bytes from its first on

@@ -153,7 +153,9 @@ module _ (file trace : List ℕ) where
   -- a refused one
   pub replayed-refused : {x : Refusal} → Err x ≡ opened_as file (opened file) → Err x ≡ replayed_as (replayed file trace)
   unfolding replayed
-  replayed-refused e = rw (opened-refused file (opened file) e) refl
+  replayed-refused e =
+      let w = opened-refused file (opened file) e in
+      rw w.1 (ap Err w.2)
 
 -- the answer by the claim broken
 pub claim-answered : (sc : Scenario) (trace : List ℕ) (d : State) {o : Claimed} → o ≡ claimed_as (broken sc d) → followed_of sc trace ≡ accepted (broken sc d) → Ok o ≡ replayed_as (followed_of sc trace)

@@ -7,6 +7,7 @@ use Rattle.semantics.specs.Scenario.{opened}
 use Rattle.semantics.specs.Moves.{Listing}
 use Rattle.semantics.specs.Verdict.{verdict, short_buffer, searched_in, buffer_in}
 use Rattle.answers.specs.Answers.{Searched, searched_as}
+use Rattle.answers.specs.laws.Numbers.{searched-known}
 use Rattle.text.specs.declared.Text.{Text}
 use Rattle.text.specs.Text.{verdict_text, HoldsText, Shown}
 use Rattle.text.specs.laws.Adds.{holds_as}
@@ -24,4 +25,4 @@ module _ (which : Listing) (file buffer : List ℕ) (long : 128 ≤ length buffe
 -- what Search answers and leaves
 pub shown : (which : Listing) (file buffer : List ℕ) {answer : Searched} {after : List ℕ} → answer ≡ searched_as (searched_in which file buffer) → after ≡ buffer_in which file buffer → length after ≤ 128 → Shown (searched_in which file buffer) answer after
 unfolding buffer_in
-shown which file buffer e w l = record { is_answer = e; buffer = buffer; is_written = w; small = l }
+shown which file buffer e w l = record { is_answer = e; buffer = buffer; is_written = w; small = l; known = searched-known which file buffer }

@@ -1,9 +1,11 @@
 -- `rows::is_trusted` meets its contract: a row is a trusted agent's by its kind. Assumes nothing.
+use mathlib.Core.Path.{◌∙◌}
+use borrow.Author.Tests.{le-ltb}
 use Rattle.rows.specs.laws.Agents.{trusted-absent, trusted-kind}
 use Rattle.rows.proofs.is_trusted.Goals as goal
 
-pub returns-then-n-r : goal.returns-then-n-r
-returns-then-n-r c = trusted-absent c.args.t.now c.args.n c.requires c.args.r c.if-n-r.true
+pub returns-then-r-n : goal.returns-then-r-n
+returns-then-r-n c = rw c.kind_of.ensures.0 (trusted-kind c.args.t.now c.args.n c.requires c.args.r c.if-r-n.true)
 
-pub returns : goal.returns
-returns c = rw c.kind_of.ensures.0 (trusted-kind c.args.t.now c.args.n c.requires c.args.r c.if-n-r.false)
+pub returns-else-r-n : goal.returns-else-r-n
+returns-else-r-n c = le-ltb _ _ c.if-r-n.false ∙ trusted-absent c.args.t.now c.args.n c.requires c.args.r c.if-r-n.false

@@ -6,7 +6,8 @@ use mathlib.Core.List.{List, [], ◌∷◌}
 use Rattle.std.proofs.Math.Option.{Option, none, some}
 use Rattle.std.proofs.lemmas.List.{length-map}
 use Rattle.semantics.specs.Basic.{first_of}
-use Rattle.semantics.specs.Answer.{Answer, refuse, checked, ◌>>=◌, ◌>>◌}
+use Rattle.semantics.specs.Answer as definitions
+use Rattle.semantics.specs.Answer.{Answer, refused, checked, ◌>>=◌, ◌>>◌}
 use Rattle.semantics.specs.Table.{Row, rows_from}
 use Rattle.semantics.specs.Frame.{Part, records, unversioned, too_long, misframed, budget_of}
 use Rattle.semantics.specs.Roles.{bad_role, absent_role_from, role_in, roles_from}
@@ -24,7 +25,7 @@ use Rattle.table.specs.laws.Table.{judged-refused, judged-sized, table-accepted}
 use Rattle.records.specs.Records.{part_at}
 use Rattle.records.specs.laws.Records.{records_left, left-cons, left-none, left-all}
 use Rattle.records.specs.laws.Runs.{run-bytes}
-use Rattle.answers.specs.Answers.{numbered, checked_as, layout_of, opened_as}
+use Rattle.answers.specs.Answers.{numbered, refusal_as, checked_as, layout_of, opened_as}
 use Rattle.answers.specs.declared.Refusal.{Refusal}
 use Rattle.answers.specs.Answers.{Checked}
 use Rattle.answers.specs.declared.Layout.{Layout}
@@ -40,13 +41,13 @@ six-cases (some at) b rest = refl
 module _ (file : List ℕ) where
   -- a refused frame
   framing-cases : (a b c : Option ℕ) (rest : Answer Scenario) {x : Refusal} → checked_as (◌>>◌ (checked 1 a) (◌>>◌ (checked 2 b) (checked 3 c))) ≡ Err x
-      → ◌>>◌ (checked 1 a) (◌>>◌ (checked 2 b) (◌>>◌ (checked 3 c) rest)) ≡ refuse x.number x.place
+      → (r : definitions.Refusal) × (◌>>◌ (checked 1 a) (◌>>◌ (checked 2 b) (◌>>◌ (checked 3 c) rest)) ≡ refused r) × (x ≡ refusal_as r)
   framing-cases none none none rest e = let z : ◌≡◌ {A = ℕ} 0 1 = cc in absurd (omega arith)
-  framing-cases none none (some at) rest e = cc
-  framing-cases none (some at) c rest e = cc
-  framing-cases (some at) b c rest e = cc
+  framing-cases none none (some at) rest e = (_, refl, cc)
+  framing-cases none (some at) c rest e = (_, refl, cc)
+  framing-cases (some at) b c rest e = (_, refl, cc)
 
-  framed-cases : (a b c : Option ℕ) (rest : Answer Scenario) → checked_as (◌>>◌ (checked 1 a) (◌>>◌ (checked 2 b) (checked 3 c))) ≡ (Ok tt)
+  framed-cases : (a b c : Option ℕ) (rest : Answer Scenario) → checked_as (◌>>◌ (checked 1 a) (◌>>◌ (checked 2 b) (checked 3 c))) ≡ Ok tt
       → ◌>>◌ (checked 1 a) (◌>>◌ (checked 2 b) (◌>>◌ (checked 3 c) rest)) ≡ rest
   framed-cases none none none rest e = refl
   framed-cases none none (some at) rest e = let z : ◌≡◌ {A = ℕ} 0 1 = cc in absurd (omega arith)
@@ -70,16 +71,19 @@ module _ (file : List ℕ) where
 
   module _ {f : Checked} (check : f ≡ checked_as (framing_of file)) where
     pub frame_refused : {x : Refusal} → f ≡ Err x → Err x ≡ opened_as file (opened file)
-    frame_refused e = rw (opened_after, framing-cases (unversioned file) (too_long file) (misframed file) after_frame (sym check ∙ e)) refl
+    frame_refused e =
+        let w = framing-cases (unversioned file) (too_long file) (misframed file) after_frame (sym check ∙ e) in
+        rw (opened_after, w.1) (ap Err w.2)
 
-    module _ (framed : f ≡ (Ok tt)) where
+    module _ (framed : f ≡ Ok tt) where
       pub opened-framed : opened file ≡ after_frame
       opened-framed = opened_after ∙ framed-cases (unversioned file) (too_long file) (misframed file) after_frame (sym check ∙ framed)
 
       module _ {j : Judged} (table : j ≡ judged_as (rows_from (term_part file).start [] (term_part file).bytes)) where
         pub table-refused : {x : Refusal} → j ≡ Err x → Err x ≡ opened_as file (opened file)
         table-refused {x} e =
-            rw (opened-framed, judged-refused (rows_from (term_part file).start [] (term_part file).bytes) x (sym table ∙ e)) refl
+            let w = judged-refused (rows_from (term_part file).start [] (term_part file).bytes) x (sym table ∙ e) in
+            rw (opened-framed, w.1) (ap Err w.2)
 
         module _ {n : ℕ} (rows : j ≡ Ok n) where
           pub terms-shape : Shape (term_part file).bytes n 0

@@ -55,7 +55,9 @@ module _ (which : Listing) (file buffer : List ℕ) where
   -- a refused file
   pub searched-refused : {x : Refusal} → Err x ≡ opened_as file (opened file) → (Err x ≡ searched_as (searched_in which file buffer)) × (buffer ≡ buffer_in which file buffer)
   unfolding searched_in buffer_in
-  searched-refused e = rw (opened-refused file (opened file) e) (refl, refl)
+  searched-refused e =
+      let w = opened-refused file (opened file) e in
+      rw w.1 (ap Err w.2, refl)
 
   module _ (is_opened : opened file ≡ accepted (scenario_in file)) where
     by-buffer : searched_in which file buffer ≡ ◌>>◌ (checked 10 (short_buffer buffer)) (accepted (verdict which (scenario_in file)))

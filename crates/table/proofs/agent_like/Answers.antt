@@ -4,6 +4,7 @@ use native.Mathlib.Omega.{arith}
 use mathlib.Core.Path.{◌≡◌, sym, ap, ◌∙◌}
 use mathlib.Core.Bool.{Bool}
 use mathlib.Core.List.{List}
+use borrow.Author.Tests.{le-ltb}
 use lib.ListN.{length, get_or, take, get_elem?}
 use Rattle.semantics.specs.Table.{agent_like}
 use Rattle.rows.specs.Rows.{IsTable}
@@ -16,23 +17,23 @@ of_bytes : (t : List ℕ) (i a : ℕ) → (3 * i ≤ length t) × IsTable (take 
     → agent_kind k (get_or t (3 * a + 2) 0) ≡ b → b ≡ agent_like (get_elem? (rows_below t i) a)
 of_bytes t i a table below e f = sym (below-agent t i table.0 table.1 a below e ∙ f)
 
-pub returns-then-i-a : goal.returns-then-i-a
-returns-then-i-a c = sym (ap agent_like (below_none c.args.t.now c.args.i c.requires.0 c.requires.1 c.args.a c.if-i-a.true))
+pub returns-else-a-i : goal.returns-else-a-i
+returns-else-a-i c = le-ltb _ _ c.if-a-i.false ∙ sym (ap agent_like (below_none c.args.t.now c.args.i c.requires.0 c.requires.1 c.args.a c.if-a-i.false))
 
 pub returns-in-6 : goal.returns-in-6
-returns-in-6 c = of_bytes c.args.t.now c.args.i c.args.a c.requires c.if-i-a.false c.kind_of-kind.ensures.0 (rw (c.in-6.is, c.right_of.ensures.0))
+returns-in-6 c = of_bytes c.args.t.now c.args.i c.args.a c.requires c.if-a-i.true c.kind_of.ensures.0 (rw (c.in-6.is, c.right_of.ensures.0))
 
 pub returns-in_default : goal.returns-in_default
 returns-in_default c =
-    of_bytes c.args.t.now c.args.i c.args.a c.requires c.if-i-a.false c.kind_of-kind.ensures.0 (other-kinds c.kind_of-kind.result _ (omega arith) (omega arith) (omega arith) (omega arith))
+    of_bytes c.args.t.now c.args.i c.args.a c.requires c.if-a-i.true c.kind_of.ensures.0 (other-kinds c.kind_of.result _ (omega arith) (omega arith) (omega arith) (omega arith))
 
 pub returns-in_default-2 : goal.returns-in_default-2
 returns-in_default-2 c =
-    of_bytes c.args.t.now c.args.i c.args.a c.requires c.if-i-a.false c.kind_of-kind.ensures.0 (other-kinds c.kind_of-kind.result _ (omega arith) (omega arith) (omega arith) (omega arith))
+    of_bytes c.args.t.now c.args.i c.args.a c.requires c.if-a-i.true c.kind_of.ensures.0 (other-kinds c.kind_of.result _ (omega arith) (omega arith) (omega arith) (omega arith))
 
 pub returns-in-1 : goal.returns-in-1
-returns-in-1 c = of_bytes c.args.t.now c.args.i c.args.a c.requires c.if-i-a.false c.kind_of-kind.ensures.0 (rw c.in-1.is)
+returns-in-1 c = of_bytes c.args.t.now c.args.i c.args.a c.requires c.if-a-i.true c.kind_of.ensures.0 (rw c.in-1.is)
 
 pub returns-in-1-2 : goal.returns-in-1-2
 returns-in-1-2 c =
-    of_bytes c.args.t.now c.args.i c.args.a c.requires c.if-i-a.false c.kind_of-kind.ensures.0 (agent-kinds c.kind_of-kind.result _ c.in-1.if-kind-lt1-own.false c.in-1.if-kind-lt3-own.true)
+    of_bytes c.args.t.now c.args.i c.args.a c.requires c.if-a-i.true c.kind_of.ensures.0 (agent-kinds c.kind_of.result _ (omega arith) (omega arith))

@@ -1,26 +1,29 @@
--- `table::check` meets its contract. The loop's invariant: i rows are passed, a table with so many variables.
--- The measure is what is left of the bytes. Assumes nothing.
+-- `table::check` meets its contract. The loop's invariant: i rows are passed, a table with so many variables. Assumes nothing.
+use Prim.Native.Nat.{◌/◌}
 use native.Mathlib.Omega.{arith}
-use mathlib.Core.Path.{sym, ◌∙◌}
+use mathlib.Core.Path.{◌≡◌, sym, ◌∙◌}
+use lib.ListN.{length}
 use Rattle.table.specs.laws.Passed.{passed_none, passed-all, passed-short, passed-refused, passed-more}
 use Rattle.table.proofs.check.Goals as goal
 
-pub loop-at-init : goal.loop-at-init
-loop-at-init c = passed_none c.args.t.now
+pub loop-i-init : goal.loop-i-init
+loop-i-init c = passed_none c.args.t.now
 
-pub returns-then-t-start : goal.returns-then-t-start
-returns-then-t-start c =
-    passed-all c.args.t.now c.loop-at.i c.loop-at.variables c.loop-at.invariant c.args.at c.if-t-start.true
+pub returns-in-Some : goal.returns-in-Some
+returns-in-Some c =
+    passed-refused c.args.t.now c.loop-i.i c.loop-i.variables c.loop-i.invariant (omega arith) c.args.at c.in-Some.reason (sym c.in-Some.is ∙ c.row_refusal.ensures)
 
-pub returns-then-t-start-lt3 : goal.returns-then-t-start-lt3
-returns-then-t-start-lt3 c =
-    passed-short c.args.t.now c.loop-at.i c.loop-at.variables c.loop-at.invariant c.args.at c.if-t-start.false (omega arith)
+pub loop-i-preserved : goal.loop-i-preserved
+loop-i-preserved c =
+    passed-more c.args.t.now c.loop-i.i c.loop-i.variables c.loop-i.invariant (omega arith) c.with_variable-variables.result (sym c.in_default.is ∙ c.row_refusal.ensures)
+    c.with_variable-variables.ensures
 
-pub returns-then-number-ne0 : goal.returns-then-number-ne0
-returns-then-number-ne0 c =
-    passed-refused c.args.t.now c.loop-at.i c.loop-at.variables c.loop-at.invariant (omega arith) c.args.at c.row_refusal-number.result c.row_refusal-number.ensures c.if-number-ne0.true
+pub returns-then-rows-t : goal.returns-then-rows-t
+returns-then-rows-t c =
+    let e : c.loop-i.i ≡ length c.args.t.now / 3 = omega arith in
+    passed-short c.args.t.now (length c.args.t.now / 3) c.loop-i.variables (rw e at c.loop-i.invariant) c.args.at (omega arith) (omega arith)
 
-pub loop-at-preserved : goal.loop-at-preserved
-loop-at-preserved c =
-    passed-more c.args.t.now c.loop-at.i c.loop-at.variables c.loop-at.invariant (omega arith) c.with_variable-variables.result
-    (sym c.if-number-ne0.false ∙ c.row_refusal-number.ensures) c.with_variable-variables.ensures
+pub returns : goal.returns
+returns c =
+    let e : c.loop-i.i ≡ length c.args.t.now / 3 = omega arith in
+    passed-all c.args.t.now (length c.args.t.now / 3) c.loop-i.variables (rw e at c.loop-i.invariant) c.args.at (omega arith)

@@ -7,7 +7,7 @@ use mathlib.Core.Logic.{⊎_elim, inl, inr}
 use mathlib.Core.List.{List}
 use lib.Dec.{ltb}
 use lib.ListN.{length, get_or, take, get_elem?}
-use borrow.Author.Tests.{lt-ltb, le-ltb}
+use borrow.Author.Tests.{lt-ltb, le-ltb, ne_eqb}
 use Rattle.semantics.specs.Basic.{present}
 use Rattle.semantics.specs.Table.{decode}
 use Rattle.rows.specs.Rows.{IsTable, decoded_at}
@@ -34,7 +34,7 @@ returns-then-left-lt-MOST_ROLES c =
 pub returns-else-left-lt-MOST_ROLES : goal.returns-else-left-lt-MOST_ROLES
 returns-else-left-lt-MOST_ROLES c =
     of_bytes c.args.t.now c.args.i c.kind_of-kind.ensures.0 c.left_of-left.ensures.0 c.right_of-right.ensures.0 c.in-5.is
-    (fits-role-not _ _ _ c.if-left-lt-MOST_ROLES.false)
+    (fits-role-not _ _ _ c.if-left-lt-MOST_ROLES.false ∙ sym (le-ltb _ _ c.if-left-lt-MOST_ROLES.false))
 
 pub returns-in-6 : goal.returns-in-6
 returns-in-6 c =
@@ -49,7 +49,7 @@ returns-then-agent_like c =
 pub returns-else-agent_like : goal.returns-else-agent_like
 returns-else-agent_like c =
     of_bytes c.args.t.now c.args.i c.kind_of-kind.ensures.0 c.left_of-left.ensures.0 c.right_of-right.ensures.0 c.in-10.is
-    (fits-shared-not _ _ _ (sym c.agent_like.ensures ∙ c.if-agent_like.false))
+    (fits-shared-not _ _ _ (sym c.agent_like.ensures ∙ c.if-agent_like.false) ∙ sym c.if-agent_like.false)
 
 pub returns-then-no_pair : goal.returns-then-no_pair
 returns-then-no_pair c =
@@ -59,7 +59,7 @@ returns-then-no_pair c =
 pub returns-else-no_pair : goal.returns-else-no_pair
 returns-else-no_pair c =
     of_bytes c.args.t.now c.args.i c.kind_of-kind.ensures.0 c.left_of-left.ensures.0 c.right_of-right.ensures.0 c.in-11.is
-    (fits-pair-not _ _ _ (sym c.no_pair.ensures ∙ c.if-no_pair.false))
+    (fits-pair-not _ _ _ (sym c.no_pair.ensures ∙ c.if-no_pair.false) ∙ sym c.if-no_pair.false)
 
 pub returns-then-left-i : goal.returns-then-left-i
 returns-then-left-i c =
@@ -69,7 +69,7 @@ returns-then-left-i c =
 pub returns-else-left-i : goal.returns-else-left-i
 returns-else-left-i c =
     of_bytes c.args.t.now c.args.i c.kind_of-kind.ensures.0 c.left_of-left.ensures.0 c.right_of-right.ensures.0 c.in-12.is
-    (fits-encrypted-not _ _ _ (sym (is_below c.args.t.now c.args.i c.requires.0 c.requires.1 _) ∙ le-ltb _ c.args.i c.if-left-i.false))
+    (fits-encrypted-not _ _ _ (sym (is_below c.args.t.now c.args.i c.requires.0 c.requires.1 _) ∙ le-ltb _ c.args.i c.if-left-i.false) ∙ sym (le-ltb _ _ c.if-left-i.false))
 
 pub returns-then-right-eq0 : goal.returns-then-right-eq0
 returns-then-right-eq0 c =
@@ -79,7 +79,7 @@ returns-then-right-eq0 c =
 pub returns-else-right-eq0 : goal.returns-else-right-eq0
 returns-else-right-eq0 c =
     of_bytes c.args.t.now c.args.i c.kind_of-kind.ensures.0 c.left_of-left.ensures.0 c.right_of-right.ensures.0 refl
-    (fits-key-not _ _ _ c.kind_of-kind.result (omega arith) (omega arith) c.if-right-eq0.false)
+    (fits-key-not _ _ _ c.kind_of-kind.result (omega arith) (omega arith) c.if-right-eq0.false ∙ sym (ne_eqb _ _ c.if-right-eq0.false))
 
 pub returns-in_default : goal.returns-in_default
 returns-in_default c =

@@ -1,7 +1,6 @@
 -- What the check of a table knows once it has passed i rows, and what it answers from there. Assumes nothing.
-use Rattle.std.specs.Prelude.{ℕ, suc, ◌+◌, ◌*◌, ◌-◌, ◌≤◌, ◌<◌, ◌≡◌, T, length, get_or, take, drop, Err, Ok}
-use Rattle.std.proofs.Common.{add-one, arith, sym, ◌∙◌, take-append-drop, length-drop, length-take-le, drop-cons, take-add}
-use Rattle.std.proofs.Math.Numerals.{add-two, add-three}
+use Rattle.std.specs.Prelude.{ℕ, ◌+◌, ◌*◌, ◌≤◌, ◌<◌, ◌≡◌, T, Some, None, length, get_or, take, drop, Err, Ok}
+use Rattle.std.proofs.Common.{arith, sym, ◌∙◌, take-append-drop, length-drop, length-take-le, take-add}
 use Rattle.std.proofs.Math.Path.{refl, ap}
 use Rattle.std.proofs.Math.Option.{some}
 use mathlib.Core.List.{List, [], ◌∷◌, ◌++◌}
@@ -11,12 +10,14 @@ use Rattle.semantics.specs.Guarantee.{GoodTable}
 use Rattle.semantics.specs.Table.{Row, variable_row, admissible, repeated, row_refusal, rows_from}
 use Rattle.semantics.proofs.laws.Table.{row_refusal-none, rows_from-then, rows_from-short}
 use Rattle.answers.specs.Answers.{numbered}
+use Rattle.answers.specs.declared.Reason.{Reason}
 use Rattle.rows.specs.Rows.{IsTable, decoded_at}
-use Rattle.table.specs.Check.{number_or, judged_as}
+use Rattle.table.specs.Check.{reason_as, judged_as}
 use Rattle.rows.specs.laws.Table.{table-good}
 use Rattle.table.specs.laws.Table.{table-append, table_empty, table_more}
+use Rattle.table.specs.laws.Bytes.{drop-three}
 use Rattle.table.specs.laws.Below.{rows_below, below_length}
-use Rattle.table.specs.laws.Refusal.{number-none, number-some, variables-with}
+use Rattle.table.specs.laws.Refusal.{refusal_none, refusal_some, variables-with}
 
 -- i rows are passed: they are a table with so many variables
 pub record PassedRows (t : List ℕ) (i variables : ℕ) : Type 0 where
@@ -25,15 +26,6 @@ pub record PassedRows (t : List ℕ) (i variables : ℕ) : Type 0 where
   pub table : IsTable (take (3 * i) t)
   pub counted : variables ≡ length (keep variable_row (rows_below t i))
   pub few_variables : variables ≤ 8
-
--- three elements from a place on
-drop-three : (t : List ℕ) (n : ℕ) → n + 3 ≤ length t → drop n t ≡ get_or t n 0 ∷ get_or t (n + 1) 0 ∷ get_or t (n + 2) 0 ∷ drop (n + 3) t
-drop-three t n h =
-    rw (add-one n, add-two n, add-three n) (
-    drop-cons t n 0 (omega arith)
-    ∙ ap (λ (x : List ℕ). get_or t n 0 ∷ x)
-    (drop-cons t (suc n) 0 (omega arith) ∙ ap (λ (x : List ℕ). get_or t (suc n) 0 ∷ x) (drop-cons t (suc (suc n)) 0 (omega arith)))
-    )
 
 -- the bytes up to the end of row i
 take-three : (t : List ℕ) (n : ℕ) → n + 3 ≤ length t → take (n + 3) t ≡ take n t ++ get_or t n 0 ∷ get_or t (n + 1) 0 ∷ get_or t (n + 2) 0 ∷ []
@@ -56,22 +48,22 @@ module _ (t : List ℕ) (i v : ℕ) (p : PassedRows t i v) where
   passed-all at e = rw (passed-rest at, drop_of_length-le t {i = 3 * i} (omega arith)) (ap Ok (sym (below_length t i p.within p.table)))
 
   -- a row that is not complete is refused
-  pub passed-short : (at : ℕ) → ¬ (length t ≡ 3 * i) → length t - 3 * i < 3 → Err (numbered 4 (at + 3 * i)) ≡ judged_as (rows_from at [] t)
-  passed-short at n l =
+  pub passed-short : (at : ℕ) → 3 * i < length t → length t < 3 * i + 3 → Err (numbered 4 (at + 3 * i)) ≡ judged_as (rows_from at [] t)
+  passed-short at m l =
       let size = length-drop (3 * i) t in
-      rw (passed-rest at, rows_from-short (at + 3 * i) (rows_below t i) (drop (3 * i) t) (omega (arith, p.within, n)) (omega arith))
+      rw (passed-rest at, rows_from-short (at + 3 * i) (rows_below t i) (drop (3 * i) t) (omega arith) (omega arith))
 
   module _ (whole : 3 * i + 3 ≤ length t) where
-    -- a row is refused by its number
-    pub passed-refused : (at n : ℕ) → n ≡ number_or (row_refusal (rows_below t i) (decoded_at t i)) → ¬ (n ≡ 0) → Err (numbered n (at + 3 * i)) ≡ judged_as (rows_from at [] t)
+    -- a row is refused by its reason
+    pub passed-refused : (at : ℕ) (r : Reason) → Some r ≡ reason_as (row_refusal (rows_below t i) (decoded_at t i)) → Err (record { reason = r; place = at + 3 * i }) ≡ judged_as (rows_from at [] t)
     unfolding decoded_at
-    passed-refused at n e z =
+    passed-refused at r e =
         let below = rows_below t i in
-        let o = number-some (row_refusal below (decoded_at t i)) (λ q. z (e ∙ q)) ∙ ap some (sym e) in
-        rw (passed-rest at, drop-three t (3 * i) whole, rows_from-then (at + 3 * i) below (get_or t (3 * i) 0) (get_or t (3 * i + 1) 0) (get_or t (3 * i + 2) 0) (drop (3 * i + 3) t) refl o)
+        let w = refusal_some (row_refusal below (decoded_at t i)) r e in
+        rw (w.2, passed-rest at, drop-three t (3 * i) whole, rows_from-then (at + 3 * i) below (get_or t (3 * i) 0) (get_or t (3 * i + 1) 0) (get_or t (3 * i + 2) 0) (drop (3 * i + 3) t) refl w.1)
 
     -- a row that is not refused is passed
-    pub passed-more : (n : ℕ) → 0 ≡ number_or (row_refusal (rows_below t i) (decoded_at t i))
+    pub passed-more : (n : ℕ) → None ≡ reason_as (row_refusal (rows_below t i) (decoded_at t i))
         → (get_or t (3 * i) 0 ≡ 6 → n ≡ v + 1) × ((get_or t (3 * i) 0 ≡ 6 → ⊥) → n ≡ v) → PassedRows t (i + 1) n
     unfolding decoded_at
     passed-more n e w = record {
@@ -86,7 +78,7 @@ module _ (t : List ℕ) (i v : ℕ) (p : PassedRows t i v) where
         below = rows_below t i
 
         row : (row : Row) × (decoded_at t i ≡ some row) × T (admissible below row) × ¬ T (repeated below row)
-        row = row_refusal-none below (decoded_at t i) (number-none below (decoded_at t i) (sym e))
+        row = row_refusal-none below (decoded_at t i) (refusal_none (row_refusal below (decoded_at t i)) e)
 
         bytes : take (3 * (i + 1)) t ≡ take (3 * i) t ++ get_or t (3 * i) 0 ∷ get_or t (3 * i + 1) 0 ∷ get_or t (3 * i + 2) 0 ∷ []
         bytes = let z : 3 * (i + 1) ≡ 3 * i + 3 = omega arith in ap (λ (m : ℕ). take m t) z ∙ take-three t (3 * i) whole

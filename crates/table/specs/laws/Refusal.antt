@@ -1,20 +1,24 @@
--- The refusal of a row after the rows below it, as a number, and how many variables there are with it. Assumes nothing.
-use Rattle.std.specs.Prelude.{ℕ, ◌+◌, ◌*◌, ◌≤◌, ◌<◌, ◌≡◌, Bool, List, [], ◌∷◌, ◌++◌, T, ltb, leb, eqb, length, get_or, take}
-use Rattle.std.proofs.Common.{arith, ◌∙◌, lt→ltb, eqb-true}
+-- The refusal of a row after the rows below it, and how many variables there are with it. Assumes nothing.
+use Rattle.std.specs.Prelude.{ℕ, ◌+◌, ◌*◌, ◌≤◌, ◌<◌, ◌≡◌, Bool, List, [], ◌∷◌, ◌++◌, T, Some, None, ltb, leb, eqb, length, get_or, take}
+use Rattle.std.proofs.Common.{arith, ◌∙◌, lt→ltb, eqb-true, ap}
 use Rattle.std.proofs.Math.Path.{refl, sym}
 use Rattle.std.proofs.Math.Bool.{true, false}
 use Rattle.std.proofs.Math.Option.{Option, none, some}
+use Rattle.std.specs.declared.option.Option as code
 use Rattle.std.proofs.Math.Dec.{le→leb}
 use Rattle.std.proofs.lemmas.Bool.{eqb-false}
 use Rattle.semantics.specs.Basic.{keep}
 use Rattle.semantics.specs.Table.{Row, variable_row, fits, admissible, repeated, row_refusal}
 use Rattle.semantics.specs.Encoding.{RowBytes}
-use Rattle.semantics.proofs.laws.Table.{admissible-holds, row-unrefused}
+use Rattle.semantics.proofs.laws.Table.{admissible-holds}
 use Rattle.semantics.proofs.laws.Test.{all_three, passes-true, fails-false}
 use Rattle.semantics.proofs.laws.List.{keep-cons}
 use Rattle.semantics.proofs.laws.Encoding.{decode-exactly}
 use Rattle.rows.specs.Rows.{IsTable, decoded_at}
-use Rattle.table.specs.Check.{fits_decoded, repeats_decoded, number_or}
+use Rattle.table.specs.Check.{fits_decoded, repeats_decoded, reason_as}
+use Rattle.answers.specs.Answers.{reason_of}
+use Rattle.answers.specs.declared.Reason.{Reason}
+use Rattle.answers.specs.declared.Reason.TheVariants as reasons
 use Rattle.rows.specs.laws.Decode.{decodes-variable}
 use Rattle.table.specs.laws.Below.{rows_below, below_length}
 
@@ -40,63 +44,56 @@ variables-more below {k} {row = row} d v n e w = go (eqb k 6) refl
     go true f = omega (arith, keep-end variable_row below row, keep_one variable_row row (decodes-variable d ∙ f), w.0 (eqb-true k 6 f))
     go false f = omega (arith, keep-end variable_row below row, keep-no variable_row row (decodes-variable d ∙ f), w.1 (eqb-false k 6 f))
 
--- the number of a refusal, by whether the row is admissible and whether it is repeated
-abbrev pub number_if : Bool → Bool → ℕ
-number_if true true = 5
-number_if true false = 0
-number_if false r = 4
+-- the reason of a refusal, by whether the row is admissible and whether it is repeated
+abbrev pub reason_if : Bool → Bool → code.Option Reason
+reason_if true true = Some reasons.RepeatedRow
+reason_if true false = None
+reason_if false r = Some reasons.Row
 
 module _ (below : List Row) (row : Row) where
-  -- the number of the refusal of a row
-  number-if : (a r : Bool) → admissible below row ≡ a → repeated below row ≡ r → number_or (row_refusal below (some row)) ≡ number_if a r
+  -- the reason of the refusal of a row
+  reason-if : (a r : Bool) → admissible below row ≡ a → repeated below row ≡ r → reason_as (row_refusal below (some row)) ≡ reason_if a r
   unfolding row_refusal
-  number-if true true e f = rw (e, row_refusal, f)
-  number-if true false e f = rw (e, row_refusal, f)
-  number-if false r e f = rw (e, row_refusal)
+  reason-if true true e f = rw (e, row_refusal, f)
+  reason-if true false e f = rw (e, row_refusal, f)
+  reason-if false r e f = rw (e, row_refusal)
 
   -- a row that is against the rules is refused with 4
-  number-four : ¬ ((length below < 96) × (length (keep variable_row (below ++ row ∷ [])) ≤ 8) × T (fits below row)) → 4 ≡ number_or (row_refusal below (some row))
-  number-four n = sym (number-if false (repeated below row) (fails-false (admissible below row) (λ u. n (admissible-holds below row u))) refl)
+  number-four : ¬ ((length below < 96) × (length (keep variable_row (below ++ row ∷ [])) ≤ 8) × T (fits below row)) → Some reasons.Row ≡ reason_as (row_refusal below (some row))
+  number-four n = sym (reason-if false (repeated below row) (fails-false (admissible below row) (λ u. n (admissible-holds below row u))) refl)
 
   -- a row that is not against them is refused only if it is repeated
-  number-five : length below < 96 → length (keep variable_row (below ++ row ∷ [])) ≤ 8 → fits below row ≡ true → (r : Bool) → repeated below row ≡ r → number_if true r ≡ number_or (row_refusal below (some row))
+  number-five : length below < 96 → length (keep variable_row (below ++ row ∷ [])) ≤ 8 → fits below row ≡ true → (r : Bool) → repeated below row ≡ r → reason_if true r ≡ reason_as (row_refusal below (some row))
   unfolding admissible
-  number-five few few_variables e r f = sym (number-if true r (passes-true (admissible below row) (
+  number-five few few_variables e r f = sym (reason-if true r (passes-true (admissible below row) (
       (all_three (ltb (length below) 96) (leb (length (keep variable_row (below ++ row ∷ []))) 8) (fits below row)).1 (lt→ltb (length below) 96 few, le→leb (length (keep variable_row (below ++ row ∷ []))) 8 few_variables, rw e tt)
       )) f)
 
--- there is no refusal where its number is 0
-pub number-none : (below : List Row) (o : Option Row) → number_or (row_refusal below o) ≡ 0 → row_refusal below o ≡ none
-unfolding row_refusal
-number-none below none e = absurd (omega arith)
-number-none below (some row) e = go (admissible below row) (repeated below row) refl refl
-  where
-    go : (a r : Bool) → admissible below row ≡ a → repeated below row ≡ r → row_refusal below (some row) ≡ none
-    go true true f g = absurd (omega (arith, number-if below row true true f g))
-    go true false f g = row-unrefused below row (rw f tt) (λ u. rw g at u)
-    go false r f g = absurd (omega (arith, number-if below row false r f g))
+-- what the code's reason says of the refusal
+pub refusal_none : (o : Option ℕ) → None ≡ reason_as o → o ≡ none
+refusal_none none e = refl
+refusal_none (some n) e = let z : ◌≡◌ {A = ℕ} 0 1 = cc in absurd (omega arith)
 
--- a number that is not 0 is there
-pub number-some : (o : Option ℕ) → ¬ (number_or o ≡ 0) → o ≡ some (number_or o)
-number-some none n = absurd (n refl)
-number-some (some x) n = refl
+pub refusal_some : (o : Option ℕ) (r : Reason) → Some r ≡ reason_as o → (n : ℕ) × (o ≡ some n) × (r ≡ reason_of n)
+refusal_some none r e = let z : ◌≡◌ {A = ℕ} 0 1 = cc in absurd (omega arith)
+refusal_some (some n) r e = (n, refl, cc)
 
 module _ (t : List ℕ) (i : ℕ) (within : 3 * i ≤ length t) (table : IsTable (take (3 * i) t)) where
   -- a 97th row is refused with 4
-  pub refusal-many : 96 ≤ i → 4 ≡ number_or (row_refusal (rows_below t i) (decoded_at t i))
+  pub refusal-many : 96 ≤ i → Some reasons.Row ≡ reason_as (row_refusal (rows_below t i) (decoded_at t i))
   unfolding row_refusal
   refusal-many h = go (decoded_at t i)
     where
-      go : (o : Option Row) → 4 ≡ number_or (row_refusal (rows_below t i) o)
+      go : (o : Option Row) → Some reasons.Row ≡ reason_as (row_refusal (rows_below t i) o)
       go none = refl
       go (some row) = number-four (rows_below t i) row (λ w. omega (arith, below_length t i within table))
 
   -- a row that does not fit is refused with 4
-  pub refusal-unfit : fits_decoded (rows_below t i) (decoded_at t i) ≡ false → 4 ≡ number_or (row_refusal (rows_below t i) (decoded_at t i))
+  pub refusal-unfit : fits_decoded (rows_below t i) (decoded_at t i) ≡ false → Some reasons.Row ≡ reason_as (row_refusal (rows_below t i) (decoded_at t i))
   unfolding row_refusal
   refusal-unfit = go (decoded_at t i)
     where
-      go : (o : Option Row) → fits_decoded (rows_below t i) o ≡ false → 4 ≡ number_or (row_refusal (rows_below t i) o)
+      go : (o : Option Row) → fits_decoded (rows_below t i) o ≡ false → Some reasons.Row ≡ reason_as (row_refusal (rows_below t i) o)
       go none e = refl
       go (some row) e = number-four (rows_below t i) row (λ w. rw e at w.2)
 
@@ -107,20 +104,20 @@ module _ (t : List ℕ) (i : ℕ) (within : 3 * i ≤ length t) (table : IsTable
     variables-with row e = variables-more (rows_below t i) ((decode-exactly (get_or t (3 * i) 0) (get_or t (3 * i + 1) 0) (get_or t (3 * i + 2) 0) row).0 e) v n counted more
 
     -- a ninth variable is refused with 4
-    pub refusal-variables : 8 < n → 4 ≡ number_or (row_refusal (rows_below t i) (decoded_at t i))
+    pub refusal-variables : 8 < n → Some reasons.Row ≡ reason_as (row_refusal (rows_below t i) (decoded_at t i))
     unfolding row_refusal
     refusal-variables h = go (decoded_at t i) refl
       where
-        go : (o : Option Row) → decoded_at t i ≡ o → 4 ≡ number_or (row_refusal (rows_below t i) o)
+        go : (o : Option Row) → decoded_at t i ≡ o → Some reasons.Row ≡ reason_as (row_refusal (rows_below t i) o)
         go none e = refl
         go (some row) e = number-four (rows_below t i) row (λ w. omega (arith, variables-with row e))
 
     -- any other row is refused with 5 if it is repeated, and otherwise not
     pub refusal-other : i < 96 → n ≤ 8 → fits_decoded (rows_below t i) (decoded_at t i) ≡ true → (r : Bool) → repeats_decoded (rows_below t i) (decoded_at t i) ≡ r
-        → number_if true r ≡ number_or (row_refusal (rows_below t i) (decoded_at t i))
+        → reason_if true r ≡ reason_as (row_refusal (rows_below t i) (decoded_at t i))
     refusal-other few few_variables = go (decoded_at t i) refl
       where
         go : (o : Option Row) → decoded_at t i ≡ o → fits_decoded (rows_below t i) o ≡ true → (r : Bool) → repeats_decoded (rows_below t i) o ≡ r
-            → number_if true r ≡ number_or (row_refusal (rows_below t i) o)
+            → reason_if true r ≡ reason_as (row_refusal (rows_below t i) o)
         go none e f r g = let z : ◌≡◌ {A = ℕ} 0 1 = cc in absurd (omega arith)
         go (some row) e f r g = number-five (rows_below t i) row (omega (arith, below_length t i within table)) (omega (arith, variables-with row e)) f r g

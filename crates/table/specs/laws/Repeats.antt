@@ -1,7 +1,7 @@
 -- Which row repeats an earlier one: the row with the same three bytes. Assumes nothing.
-use Rattle.std.specs.Prelude.{ℕ, ◌+◌, ◌*◌, ◌≤◌, ◌<◌, ◌≡◌, ◌↔◌, true, ◌&&◌, List, T, eqb, length, get_or, take}
+use Rattle.std.specs.Prelude.{ℕ, ◌+◌, ◌*◌, ◌≤◌, ◌<◌, ◌≡◌, ◌↔◌, true, ◌&&◌, Bool, List, T, eqb, length, get_or, take}
 use Rattle.std.proofs.Common.{arith, eqb→eq}
-use Rattle.std.proofs.Math.Path.{refl}
+use Rattle.std.proofs.Math.Path.{refl, sym}
 use Rattle.std.proofs.Math.Bool.{false}
 use Rattle.std.proofs.Math.Option.{Option, none, some}
 use Rattle.std.proofs.Math.Dec.{eqb_refl}
@@ -29,7 +29,7 @@ same-bytes-iff t i j = same-three (get_or t (3 * i) 0) (get_or t (3 * i + 1) 0) 
 
 module _ (t : List ℕ) (i : ℕ) (within : 3 * i ≤ length t) (table : IsTable (take (3 * i) t)) where
   -- a row with the bytes of an earlier row repeats it
-  pub repeats-yes : (j : ℕ) → j < i → same_bytes t i j ≡ true → repeats_decoded (rows_below t i) (decoded_at t i) ≡ true
+  repeats-yes : (j : ℕ) → j < i → same_bytes t i j ≡ true → repeats_decoded (rows_below t i) (decoded_at t i) ≡ true
   unfolding decoded_at
   repeats-yes j l e =
       let w = below_row t i within table j l in
@@ -37,7 +37,7 @@ module _ (t : List ℕ) (i : ℕ) (within : 3 * i ≤ length t) (table : IsTable
       rw (s.0, s.1, s.2, (decode-exactly (get_or t (3 * j) 0) (get_or t (3 * j + 1) 0) (get_or t (3 * j + 2) 0) w.0).1 w.2) (passes-true (repeated (rows_below t i) w.0) ((repeated-at (rows_below t i) w.0).1 (j, w.1)))
 
   -- a row with the bytes of no earlier row repeats none
-  pub repeats-no : ((j : ℕ) → j < i → same_bytes t i j ≡ false) → repeats_decoded (rows_below t i) (decoded_at t i) ≡ false
+  repeats-no : ((j : ℕ) → j < i → same_bytes t i j ≡ true → ⊥) → repeats_decoded (rows_below t i) (decoded_at t i) ≡ false
   unfolding decoded_at
   repeats-no h = go (decoded_at t i) refl
     where
@@ -49,4 +49,10 @@ module _ (t : List ℕ) (i : ℕ) (within : 3 * i ≤ length t) (table : IsTable
           let w = below_row t i within table p.0 l in
           let q : w.0 ≡ row = cc in
           let same = decodes-same ((decode-exactly (get_or t (3 * i) 0) (get_or t (3 * i + 1) 0) (get_or t (3 * i + 2) 0) row).0 e) (rw q at w.2) in
-          rw (h p.0 l) at ((same-bytes-iff t i p.0).1 same))
+          h p.0 l (passes-true (same_bytes t i p.0) ((same-bytes-iff t i p.0).1 same)))
+
+  -- a row repeats one exactly if an earlier row has its bytes
+  pub repeats-if : {r : Bool} → (r ≡ true → (j : ℕ) × (j < i) × (same_bytes t i j ≡ true)) → (r ≡ false → (j : ℕ) → j < i → same_bytes t i j ≡ true → ⊥)
+      → r ≡ repeats_decoded (rows_below t i) (decoded_at t i)
+  repeats-if {r = true} some_row no_row = let w = some_row refl in sym (repeats-yes w.0 w.1 w.2)
+  repeats-if {r = false} some_row no_row = sym (repeats-no (no_row refl))

@@ -2,11 +2,13 @@
 use Rattle.std.specs.Prelude.{ℕ, suc, ◌+◌, ◌≡◌, refl, ◌↔◌, List, [], ◌∷◌, ◌++◌, T, length, Err, Ok}
 use Rattle.std.proofs.Common.{arith, sym, ap, ◌∙◌}
 use Rattle.std.proofs.Math.Option.{some}
-use Rattle.semantics.specs.Answer.{Answer, refused, accepted, refuse}
+use Rattle.semantics.specs.Answer as definitions
+use Rattle.semantics.specs.Answer.{Answer, refused, accepted}
 use Rattle.semantics.specs.Table.{Row, decode, admissible, repeated, rows_from}
 use Rattle.semantics.proofs.laws.Table.{rows_from-step, Reads, ends, reads, rows_from-reads}
 use Rattle.semantics.proofs.laws.Encoding.{table-exactly}
 use Rattle.rows.specs.Rows.{IsTable, Sized, rows_of, rows_or}
+use Rattle.answers.specs.Answers.{refusal_as}
 use Rattle.answers.specs.declared.Refusal.{Refusal}
 use Rattle.table.specs.Check.{judged_as}
 use Rattle.rows.specs.laws.Table.{table-good, table-length}
@@ -34,11 +36,8 @@ judged-accepted (refused r) n e = let z : ◌≡◌ {A = ℕ} 0 1 = cc in absurd
 judged-accepted (accepted rows) n e = (rows, refl, let z : length rows ≡ n = cc in sym z)
 
 -- or a refusal with its place
-pub judged-refused : (a : Answer (List Row)) (x : Refusal) → judged_as a ≡ Err x → a ≡ refuse x.number x.place
-judged-refused (refused r) x e =
-    let p : r.number ≡ x.number = cc in
-    let q : r.place ≡ x.place = cc in
-    λ i. refused (record { number = p i; place = q i })
+pub judged-refused : (a : Answer (List Row)) (x : Refusal) → judged_as a ≡ Err x → (r : definitions.Refusal) × (a ≡ refused r) × (x ≡ refusal_as r)
+judged-refused (refused r) x e = (r, refl, cc)
 judged-refused (accepted rows) x e = let z : ◌≡◌ {A = ℕ} 0 1 = cc in absurd (omega arith)
 
 -- what a caller of the check knows of the bytes where it answers with a number of rows

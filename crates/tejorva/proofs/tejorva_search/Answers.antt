@@ -1,11 +1,13 @@
 -- `tejorva_search` is the number of Search's answer to a file and a buffer. Assumes nothing.
 use mathlib.Core.Path.{ap, ◌∙◌}
+use Rattle.semantics.specs.Moves.{full}
 use Rattle.semantics.specs.Verdict.{searched}
+use Rattle.answers.specs.laws.Numbers.{searched-known}
 use Rattle.packing.specs.Packing.{packed_searching, packed-searched}
 use Rattle.tejorva.proofs.tejorva_search.Goals as goal
 
 pub returns : goal.returns
 returns c = record {
-  value = c.verdict.ensures ∙ ap packed_searching c.search.ensures.value ∙ packed-searched (searched c.args.file.now c.args.trace.now);
+  value = c.verdict.ensures ∙ ap packed_searching c.search.ensures.value ∙ packed-searched (searched c.args.file.now c.args.trace.now) (searched-known full c.args.file.now c.args.trace.now);
   trace_after = c.search.ensures.trace_after;
 }

@@ -2,11 +2,12 @@
 use mathlib.Core.Path.{ap, ◌∙◌}
 use Rattle.semantics.specs.Moves.{short}
 use Rattle.semantics.specs.Verdict.{searched_in}
+use Rattle.answers.specs.laws.Numbers.{searched-known}
 use Rattle.packing.specs.Packing.{packed_searching, packed-searched}
 use Rattle.tejorva.proofs.tejorva_search_short.Goals as goal
 
 pub returns : goal.returns
 returns c = record {
-  value = c.verdict.ensures ∙ ap packed_searching c.search_short.ensures.value ∙ packed-searched (searched_in short c.args.file.now c.args.trace.now);
+  value = c.verdict.ensures ∙ ap packed_searching c.search_short.ensures.value ∙ packed-searched (searched_in short c.args.file.now c.args.trace.now) (searched-known short c.args.file.now c.args.trace.now);
   trace_after = c.search_short.ensures.trace_after;
 }

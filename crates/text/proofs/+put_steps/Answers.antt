@@ -37,32 +37,32 @@ bounds-trace-1 t c =
 pub slice_bounds-put_step-end : goal.slice_bounds-put_step-end
 slice_bounds-put_step-end t c =
     let f = first-step c.requires.0.0 _ c.requires.0.1 (omega (arith, c.if-trace-eq0.false)) in
-    omega (arith, f.size, c.wide.ensures.0)
+    omega (arith, f.size, c.from.ensures)
 
 pub put_step-more-requires : goal.put_step-more-requires
 put_step-more-requires t c =
     let f = first-step c.requires.0.0 _ c.requires.0.1 (omega (arith, c.if-trace-eq0.false)) in
-    let e = c.wide.ensures.0 in
-    (c.wide-2.ensures.1, omega (arith, f.size, e, values_length f e, c.requires.1))
+    let e = c.from.ensures in
+    (omega arith, omega (arith, f.size, e, values_length f e, c.requires.1))
 
 pub slice_bounds-put_steps-count : goal.slice_bounds-put_steps-count
 slice_bounds-put_steps-count t c =
     let f = first-step c.requires.0.0 _ c.requires.0.1 (omega (arith, c.if-trace-eq0.false)) in
-    omega (arith, f.size, c.wide.ensures.0)
+    omega (arith, f.size, c.from.ensures)
 
 pub slice_bounds-put_steps-start : goal.slice_bounds-put_steps-start
 slice_bounds-put_steps-start t c =
     let f = first-step c.requires.0.0 _ c.requires.0.1 (omega (arith, c.if-trace-eq0.false)) in
-    omega (arith, f.size, c.wide.ensures.0)
+    omega (arith, f.size, c.from.ensures)
 
 pub put_steps-requires : goal.put_steps-requires
 put_steps-requires t c =
     let f = first-step c.requires.0.0 _ c.requires.0.1 (omega (arith, c.if-trace-eq0.false)) in
-    let e = c.wide.ensures.0 in
+    let e = c.from.ensures in
     (omega (arith, f.size, e, after-length f e), ((f.others, after_first f e), omega (arith, c.put_step-more.ensures.len_bound, values_length f e, after-length f e, f.size, e, c.requires.1)))
 
 pub returns : goal.returns
 returns t c ms h =
     let f = first-step ms _ h (omega (arith, c.if-trace-eq0.false)) in
-    let e = c.wide.ensures.0 in
-    adds-as f.texts (adds_on (c.put_step-more.ensures.adds f.move (c.wide-2.ensures.0 ∙ f.run) (first-values f e)) (c.put_steps.ensures f.others (after_first f e)))
+    let e = c.from.ensures in
+    adds-as f.texts (adds_on (c.put_step-more.ensures.adds f.move (c.from-2.ensures ∙ f.run) (first-values f e)) (c.put_steps.ensures f.others (after_first f e)))

@@ -7,10 +7,10 @@ use Rattle.text.proofs.answer_text.Goals as goal
 pub found_text-requires : goal.found_text-requires
 found_text-requires c =
     let shown = c.requires.1 in
-    (c.requires.0, record { is_answer = sym c.in-Ok.is ∙ shown.is_answer; buffer = shown.buffer; is_written = shown.is_written; small = shown.small })
+    (c.requires.0, record { is_answer = sym c.in-Ok.is ∙ shown.is_answer; buffer = shown.buffer; is_written = shown.is_written; small = shown.small; known = shown.known })
 
 pub returns-in-Err : goal.returns-in-Err
-returns-in-Err c a shown = holds_as (text-refused a (sym c.in-Err.is ∙ shown.is_answer)) c.refused.ensures
+returns-in-Err c a shown = holds_as (text-refused a shown.known (sym c.in-Err.is ∙ shown.is_answer)) c.refused.ensures
 
 pub returns-in-Ok : goal.returns-in-Ok
-returns-in-Ok c a shown = c.found_text.ensures a (record { is_answer = sym c.in-Ok.is ∙ shown.is_answer; buffer = shown.buffer; is_written = shown.is_written; small = shown.small })
+returns-in-Ok c a shown = c.found_text.ensures a (record { is_answer = sym c.in-Ok.is ∙ shown.is_answer; buffer = shown.buffer; is_written = shown.is_written; small = shown.small; known = shown.known })

@@ -25,7 +25,7 @@ returns-in-Broken c a shown =
     holds_as f.text (c.broken.ensures f.moves f.trace)
 
 pub returns-in-Held : goal.returns-in-Held
-returns-in-Held c a shown = holds_as (text-held a (ap Ok (sym c.in-Held.is) ∙ shown.is_answer)) (adds-all c.empty.ensures (adds_on c.put.ensures c.put_line.ensures.0))
+returns-in-Held c a shown = holds_as (text-held a shown.known (ap Ok (sym c.in-Held.is) ∙ shown.is_answer)) (adds-all c.empty.ensures (adds_on c.put.ensures c.put_line.ensures.0))
 
 pub returns-in-Stopped : goal.returns-in-Stopped
-returns-in-Stopped c a shown = holds_as (text-stopped a (ap Ok (sym c.in-Stopped.is) ∙ shown.is_answer)) (adds-all c.empty-in-Stopped.ensures (adds_on c.put-in-Stopped.ensures c.put_line-in-Stopped.ensures.0))
+returns-in-Stopped c a shown = holds_as (text-stopped a shown.known (ap Ok (sym c.in-Stopped.is) ∙ shown.is_answer)) (adds-all c.empty-in-Stopped.ensures (adds_on c.put-in-Stopped.ensures c.put_line-in-Stopped.ensures.0))

@@ -12,4 +12,4 @@ put_line-requires c = omega (arith, c.put.ensures.size, c.put_with.ensures.1, c.
 
 pub returns : goal.returns
 unfolding refused_text
-returns c = adds-all c.empty.ensures (adds_on c.put_with.ensures.0 (adds_on c.put.ensures c.put_line.ensures.0))
+returns c = rw (← c.number.ensures) (adds-all c.empty.ensures (adds_on c.put_with.ensures.0 (adds_on c.put.ensures c.put_line.ensures.0)))

@@ -1,6 +1,8 @@
 -- A text that grows: nothing more, one byte more, and one part after the other. Assumes nothing.
-use Rattle.std.specs.Prelude.{ℕ, ◌+◌, ◌<◌, ◌≤◌, ◌≡◌, List, [], ◌∷◌, ◌++◌, length, get_or, take, set}
-use Rattle.std.proofs.Common.{arith, add-one, sym, ap, ◌∙◌, append_assoc, append-nil, length-append, length-take, take-suc, take-suc-set, take_all}
+use Rattle.std.specs.Prelude.{ℕ, ◌+◌, ◌-◌, ◌<◌, ◌≤◌, ◌≡◌, List, [], ◌∷◌, ◌++◌, length, take, set}
+use Rattle.std.proofs.Common.{arith, add-one, sym, ap, ◌∙◌, append_assoc, append-nil, length-append, refl, length-take, length-take-le, take-suc-set, take_all}
+use lib.Seq.{take-append-le}
+use borrow.Rule.Slice.PartMut.{put_mid, post_of}
 use Rattle.text.specs.declared.Text.{Text}
 use Rattle.text.specs.Text.{HoldsText, Adds}
 
@@ -34,10 +36,14 @@ holds_fits {t} h = omega (arith, h.size, ap length h.same, length-take t.len t.b
 pub holds-count : {t : Text} {bytes : List ℕ} → HoldsText t bytes → t.len ≡ length (take t.len t.bytes)
 holds-count h = h.size ∙ sym (ap length h.same)
 
--- a word byte by byte
-module _ {t m : Text} (word : List ℕ) (i : ℕ) (a : Adds t (take i word) m) where
-  pub adds-next : {r : Text} → i < length word → Adds m (get_or word i 0 ∷ []) r → Adds t (take (i + 1) word) r
-  adds-next l b = adds-as (sym (ap (λ (k : ℕ). take k word) (add-one i) ∙ take-suc word i 0 l)) (adds_on a b)
-
-  pub adds-whole : length word ≤ i → Adds t word m
-  adds-whole l = adds-as (take_all i word l) a
+-- a word, copied behind the text
+pub adds_word : (t : Text) (word : List ℕ) {copied : List ℕ} → t.len + length word ≤ length t.bytes → copied ≡ word
+    → Adds t word (record { bytes = put_mid t.len (t.len + length word - t.len) t.bytes copied; len = t.len + length word })
+adds_word t word l e = record {
+  size = refl;
+  same =
+      let text = take t.len t.bytes ++ word in
+      let after = post_of t.len (t.len + length word - t.len) t.bytes in
+      let size : length text ≡ t.len + length word = omega (arith, length-append (take t.len t.bytes) word, length-take-le t.len t.bytes (omega arith)) in
+      rw (e, ← append_assoc) (take-append-le (t.len + length word) text after (omega arith) ∙ take_all (t.len + length word) text (omega arith));
+}

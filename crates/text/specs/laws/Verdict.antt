@@ -5,39 +5,39 @@ use Rattle.semantics.specs.Answer.{Answer, refused, accepted}
 use Rattle.semantics.specs.Moves.{Move}
 use Rattle.semantics.specs.Verdict.{Verdict, broken_at, held, stopped, trace_bytes, written}
 use Rattle.answers.specs.declared.Break.{Break}
-use Rattle.answers.specs.Answers.{Searched, break_as, searched_as}
+use Rattle.answers.specs.Answers.{Numbered, number_of, Searched, break_as, searched_as}
 use Rattle.answers.specs.declared.Refusal.{Refusal}
 use Rattle.answers.specs.declared.Verdict.TheVariants.{Broken, Held, Stopped}
 use Rattle.text.specs.Text.{word, line_text, refused_text, broken_text, verdict_text}
 
 -- what an answer of the code says of a text; nothing if it is a break, whose trace it does not hold
 abbrev Tells : Searched → List ℕ → Type 0
-Tells (Err r) text = refused_text r.number r.place ≡ text
+Tells (Err r) text = refused_text (number_of r.reason) r.place ≡ text
 Tells (Ok (Broken b)) text = Unit {0}
 Tells (Ok (Held n)) text = word "HELD " ++ line_text n ≡ text
 Tells (Ok (Stopped n)) text = word "STOPPED " ++ line_text n ≡ text
 
 -- it tells the text of the answer
-tells : (a : Answer Verdict) → Tells (searched_as a) (verdict_text a)
+tells : (a : Answer Verdict) → Numbered a → Tells (searched_as a) (verdict_text a)
 unfolding verdict_text
-tells (refused r) = refl
-tells (accepted (broken_at p ms c)) = tt
-tells (accepted (held n)) = refl
-tells (accepted (stopped n)) = refl
+tells (refused r) known = ap (λ (n : ℕ). refused_text n r.place) known
+tells (accepted (broken_at p ms c)) known = tt
+tells (accepted (held n)) known = refl
+tells (accepted (stopped n)) known = refl
 
 -- whichever way it is given
-told : (a : Answer Verdict) {answer : Searched} → answer ≡ searched_as a → Tells answer (verdict_text a)
-told a e = rw e (tells a)
+told : (a : Answer Verdict) → Numbered a → {answer : Searched} → answer ≡ searched_as a → Tells answer (verdict_text a)
+told a known e = rw e (tells a known)
 
-module _ (a : Answer Verdict) where
-  pub text-refused : {x : Refusal} → Err x ≡ searched_as a → refused_text x.number x.place ≡ verdict_text a
-  text-refused e = told a e
+module _ (a : Answer Verdict) (known : Numbered a) where
+  pub text-refused : {x : Refusal} → Err x ≡ searched_as a → refused_text (number_of x.reason) x.place ≡ verdict_text a
+  text-refused e = told a known e
 
   pub text-held : {m : ℕ} → Ok (Held m) ≡ searched_as a → word "HELD " ++ line_text m ≡ verdict_text a
-  text-held e = told a e
+  text-held e = told a known e
 
   pub text-stopped : {m : ℕ} → Ok (Stopped m) ≡ searched_as a → word "STOPPED " ++ line_text m ≡ verdict_text a
-  text-stopped e = told a e
+  text-stopped e = told a known e
 
 -- a break whose trace stands at the buffer's front
 pub record BreakText (a : Answer Verdict) (b : Break) (after : List ℕ) : Type 0 where
