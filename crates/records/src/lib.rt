@@ -196,14 +196,12 @@ pub fn bad_run(b: &[u8], base: usize, t: &[u8], n: usize, roles: usize) -> Optio
     requires { Sized t.now n × ((base ≤ 65536) × (roles ≤ 4)) }
     ensures { result ≡ place_as (bad_run (rows_of t.now) roles (run_records roles (part_at base b.now))) }
 {
-    let mut i = 0;
-    let mut start = 0;
-    while start < b.len() {
+    let size = 1 + roles;
+    for i in 0..b.len().div_ceil(size) {
+        let start = i * size;
         if !good_run(&b[start..], t, n, roles, i) {
             return Some(base + start);
         }
-        start += 1 + roles;
-        i += 1;
     }
     None
 }

@@ -30,6 +30,7 @@ fn read_full<R: Read>(reader: &mut R, buffer: &mut [u8]) -> io::Result<usize>
     ensures end { IfOk result (λ n. n < length buffer.new → IsAtEnd (R.remaining reader.new)) }
 {
     let mut done = 0;
+    // stays: a read may give fewer bytes than there is room for, so there is no range to go over
     while done < buffer.len() {
         let n = reader.read(&mut buffer[done..])?;
         if n == 0 {
@@ -50,8 +51,6 @@ pub fn print_verdict<R: Input + Print>(rt: &R, list: Listing) -> io::Result<Text
     let mut reader = rt.reader();
     let n = read_full(&mut reader, &mut file)?;
     let text = verdict_text(&file[..n], list);
-    let bytes = text.bytes;
-    let len = text.len;
-    rt.write_all(&bytes[..len])?;
+    rt.write_all(&text.bytes[..text.len])?;
     Ok(text)
 }

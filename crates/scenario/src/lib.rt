@@ -17,13 +17,7 @@ fn run_count(b: &[u8], roles: usize) -> usize
     requires { roles ≤ 4 }
     ensures { (at : ℕ) → result ≡ length (run_records roles (part_at at b.now)) }
 {
-    let mut i = 0;
-    let mut at = 0;
-    while at < b.len() {
-        at += 1 + roles;
-        i += 1;
-    }
-    i
+    b.len().div_ceil(1 + roles)
 }
 
 // Refusal 6, or none, of a framed file whose table has n rows: a record, or after all records a row that names an absent role.

@@ -34,26 +34,25 @@ fn empty() -> Text
 }
 
 // A text with one byte more.
-fn push(t: Text, b: u8) -> Text
+fn push(mut t: Text, b: u8) -> Text
     requires { t.len < 1024 }
     ensures { Adds t (b ∷ []) result }
 {
-    let at = t.len;
-    let mut bytes = t.bytes;
-    bytes[at] = b;
-    Text { bytes, len: at + 1 }
+    t.bytes[t.len] = b;
+    t.len += 1;
+    t
 }
 
 // A text with a word more.
-fn put(t: Text, word: &[u8]) -> Text
+fn put(mut t: Text, word: &[u8]) -> Text
     requires { t.len + length word.now ≤ 1024 }
     ensures { Adds t word.now result }
 {
     let at = t.len;
-    let len = at + word.len();
-    let mut bytes = t.bytes;
-    bytes[at..len].copy_from_slice(word);
-    Text { bytes, len }
+    let end = at + word.len();
+    t.bytes[at..end].copy_from_slice(word);
+    t.len = end;
+    t
 }
 
 // A text with a number more.

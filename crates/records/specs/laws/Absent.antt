@@ -1,6 +1,6 @@
 -- The first row that names an absent role. Assumes nothing.
 use Rattle.std.specs.Prelude.{ℕ, zero, suc, ◌+◌, ◌*◌, ◌≤◌, ◌<◌, ◌≡◌, refl, true, ◌||◌, not, List, [], ◌∷◌, ltb, eqb, get_or, drop}
-use Rattle.std.proofs.Common.{add-zero, ap, ◌∙◌, drop_of_length-le}
+use Rattle.std.proofs.Common.{ap, ◌∙◌, drop_of_length-le}
 use Rattle.std.proofs.Math.Numerals.{add-one}
 use native.Mathlib.Omega.{arith}
 use Rattle.std.proofs.Math.Bool.{false, or-true}
@@ -38,10 +38,6 @@ drop-row (x ∷ rows) (suc r) row e = drop-row rows r row e
 -- the first row from one on that names an absent role
 abbrev pub absent_left : List ℕ → ℕ → ℕ → ℕ → Option ℕ
 absent_left t roles base r = absent_role_from roles (base + 3 * r) (drop r (rows_of t))
-
--- from the first on it is that of all rows
-pub absent-all : (t : List ℕ) (roles base : ℕ) → absent_role_from roles base (rows_of t) ≡ absent_left t roles base 0
-absent-all t roles base = rw (add-zero base)
 
 module _ (t : List ℕ) (n roles base : ℕ) (sized : Sized t n) where
   -- behind the last there is none

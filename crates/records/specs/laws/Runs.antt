@@ -1,9 +1,12 @@
 -- Run records: which are good. Assumes nothing.
-use Rattle.std.specs.Prelude.{ℕ, zero, suc, ◌+◌, ◌-◌, ◌≤◌, ◌<◌, ◌≡◌, refl, Bool, false, ◌&&◌, List, [], ◌∷◌, ltb, leb, length, get_or, take, drop}
+use Rattle.std.specs.Prelude.{ℕ, zero, suc, ◌+◌, ◌-◌, ◌*◌, ◌≤◌, ◌<◌, ◌≡◌, refl, Bool, false, ◌&&◌, List, [], ◌∷◌, ltb, leb, length, get_or, take, drop}
 use Rattle.std.proofs.Common.{arith, sym, ap, ◌∙◌, le-leb, lt-ltb, le-ltb}
 use Rattle.std.proofs.Math.Seq.{get_or-take}
 use Rattle.std.proofs.lemmas.Bool.{lt-leb}
 use Rattle.std.specs.List.{list_all}
+use Rattle.std.specs.Int.{div_ceil}
+use Rattle.std.proofs.lemmas.Grind.{div_ceil_times}
+use Rattle.std.proofs.Math.Nat.{mul-le-mul_left}
 use Rattle.semantics.specs.Basic.{every}
 use Rattle.semantics.specs.Limits.{most_runs}
 use Rattle.semantics.specs.Table.{Row}
@@ -57,3 +60,12 @@ module _ (rows : List Row) (roles i start : ℕ) (s : List ℕ) where
 pub runs-all : (rows : List Row) (roles base : ℕ) (b : List ℕ) → bad_run rows roles (run_records roles (part_at base b)) ≡ first_bad (good_run rows roles) 0 (records_left (run_length roles) base b 0)
 unfolding bad_run run_records
 runs-all rows roles base b = ap (first_bad (good_run rows roles) 0) (left-all (run_length roles) base b)
+
+-- a run record with a number begins within the bytes if the number is below the count, which is the length divided by a record's and rounded up
+pub begins-within : (l roles i : ℕ) → i < div_ceil l (1 + roles) → i * (1 + roles) < l
+begins-within l roles i h =
+    omega (arith, (div_ceil_times l (1 + roles) (omega arith)).1, mul-le-mul_left (1 + roles) h)
+
+-- none begins behind the last
+pub ends-behind : (l roles : ℕ) → l ≤ div_ceil l (1 + roles) * (1 + roles)
+ends-behind l roles = (div_ceil_times l (1 + roles) (omega arith)).0

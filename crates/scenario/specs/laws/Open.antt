@@ -1,10 +1,12 @@
 -- The laws of Open's sequence of conditions, as the code goes through it. Assumes nothing.
-use Rattle.std.specs.Prelude.{ℕ, suc, ◌+◌, ◌<◌, ◌≤◌, ◌≡◌, length, Err, None, Ok, Some}
-use Rattle.std.proofs.Common.{arith, sym, ◌∙◌}
+use Rattle.std.specs.Prelude.{ℕ, zero, suc, ◌+◌, ◌*◌, ◌<◌, ◌≤◌, ◌≡◌, length, Err, None, Ok, Some}
+use Rattle.std.proofs.Common.{arith, add-one, sym, ◌∙◌}
 use Rattle.std.proofs.Math.Path.{refl, ap, fun_ext}
 use mathlib.Core.List.{List, [], ◌∷◌}
 use Rattle.std.proofs.Math.Option.{Option, none, some}
 use Rattle.std.proofs.lemmas.List.{length-map}
+use Rattle.std.specs.Int.{div_ceil}
+use Rattle.std.proofs.lemmas.Grind.{div_ceil_times}
 use Rattle.semantics.specs.Basic.{first_of}
 use Rattle.semantics.specs.Answer as definitions
 use Rattle.semantics.specs.Answer.{Answer, refused, checked, ◌>>=◌, ◌>>◌}
@@ -169,13 +171,13 @@ layout-right file rows good a b c d e f g h i = λ x.
     }
 
 -- the run records of a block, counted up to a place
-abbrev pub CountedTo : List ℕ → ℕ → ℕ → ℕ → Type 0
+abbrev CountedTo : List ℕ → ℕ → ℕ → ℕ → Type 0
 CountedTo b roles i at = (base : ℕ) → length (records_left (run_length roles) base b 0) ≡ i + length (records_left (run_length roles) base b at)
 
-pub counted_none : (b : List ℕ) (roles : ℕ) → CountedTo b roles 0 0
+counted_none : (b : List ℕ) (roles : ℕ) → CountedTo b roles 0 0
 counted_none b roles base = omega arith
 
-pub counted-more : (b : List ℕ) (roles i at : ℕ) → at < length b → CountedTo b roles i at → CountedTo b roles (i + 1) (at + (1 + roles))
+counted-more : (b : List ℕ) (roles i at : ℕ) → at < length b → CountedTo b roles i at → CountedTo b roles (i + 1) (at + (1 + roles))
 counted-more b roles i at l counted base =
     let e : at + suc roles ≡ at + (1 + roles) = omega arith in
     let next : length (records_left (run_length roles) base b at) ≡ suc (length (records_left (run_length roles) base b (at + suc roles))) =
@@ -184,9 +186,23 @@ counted-more b roles i at l counted base =
     ap (λ (n : ℕ). length (records_left (run_length roles) base b n)) e in
     omega (arith, counted base, next, moved)
 
-pub counted-all : (b : List ℕ) (roles i at : ℕ) → length b ≤ at → CountedTo b roles i at → (base : ℕ) → i ≡ length (run_records roles (part_at base b))
+counted-all : (b : List ℕ) (roles i at : ℕ) → length b ≤ at → CountedTo b roles i at → (base : ℕ) → i ≡ length (run_records roles (part_at base b))
 unfolding run_records
 counted-all b roles i at l counted base =
     let none : length (records_left (run_length roles) base b at) ≡ 0 = ap (λ (ps : List Part). length ps) (left-none (run_length roles) base b at l) in
     let all : length (records (run_length roles) (part_at base b)) ≡ length (records_left (run_length roles) base b 0) = ap (λ (ps : List Part). length ps) (left-all (run_length roles) base b) in
     omega (arith, counted base, none, all)
+
+-- so many whole records are passed, as long as one begins before each
+counted-to : (b : List ℕ) (roles i : ℕ) → i * (1 + roles) < length b + (1 + roles) → CountedTo b roles i (i * (1 + roles))
+counted-to b roles zero l = let z : 0 * (1 + roles) ≡ 0 = omega arith in rw z (counted_none b roles)
+counted-to b roles (suc i) l =
+    let e : suc i * (1 + roles) ≡ i * (1 + roles) + (1 + roles) = omega arith in
+    rw (e, ← add-one i) (counted-more b roles i (i * (1 + roles)) (omega arith) (counted-to b roles i (omega arith)))
+
+-- there are as many as the length divided by theirs, rounded up
+pub counted-ceil : (b : List ℕ) (roles base : ℕ) → div_ceil (length b) (1 + roles) ≡ length (run_records roles (part_at base b))
+counted-ceil b roles base =
+    let q = div_ceil (length b) (1 + roles) in
+    let t = div_ceil_times (length b) (1 + roles) (omega arith) in
+    counted-all b roles q (q * (1 + roles)) t.0 (counted-to b roles q t.1) base
