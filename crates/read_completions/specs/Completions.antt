@@ -1,5 +1,5 @@
 -- Completions of a partial choice of values, and sets of classes that miss none of those that a variable gets. Assumes nothing.
-use Rattle.std.specs.Prelude.{ℕ, ◌<◌, ◌≤◌, ◌≡◌, Bool, true, List, T, length, get_or}
+use Rattle.std.specs.Prelude.{ℕ, ◌<◌, ◌≤◌, ◌≡◌, Bool, true, List, Option, IsSomeAnd, T, length, get_or}
 use Rattle.semantics.specs.Term.{Term}
 use Rattle.semantics.specs.Inference.{Derives}
 use Rattle.semantics.specs.Value.{beneath}
@@ -10,7 +10,7 @@ use Rattle.knowledge.specs.Steps.{class_at, kind_at, Inside}
 use Rattle.read_fits.specs.Fits.{Extension, Gets, Needed}
 use Rattle.variables.specs.declared.VariableRows.{VariableRows}
 use Rattle.variables.specs.Variables.{In, AreVariables}
-use Rattle.read_domains.specs.Domains.{set_cells, InRow, Candidate}
+use Rattle.read_domains.specs.Domains.{InRow, Candidate}
 use Rattle.read_completions.specs.declared.Pattern.{Pattern}
 
 -- the table, classes and marks of a partial choice, and the pattern that is read
@@ -46,7 +46,7 @@ module _ {bytes classes : List ℕ} {marks : List Bool} {pattern : Pattern} (k :
   GetsClass i c = Gets k.extension (get_or pattern.vars.rows i 0) c
 
   -- each variable gets a class of its domain
-  abbrev pub InDomains : List Bool → Type 0
+  abbrev pub InDomains : List (List Bool) → Type 0
   InDomains dom = (i : ℕ) → i < pattern.vars.count → (c : ℕ) → GetsClass i c → InRow dom i c
 
   -- the new value of a row is derivable
@@ -63,20 +63,20 @@ module _ {bytes classes : List ℕ} {marks : List Bool} {pattern : Pattern} (k :
 
 module _ (bytes classes : List ℕ) (marks : List Bool) (pattern : Pattern) where
   -- the classes of variables that are derivable themselves
-  abbrev pub MarkedDomains : List Bool → Type 0
+  abbrev pub MarkedDomains : List (List Bool) → Type 0
   MarkedDomains marked =
       (k : Completion bytes classes marks pattern) (i : ℕ) → i < pattern.vars.count → GetsDerivable k (get_or pattern.vars.rows i 0) → (c : ℕ) → GetsClass k i c → InRow marked i c
 
   -- what the search for completions begins with
-  pub record MarkedScene (marked : List Bool) : Type 0 where
+  pub record MarkedScene (marked : List (List Bool)) : Type 0 where
     pub scene : Scene bytes classes marks pattern
     pub known : MarkedDomains marked
 
-  module _ (dom : List Bool) where
+  module _ (dom : List (List Bool)) where
     -- what rows need where row r gets the value of a marked cell: no need is refused, and each is met
-    abbrev pub NeedsAt : ℕ → ℕ → Bool → List ℕ → Type 0
-    NeedsAt r cell met need =
-        (k : Completion bytes classes marks pattern) → InDomains k dom → (y w : ℕ) → cell_of y w ≡ cell → FromMark k r y w → (met ≡ true) × Needed k.extension need
+    abbrev pub NeedsAt : ℕ → ℕ → Option (List ℕ) → Type 0
+    NeedsAt r cell needs =
+        (k : Completion bytes classes marks pattern) → InDomains k dom → (y w : ℕ) → cell_of y w ≡ cell → FromMark k r y w → IsSomeAnd needs (Needed k.extension)
 
     -- the classes that variable i gets where row r gets the value of a marked cell
     abbrev pub Matched : ℕ → ℕ → List Bool → Type 0
@@ -88,16 +88,16 @@ module _ (bytes classes : List ℕ) (marks : List Bool) (pattern : Pattern) wher
     MissesNone i r P = (k : Completion bytes classes marks pattern) → InDomains k dom → GetsDerivable k r → (c : ℕ) → GetsClass k i c → P c
 
     -- a set for each row
-    pub record RowsMissNone (i : ℕ) (sets : List Bool) : Type 0 where
-      pub size : length sets ≡ set_cells
+    pub record RowsMissNone (i : ℕ) (sets : List (List Bool)) : Type 0 where
+      pub size : length sets ≡ 96
       pub each : (y : ℕ) → y < 96 → MissesNone i y (InRow sets y)
 
     -- what the set of row r is made of: those of its parts
-    abbrev pub SetsBelow : List Bool → ℕ → ℕ → List Bool → Type 0
+    abbrev pub SetsBelow : List (List Bool) → ℕ → ℕ → List (List Bool) → Type 0
     SetsBelow marked i r sets = MarkedScene marked × (RowsMissNone i sets × ((i < pattern.vars.count) × (r < pattern.scope.rows)))
 
     -- domains that miss no completion with which the pattern is derivable, where those before miss none
-    abbrev pub CompletionsKept : List Bool → Type 0
+    abbrev pub CompletionsKept : List (List Bool) → Type 0
     CompletionsKept less = (k : Completion bytes classes marks pattern) → InDomains k dom → GetsDerivable k pattern.row → InDomains k less
 
     -- a test that is true where there is such a completion
@@ -105,18 +105,18 @@ module _ (bytes classes : List ℕ) (marks : List Bool) (pattern : Pattern) wher
     Completable answer = (k : Completion bytes classes marks pattern) → InDomains k dom → GetsDerivable k pattern.row → answer ≡ true
 
 -- the classes that variable i gets where row r, a variable too, is derivable, whatever the table, its classes and marks
-abbrev pub VariableSet : Pattern → List Bool → List Bool → ℕ → ℕ → List Bool → Type 0
+abbrev pub VariableSet : Pattern → List (List Bool) → List (List Bool) → ℕ → ℕ → List Bool → Type 0
 VariableSet pattern dom marked i r set =
     (bytes classes : List ℕ) (marks : List Bool) → MarkedScene bytes classes marks pattern marked → MissesNone bytes classes marks pattern dom i r (In set)
 
 -- each domain has a class
-abbrev pub NoneEmpty : VariableRows → List Bool → Type 0
+abbrev pub NoneEmpty : VariableRows → List (List Bool) → Type 0
 NoneEmpty vars dom = (i : ℕ) → i < vars.count → (c : ℕ) × ((c < cell_count) × InRow dom i c)
 
 -- a set with the class that variable i needs, or with every class if it needs none
-pub record NeededAdded (vars : VariableRows) (i : ℕ) (met : Bool) (need : List ℕ) (set more : List Bool) : Type 0 where
+pub record NeededAdded (vars : VariableRows) (i : ℕ) (need : List ℕ) (set more : List Bool) : Type 0 where
   pub keeps : (c : ℕ) → c < cell_count → In set c → In more c
-  pub adds : met ≡ true → (c : ℕ) → c < cell_count → (get_or need (get_or vars.rows i 0) 0 < absent → c ≡ get_or need (get_or vars.rows i 0) 0) → In more c
+  pub adds : (c : ℕ) → c < cell_count → (get_or need (get_or vars.rows i 0) 0 < absent → c ≡ get_or need (get_or vars.rows i 0) 0) → In more c
 
 -- each variable beneath row x that had no value has one that it may take
 abbrev pub AllTake : {bytes : List ℕ} {n runs : ℕ} {classes : List ℕ} {u : ℕ} → Extension bytes n runs classes u → ℕ → Type 0

@@ -2,7 +2,7 @@
 // none falls away, and tried one by one where variables are tied to each other.
 #![tactic(auto)]
 
-ghost use Rattle.std.specs.Prelude.{◌≡◌, false, ℕ, ◌<◌, ◌≤◌, length, get_or};
+ghost use Rattle.std.specs.Prelude.{◌≡◌, false, ℕ, ◌<◌, ◌≤◌, length, get_or, IfSome};
 ghost use Rattle.rows.specs.Rows.{Shape};
 ghost use Rattle.cells.specs.Cells.{cell_count};
 ghost use Rattle.variables.specs.Variables.{In, AreVariables};
@@ -10,8 +10,7 @@ ghost use Rattle.read_possible.specs.Tests.{RowInRun};
 ghost use Rattle.read_completions.specs.Completions.{Scene, MarkedScene, NeedsAt, NeededAdded, Matched, MissesNone, SetsBelow, VariableSet, NoneEmpty, CompletionsKept, Completable, Completes};
 
 use cells::{Cells, Scope, cell};
-use read_domains::{Domains, Sets};
-use read_fits::Needs;
+use read_domains::{ClassSet, Domains};
 use rows::Kind;
 use variables::VariableRows;
 
@@ -29,69 +28,40 @@ fn needs_at(
     classes: &[u16],
     marks: &[bool],
     pattern: Pattern,
-    dom: &[bool; Domains::CELLS],
+    dom: &Domains,
     r: usize,
     c: usize,
-) -> Needs
+) -> Option<[u16; 96]>
     requires { Scene t.now classes.now marks.now pattern × ((r < pattern.scope.rows) × (c < cell_count)) }
-    ensures { NeedsAt t.now classes.now marks.now pattern dom.now r c result.met result.rows }
+    ensures { NeedsAt t.now classes.now marks.now pattern dom.now r c result }
 {
-    let none = [Cells::ABSENT; 96];
     let y = c % 96;
-    if pattern.scope.rows <= y {
-        return Needs {
-            met: false,
-            rows: none,
-        };
-    }
     let class = classes[c];
-    if class as usize != c {
-        return Needs {
-            met: false,
-            rows: none,
-        };
+    if pattern.scope.rows <= y
+        || usize::from(class) != c
+        || rows::kind_of(t, y) != rows::kind_of(t, r)
+    {
+        return None;
     }
-    if rows::kind_of(t, y) != rows::kind_of(t, r) {
-        return Needs {
-            met: false,
-            rows: none,
-        };
-    }
-    let needs = read_fits::needs_of(t, classes, pattern.scope, r, class);
-    let need = needs.rows;
-    let vars = pattern.vars;
-    if read_domains::fit(dom, vars, need) {
-        return needs;
-    }
-    Needs {
-        met: false,
-        rows: none,
+    let need = read_fits::needs_of(t, classes, pattern.scope, r, class)?;
+    if read_domains::fit(dom, pattern.vars, &need) {
+        Some(need)
+    } else {
+        None
     }
 }
 
-// The set with the class that variable i needs, or with every class if it needs none.
-fn admit(
-    set: [bool; Cells::COUNT],
-    vars: VariableRows,
-    i: usize,
-    needs: Needs,
-) -> [bool; Cells::COUNT]
+// Adds the class that variable i needs to a set, or every class if it needs none.
+fn admit(set: &mut ClassSet, vars: VariableRows, i: usize, need: &[u16; 96])
     requires { (i < vars.count) × ((vars.count ≤ 8) × ((j : ℕ) → j < vars.count → get_or vars.rows j 0 < 96)) }
-    ensures { NeededAdded vars i needs.met needs.rows set result }
+    ensures { NeededAdded vars i need.now set.old set.new }
 {
-    if !needs.met {
-        return set;
-    }
-    let rows = vars.rows;
-    let need = needs.rows;
-    let q = rows[i];
-    let class = need[q];
+    let class = need[vars.rows[i]];
     if class < Cells::ABSENT {
-        let mut more = set;
-        more[class as usize] = true;
-        return more;
+        set[usize::from(class)] = true;
+    } else {
+        *set = [true; Cells::COUNT];
     }
-    [true; Cells::COUNT]
 }
 
 // The classes that variable i gets where row r gets the value of a marked cell.
@@ -100,70 +70,58 @@ fn matched(
     classes: &[u16],
     marks: &[bool],
     pattern: Pattern,
-    dom: &[bool; Domains::CELLS],
+    dom: &Domains,
     i: usize,
     r: usize,
-) -> [bool; Cells::COUNT]
+) -> ClassSet
     requires { Scene t.now classes.now marks.now pattern × ((i < pattern.vars.count) × (r < pattern.scope.rows)) }
     ensures { Matched t.now classes.now marks.now pattern dom.now i r result }
 {
-    let vars = pattern.vars;
     let mut set = [false; Cells::COUNT];
-    let mut c = 0;
-    while c < Cells::COUNT {
+    for c in 0..Cells::COUNT {
         if marks[c] {
-            let needs = needs_at(t, classes, marks, pattern, dom, r, c);
-            let more = admit(set, vars, i, needs);
-            set = more;
+            if let Some(need) = needs_at(t, classes, marks, pattern, dom, r, c) {
+                admit(&mut set, pattern.vars, i, &need);
+            }
         }
-        c += 1;
     }
     set
 }
 
 // The classes that variable i gets where an unset variable is derivable: its own are those that are marked, and another must have one such class.
-fn leaf(
-    dom: &[bool; Domains::CELLS],
-    marked: &[bool; Domains::CELLS],
-    pattern: Pattern,
-    i: usize,
-    r: usize,
-) -> [bool; Cells::COUNT]
+fn leaf(dom: &Domains, marked: &Domains, pattern: Pattern, i: usize, r: usize) -> ClassSet
     requires { (i < pattern.vars.count) × (pattern.vars.count ≤ 8) }
     ensures { VariableSet pattern dom.now marked.now i r result }
 {
-    let vars = pattern.vars;
-    let slot = read_domains::slot_of(vars, r);
-    if slot == vars.count {
-        return [true; Cells::COUNT];
+    match read_domains::slot_of(pattern.vars, r) {
+        None => [true; Cells::COUNT],
+        Some(slot) => {
+            if slot == i {
+                marked[i]
+            } else {
+                [read_domains::meet(&dom[slot], &marked[slot]); Cells::COUNT]
+            }
+        }
     }
-    if slot == i {
-        return read_domains::domain_of(marked, i);
-    }
-    if read_domains::meet(dom, marked, slot) {
-        return [true; Cells::COUNT];
-    }
-    [false; Cells::COUNT]
 }
 
 // The classes that variable i gets where row r is derivable, by those of its parts.
 fn set_at(
-    sets: &[bool],
+    sets: &[ClassSet; 96],
     t: &[u8],
     classes: &[u16],
     marks: &[bool],
     pattern: Pattern,
-    dom: &[bool; Domains::CELLS],
-    marked: &[bool; Domains::CELLS],
+    dom: &Domains,
+    marked: &Domains,
     i: usize,
     r: usize,
-) -> [bool; Cells::COUNT]
+) -> ClassSet
     requires { SetsBelow t.now classes.now marks.now pattern dom.now marked.now i r sets.now }
     ensures { MissesNone t.now classes.now marks.now pattern dom.now i r (In result) }
 {
     if knowledge::class_at(classes, r, pattern.scope.run) < Cells::ABSENT {
-        let mark = marks[cell(r, pattern.scope.run)];
-        return [mark; Cells::COUNT];
+        return [marks[cell(r, pattern.scope.run)]; Cells::COUNT];
     }
     let kind = rows::kind_of(t, r);
     if kind < Kind::FIRST_MADE {
@@ -172,14 +130,17 @@ fn set_at(
     if kind == Kind::PAIR {
         return read_domains::join(
             [false; Cells::COUNT],
-            sets,
-            rows::left_of(t, r),
-            cells::second_of(t, r),
+            &sets[rows::left_of(t, r)],
+            &sets[cells::second_of(t, r)],
         );
     }
     let set = matched(t, classes, marks, pattern, dom, i, r);
     if kind == Kind::ENCRYPTED {
-        return read_domains::join(set, sets, rows::left_of(t, r), cells::second_of(t, r));
+        return read_domains::join(
+            set,
+            &sets[rows::left_of(t, r)],
+            &sets[cells::second_of(t, r)],
+        );
     }
     set
 }
@@ -190,235 +151,187 @@ fn set_of(
     classes: &[u16],
     marks: &[bool],
     pattern: Pattern,
-    dom: &[bool; Domains::CELLS],
-    marked: &[bool; Domains::CELLS],
+    dom: &Domains,
+    marked: &Domains,
     below: &[bool; 96],
     i: usize,
-) -> [bool; Cells::COUNT]
+) -> ClassSet
     requires { MarkedScene t.now classes.now marks.now pattern marked.now × (i < pattern.vars.count) }
     ensures { MissesNone t.now classes.now marks.now pattern dom.now i pattern.row (In result) }
 {
-    let x = pattern.row;
-    let mut sets = [true; Sets::CELLS];
-    let mut r = 0;
-    while r <= x {
+    let mut sets = [[true; Cells::COUNT]; 96];
+    for r in 0..=pattern.row {
         if below[r] {
-            let set = set_at(&sets, t, classes, marks, pattern, dom, marked, i, r);
-            read_domains::put(&mut sets, r, set);
+            sets[r] = set_at(&sets, t, classes, marks, pattern, dom, marked, i, r);
         }
-        r += 1;
     }
-    read_domains::join([false; Cells::COUNT], &sets, x, x)
+    sets[pattern.row]
 }
 
 // Whether variable i may get more than one class. The first is always looked at, since any shows that there is no completion.
-fn is_open(dom: &[bool; Domains::CELLS], i: usize) -> bool
+fn is_open(dom: &Domains, i: usize) -> bool
     requires { i < 8 }
 {
-    if i == 0 {
-        return true;
-    }
-    1 < read_domains::size(dom, i)
+    i == 0 || 1 < read_domains::size(&dom[i])
 }
 
 // The domains, each that has more than one class narrowed once to those that its variable gets where the pattern is derivable.
 fn narrowed(
-    dom: [bool; Domains::CELLS],
+    dom: Domains,
     t: &[u8],
     classes: &[u16],
     marks: &[bool],
     pattern: Pattern,
-    marked: &[bool; Domains::CELLS],
+    marked: &Domains,
     below: &[bool; 96],
-) -> [bool; Domains::CELLS]
+) -> Domains
     requires { MarkedScene t.now classes.now marks.now pattern marked.now }
     ensures { CompletionsKept t.now classes.now marks.now pattern dom result }
 {
-    let vars = pattern.vars;
     let mut less = dom;
-    let mut i = 0;
-    while i < vars.count {
+    for i in 0..pattern.vars.count {
         if is_open(&less, i) {
             let set = set_of(t, classes, marks, pattern, &less, marked, below, i);
-            let next = read_domains::narrow(less, i, set);
-            less = next;
+            read_domains::narrow(&mut less, i, &set);
         }
-        i += 1;
     }
     less
 }
 
-// How many classes all domains have together.
-fn total(dom: &[bool; Domains::CELLS], vars: VariableRows) -> usize
+// How many classes each domain has.
+fn sizes(dom: &Domains, vars: VariableRows) -> [usize; 8]
     requires { vars.count ≤ 8 }
 {
-    let mut sum = 0;
-    let mut i = 0;
-    while i < vars.count {
-        sum += read_domains::size(dom, i);
-        i += 1;
+    let mut sizes = [0; 8];
+    for i in 0..vars.count {
+        sizes[i] = read_domains::size(&dom[i]);
     }
-    sum
+    sizes
 }
 
 // The domains, narrowed until no class falls away.
 fn settled(
-    dom: [bool; Domains::CELLS],
+    dom: Domains,
     t: &[u8],
     classes: &[u16],
     marks: &[bool],
     pattern: Pattern,
-    marked: &[bool; Domains::CELLS],
+    marked: &Domains,
     below: &[bool; 96],
-) -> [bool; Domains::CELLS]
+) -> Domains
     requires { MarkedScene t.now classes.now marks.now pattern marked.now }
     ensures { CompletionsKept t.now classes.now marks.now pattern dom result }
 {
-    let vars = pattern.vars;
     let mut less = dom;
-    let mut round: usize = 0;
-    while round < Cells::COUNT {
-        let before = total(&less, vars);
-        let next = narrowed(less, t, classes, marks, pattern, marked, below);
-        less = next;
-        if total(&less, vars) == before {
+    for _ in 0..Cells::COUNT {
+        let before = sizes(&less, pattern.vars);
+        less = narrowed(less, t, classes, marks, pattern, marked, below);
+        if sizes(&less, pattern.vars) == before {
             return less;
         }
-        round += 1;
     }
     less
 }
 
 // Whether a domain has no class.
-fn is_empty(dom: &[bool; Domains::CELLS], vars: VariableRows) -> bool
+fn is_empty(dom: &Domains, vars: VariableRows) -> bool
     requires { vars.count ≤ 8 }
     ensures { NoneEmpty vars dom.now → result ≡ false }
 {
-    let mut i = 0;
-    while i < vars.count {
-        if read_domains::size(dom, i) == 0 {
+    for i in 0..vars.count {
+        if read_domains::size(&dom[i]) == 0 {
             return true;
         }
-        i += 1;
     }
     false
 }
 
-// How many classes each domain has.
-fn sizes(dom: &[bool; Domains::CELLS], vars: VariableRows) -> [usize; 8]
-    requires { vars.count ≤ 8 }
+// The variable with the smallest domain of those beneath a row that may get more than one class, and of one that is given, if there are two such; or else the given one.
+fn smallest(
+    vars: VariableRows,
+    sizes: &[usize; 8],
+    under: &[bool; 96],
+    given: Option<usize>,
+) -> Option<usize>
+    requires rows { (vars.count ≤ 8) × ((j : ℕ) → j < vars.count → get_or vars.rows j 0 < 96) }
+    requires given { IfSome given (λ i. i < vars.count) }
+    ensures { IfSome result (λ i. i < vars.count) }
 {
-    let mut sizes = [0; 8];
-    let mut i = 0;
-    while i < vars.count {
-        sizes[i] = read_domains::size(dom, i);
-        i += 1;
-    }
-    sizes
-}
-
-// The variable with the smallest domain of those beneath a row that may get more than one class, if there are two such; or else one that is given.
-fn smallest(vars: VariableRows, sizes: [usize; 8], under: [bool; 96], given: usize) -> usize
-    requires { (vars.count ≤ 8) × ((j : ℕ) → j < vars.count → get_or vars.rows j 0 < 96) }
-{
-    let rows = vars.rows;
-    let mut one = false;
-    let mut two = false;
+    let mut found: usize = 0;
     let mut best = given;
-    let mut i = 0;
-    while i < vars.count {
-        if under[rows[i]] {
-            if 1 < sizes[i] {
-                if one {
-                    two = true;
-                }
-                one = true;
-                if vars.count <= best {
-                    best = i;
-                }
-                if best < 8 {
-                    if sizes[i] < sizes[best] {
-                        best = i;
-                    }
-                }
-            }
+    for i in 0..vars.count {
+        if under[vars.rows[i]] && 1 < sizes[i] {
+            found += 1;
+            best = match best {
+                Some(b) if sizes[b] <= sizes[i] => Some(b),
+                _ => Some(i),
+            };
         }
-        i += 1;
     }
-    if two {
-        return best;
-    }
-    given
+    if found < 2 { given } else { best }
 }
 
-// A variable that is tied to another by a key or an encryption, both having more than one class to get; the number of variables if there is none. Any choice
-// is right: variables that are not tied need not be tried.
+// A variable that is tied to another by a key or an encryption, both having more than one class to get, if there is one. Any choice is right: variables that
+// are not tied need not be tried.
 fn tied(
     t: &[u8],
     classes: &[u16],
     pattern: Pattern,
-    dom: &[bool; Domains::CELLS],
+    dom: &Domains,
     below: &[bool; 96],
-) -> usize
+) -> Option<usize>
     requires shape { Shape t.now pattern.scope.rows pattern.scope.runs }
     requires classes_len { (length classes.now ≡ cell_count) × ((pattern.scope.run ≤ pattern.scope.runs) × AreVariables t.now pattern.scope.rows pattern.vars) }
+    ensures { IfSome result (λ i. i < pattern.vars.count) }
 {
-    let vars = pattern.vars;
-    let n = pattern.scope.rows;
-    let counts = sizes(dom, vars);
-    let mut best = vars.count;
-    let mut r = 0;
-    while r < n {
+    let counts = sizes(dom, pattern.vars);
+    let mut best = None;
+    for r in 0..pattern.scope.rows {
         if below[r] {
             let kind = rows::kind_of(t, r);
-            if Kind::FIRST_MADE <= kind {
-                if kind != Kind::PAIR {
-                    if knowledge::class_at(classes, r, pattern.scope.run) == Cells::ABSENT {
-                        best = smallest(vars, counts, variables::beneath(t, n, r), best);
-                    }
-                }
+            if Kind::FIRST_MADE <= kind
+                && kind != Kind::PAIR
+                && knowledge::class_at(classes, r, pattern.scope.run) == Cells::ABSENT
+            {
+                let under = variables::beneath(t, pattern.scope.rows, r);
+                best = smallest(pattern.vars, &counts, &under, best);
             }
         }
-        r += 1;
     }
     best
 }
 
 // Whether the variables may get classes of the domains with which the pattern is derivable.
 fn completable(
-    dom: [bool; Domains::CELLS],
+    dom: Domains,
     t: &[u8],
     classes: &[u16],
     marks: &[bool],
     pattern: Pattern,
-    marked: &[bool; Domains::CELLS],
+    marked: &Domains,
     below: &[bool; 96],
     depth: usize,
 ) -> bool
     requires { MarkedScene t.now classes.now marks.now pattern marked.now }
     ensures { Completable t.now classes.now marks.now pattern dom result }
 {
-    let vars = pattern.vars;
     let less = settled(dom, t, classes, marks, pattern, marked, below);
-    if is_empty(&less, vars) {
+    if is_empty(&less, pattern.vars) {
         return false;
     }
     if depth == 0 {
         return true;
     }
-    let i = tied(t, classes, pattern, &less, below);
-    if vars.count <= i {
+    let Some(i) = tied(t, classes, pattern, &less, below) else {
         return true;
-    }
-    let mut c = 0;
-    while c < Cells::COUNT {
-        if less[i * Cells::COUNT + c] {
+    };
+    for c in 0..Cells::COUNT {
+        if less[i][c] {
             let only = read_domains::narrow_to(less, i, c);
             if completable(only, t, classes, marks, pattern, marked, below, depth - 1) {
                 return true;
             }
         }
-        c += 1;
     }
     false
 }

@@ -1,53 +1,33 @@
 // The classes of the values that variables may take, and sets of classes: what a test of partial choices narrows.
 #![tactic(auto)]
 
-ghost use Rattle.std.specs.Prelude.{◌≡◌, true, List, ℕ, ◌+◌, ◌*◌, ◌<◌, ◌≤◌, length, get_or};
+ghost use Rattle.std.specs.Prelude.{◌≡◌, true, List, ℕ, ◌<◌, ◌≤◌, length, get_or, count_by, IfSome};
 ghost use Rattle.cells.specs.Cells.{cell_count};
 ghost use Rattle.knowledge.specs.Steps.{kind_at};
 ghost use Rattle.variables.specs.Variables.{In, AreVariables};
-ghost use Rattle.read_domains.specs.Domains.{set_cells, Scoped, InRow, Listed, ListedAt, Narrows, NarrowsTo, Joins, RowPut, Fit, Slot};
+ghost use Rattle.read_domains.specs.Domains.{Scoped, InRow, Listed, ListedAt, Narrows, NarrowsTo, Joins, Fit, AtSlot};
 
 use cells::{Cells, Scope};
 use variables::VariableRows;
 
-// A set of classes for each of 8 variables, one after the other.
-#[derive(Drop)]
-pub struct Domains {}
+// A set of classes.
+pub type ClassSet = [bool; Cells::COUNT];
 
-impl Domains {
-    pub const CELLS: usize = 8 * Cells::COUNT;
-}
+// A set of classes for each of 8 variables.
+pub type Domains = [ClassSet; 8];
 
-// A set of classes for each of 96 rows, one after the other.
-#[derive(Drop)]
-pub struct Sets {}
-
-impl Sets {
-    pub const CELLS: usize = 96 * Cells::COUNT;
-}
-
-// The set with the class of cell c, if it is marked where only marked ones count.
-fn with_value(
-    set: [bool; Cells::COUNT],
-    classes: &[u16],
-    marks: &[bool],
-    only: bool,
-    c: usize,
-) -> [bool; Cells::COUNT]
+// Adds the class of cell c to a set, if it is marked where only marked ones count.
+fn add_value(set: &mut ClassSet, classes: &[u16], marks: &[bool], only: bool, c: usize)
     requires { (length classes.now ≡ cell_count) × ((length marks.now ≡ cell_count) × (c < cell_count)) }
-    ensures { (t : List ℕ) (n runs q : ℕ) → ListedAt t n runs classes.now marks.now only q c set result }
+    ensures { (t : List ℕ) (n runs q : ℕ) → ListedAt t n runs classes.now marks.now only q c set.old set.new }
 {
-    let mut more = set;
-    if only {
-        if !marks[c] {
-            return more;
-        }
+    if only && !marks[c] {
+        return;
     }
     let class = knowledge::class_at(classes, c % 96, c / 96);
     if class < Cells::ABSENT {
-        more[class as usize] = true;
+        set[usize::from(class)] = true;
     }
-    more
 }
 
 // The classes of the values that the variable of row q may take, or of those that are marked.
@@ -58,50 +38,41 @@ fn values_of(
     scope: Scope,
     only: bool,
     q: usize,
-) -> [bool; Cells::COUNT]
+) -> ClassSet
     requires { Scoped t.now classes.now marks.now scope × ((q < scope.rows) × (kind_at t.now q ≡ 6)) }
     ensures { Listed t.now scope.rows scope.runs classes.now marks.now only q (In result) }
 {
     let mut set = [false; Cells::COUNT];
-    let mut c = 0;
-    while c < Cells::COUNT {
+    for c in 0..Cells::COUNT {
         if variables::may_take(t, scope.rows, scope.runs, q, c % 96, c / 96) {
-            let more = with_value(set, classes, marks, only, c);
-            set = more;
+            add_value(&mut set, classes, marks, only, c);
         }
-        c += 1;
     }
     set
 }
 
-// The domains, that of variable i narrowed to a set.
-pub fn narrow(
-    dom: [bool; Domains::CELLS],
-    i: usize,
-    set: [bool; Cells::COUNT],
-) -> [bool; Domains::CELLS]
+// Narrows the domain of variable i to a set.
+pub fn narrow(dom: &mut Domains, i: usize, set: &ClassSet)
     requires { i < 8 }
-    ensures { Narrows dom i set result }
+    ensures { Narrows dom.old i set.now dom.new }
 {
-    let mut less = dom;
-    let mut c = 0;
-    while c < Cells::COUNT {
+    for c in 0..Cells::COUNT {
         if !set[c] {
-            less[i * Cells::COUNT + c] = false;
+            dom[i][c] = false;
         }
-        c += 1;
     }
-    less
 }
 
-// The domains, that of variable i narrowed to one class.
-pub fn narrow_to(dom: [bool; Domains::CELLS], i: usize, class: usize) -> [bool; Domains::CELLS]
+// The domains, that of variable i narrowed to one of its classes.
+pub fn narrow_to(dom: Domains, i: usize, class: usize) -> Domains
     requires { (i < 8) × (class < cell_count) }
     ensures { NarrowsTo dom i class result }
 {
     let mut one = [false; Cells::COUNT];
     one[class] = true;
-    narrow(dom, i, one)
+    let mut less = dom;
+    less[i] = one;
+    less
 }
 
 // For each variable the classes of the values that it may take, or of those that are marked.
@@ -112,131 +83,62 @@ pub fn of_variables(
     scope: Scope,
     only: bool,
     vars: VariableRows,
-) -> [bool; Domains::CELLS]
+) -> Domains
     requires { Scoped t.now classes.now marks.now scope × AreVariables t.now scope.rows vars }
     ensures { (i : ℕ) → i < vars.count → Listed t.now scope.rows scope.runs classes.now marks.now only (get_or vars.rows i 0) (InRow result i) }
 {
-    let rows = vars.rows;
-    let mut dom = [true; Domains::CELLS];
-    let mut i = 0;
-    while i < vars.count {
-        let set = values_of(t, classes, marks, scope, only, rows[i]);
-        let less = narrow(dom, i, set);
-        dom = less;
-        i += 1;
+    let mut dom = [[true; Cells::COUNT]; 8];
+    for i in 0..vars.count {
+        dom[i] = values_of(t, classes, marks, scope, only, vars.rows[i]);
     }
     dom
 }
 
-// The set with the classes that are in both of two rows of sets.
-pub fn join(set: [bool; Cells::COUNT], sets: &[bool], l: usize, s: usize) -> [bool; Cells::COUNT]
-    requires { (length sets.now ≡ set_cells) × ((l < 96) × (s < 96)) }
-    ensures { Joins set sets.now l s result }
+// The set with the classes that are in both of two others.
+pub fn join(set: ClassSet, left: &ClassSet, right: &ClassSet) -> ClassSet
+    ensures { Joins set left.now right.now result }
 {
     let mut more = set;
-    let mut c = 0;
-    while c < Cells::COUNT {
-        if sets[l * Cells::COUNT + c] {
-            if sets[s * Cells::COUNT + c] {
-                more[c] = true;
-            }
+    for c in 0..Cells::COUNT {
+        if left[c] && right[c] {
+            more[c] = true;
         }
-        c += 1;
     }
     more
 }
 
-// Writes a set as row r of sets.
-pub fn put(sets: &mut [bool], r: usize, set: [bool; Cells::COUNT])
-    requires { (length sets.old ≡ set_cells) × (r < 96) }
-    ensures { RowPut sets.old r set sets.new }
-{
-    let mut c = 0;
-    while c < Cells::COUNT {
-        sets[r * Cells::COUNT + c] = set[c];
-        c += 1;
-    }
-}
-
-// The domain of variable i as a set.
-pub fn domain_of(dom: &[bool; Domains::CELLS], i: usize) -> [bool; Cells::COUNT]
-    requires { i < 8 }
-    ensures { (c : ℕ) → c < cell_count → InRow dom.now i c → In result c }
-{
-    let mut set = [false; Cells::COUNT];
-    let mut c = 0;
-    while c < Cells::COUNT {
-        set[c] = dom[i * Cells::COUNT + c];
-        c += 1;
-    }
-    set
-}
-
 // Whether what each variable needs is in its domain.
-pub fn fit(dom: &[bool; Domains::CELLS], vars: VariableRows, need: [u16; 96]) -> bool
+pub fn fit(dom: &Domains, vars: VariableRows, need: &[u16; 96]) -> bool
     requires { (vars.count ≤ 8) × ((j : ℕ) → j < vars.count → get_or vars.rows j 0 < 96) }
-    ensures { Fit vars dom.now need → result ≡ true }
+    ensures { Fit vars dom.now need.now → result ≡ true }
 {
-    let rows = vars.rows;
-    let mut j = 0;
-    while j < vars.count {
-        let q = rows[j];
-        let class = need[q];
-        if class < Cells::ABSENT {
-            if !dom[j * Cells::COUNT + class as usize] {
-                return false;
-            }
+    for j in 0..vars.count {
+        let class = need[vars.rows[j]];
+        if class < Cells::ABSENT && !dom[j][usize::from(class)] {
+            return false;
         }
-        j += 1;
     }
     true
 }
 
-// The place of row q among the variables, or their number.
-pub fn slot_of(vars: VariableRows, q: usize) -> usize
+// The place of row q among the variables, if it is one of them.
+pub fn slot_of(vars: VariableRows, q: usize) -> Option<usize>
     requires { vars.count ≤ 8 }
-    ensures { Slot vars q result }
+    ensures { IfSome result (AtSlot vars q) }
 {
-    let rows = vars.rows;
-    let mut j = 0;
-    while j < vars.count {
-        if rows[j] == q {
-            return j;
-        }
-        j += 1;
-    }
-    j
+    vars.rows[..vars.count].iter().position(|row| *row == q)
 }
 
-// Whether a class is in the domain of variable i in both of two domains.
-pub fn meet(dom: &[bool; Domains::CELLS], other: &[bool; Domains::CELLS], i: usize) -> bool
-    requires { i < 8 }
-    ensures { (c : ℕ) → c < cell_count → InRow dom.now i c → InRow other.now i c → result ≡ true }
+// Whether two sets have a class in common.
+pub fn meet(set: &ClassSet, other: &ClassSet) -> bool
+    ensures { (c : ℕ) → c < cell_count → In set.now c → In other.now c → result ≡ true }
 {
-    let mut c = 0;
-    while c < Cells::COUNT {
-        if dom[i * Cells::COUNT + c] {
-            if other[i * Cells::COUNT + c] {
-                return true;
-            }
-        }
-        c += 1;
-    }
-    false
+    (0..Cells::COUNT).any(|c| set[c] && other[c])
 }
 
-// How many classes the domain of variable i has.
-pub fn size(dom: &[bool; Domains::CELLS], i: usize) -> usize
-    requires { i < 8 }
-    ensures { (result ≤ cell_count) × ((c : ℕ) → c < cell_count → InRow dom.now i c → 0 < result) }
+// How many classes a set has.
+pub fn size(set: &ClassSet) -> usize
+    ensures { result ≡ count_by (λ has. has) set.now }
 {
-    let mut count = 0;
-    let mut c = 0;
-    while c < Cells::COUNT {
-        if dom[i * Cells::COUNT + c] {
-            count += 1;
-        }
-        c += 1;
-    }
-    count
+    set.iter().filter(|has| **has).count()
 }

@@ -1,5 +1,5 @@
 -- What rows of a run need so that one of them gets the value of a class. Assumes nothing.
-use Rattle.std.specs.Prelude.{ℕ, ◌<◌, ◌≤◌, ◌≡◌, Bool, true, List, length, get_or}
+use Rattle.std.specs.Prelude.{ℕ, ◌<◌, ◌≤◌, ◌≡◌, Bool, true, List, Option, IsSomeAnd, length, get_or}
 use Rattle.semantics.specs.Term.{Term}
 use Rattle.rows.specs.Rows.{rows_of, Shape}
 use Rattle.cells.specs.Cells.{cell_of, cell_count, absent, Readings, cell_value, second_of}
@@ -56,8 +56,8 @@ module _ (bytes : List ℕ) (n runs : ℕ) (classes : List ℕ) (u : ℕ) where
   PassedDown before after answer = (s : Extension bytes n runs classes u) → Needed s before → (answer ≡ true) × Needed s after
 
   -- where a row gets the value of a class, no need is refused, and each is met
-  abbrev pub NeedsMet : ℕ → ℕ → Bool → List ℕ → Type 0
-  NeedsMet r class met need = (s : Extension bytes n runs classes u) → Gets s r class → (met ≡ true) × Needed s need
+  abbrev pub NeedsMet : ℕ → ℕ → Option (List ℕ) → Type 0
+  NeedsMet r class needs = (s : Extension bytes n runs classes u) → Gets s r class → IsSomeAnd needs (Needed s)
 
   -- a row can get the value of a class
   abbrev pub CanGet : ℕ → ℕ → Type 0

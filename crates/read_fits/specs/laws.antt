@@ -1,2 +1,3 @@
 -- The laws of needs, with their proofs.
 pub mod Fits
+pub mod Ranges

@@ -39,10 +39,8 @@ fn share(
 {
     let first = knowledge::class_at(classes, rows::left_of(t, y), w);
     let second = knowledge::class_at(classes, cells::second_of(t, y), w);
-    if ask(need, classes, scope.run, rows::left_of(t, q), first) {
-        return ask(need, classes, scope.run, cells::second_of(t, q), second);
-    }
-    false
+    ask(need, classes, scope.run, rows::left_of(t, q), first)
+        && ask(need, classes, scope.run, cells::second_of(t, q), second)
 }
 
 // Passes on to the parts of row q what the row needs: false where it cannot get that.
@@ -51,54 +49,29 @@ fn follow(need: &mut [u16; 96], t: &[u8], classes: &[u16], scope: Scope, q: usiz
     ensures { PassedDown t.now scope.rows scope.runs classes.now scope.run need.old need.new result }
 {
     let class = need[q];
-    if Cells::ABSENT <= class {
-        return true;
-    }
     let kind = rows::kind_of(t, q);
-    if kind < Kind::FIRST_MADE {
+    if Cells::ABSENT <= class || kind < Kind::FIRST_MADE {
         return true;
     }
-    let y = class as usize % 96;
-    if scope.rows <= y {
-        return false;
-    }
-    let w = class as usize / 96;
-    if scope.runs < w {
-        return false;
-    }
-    if rows::kind_of(t, y) != kind {
+    let y = usize::from(class) % 96;
+    let w = usize::from(class) / 96;
+    if scope.rows <= y || scope.runs < w || rows::kind_of(t, y) != kind {
         return false;
     }
     share(need, t, classes, scope, q, y, w)
 }
 
-// What the rows need so that one of them gets the value of a class, and whether none of them is refused it.
-#[derive(Drop)]
-pub struct Needs {
-    pub met: bool,
-    pub rows: [u16; 96],
-}
-
-// What row r and the rows below it need so that it gets the value of a class: one pass from the row down.
-pub fn needs_of(t: &[u8], classes: &[u16], scope: Scope, r: usize, class: u16) -> Needs
+// What row r and the rows below it need so that it gets the value of a class, unless one of them is refused that: one pass from the row down.
+pub fn needs_of(t: &[u8], classes: &[u16], scope: Scope, r: usize, class: u16) -> Option<[u16; 96]>
     requires { InScope t.now classes.now scope r }
-    ensures { NeedsMet t.now scope.rows scope.runs classes.now scope.run r class result.met result.rows }
+    ensures { NeedsMet t.now scope.rows scope.runs classes.now scope.run r class result }
 {
     let mut need = [Cells::ABSENT; 96];
     need[r] = class;
-    let mut q = r + 1;
-    while 0 < q {
-        q -= 1;
-        if follow(&mut need, t, classes, scope, q) {
-            continue;
+    for q in (0..=r).rev() {
+        if !follow(&mut need, t, classes, scope, q) {
+            return None;
         }
-        return Needs {
-            met: false,
-            rows: need,
-        };
     }
-    Needs {
-        met: true,
-        rows: need,
-    }
+    Some(need)
 }

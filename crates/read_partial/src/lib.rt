@@ -23,19 +23,14 @@ pub fn may_be_read(
     requires { Shape t.now n runs × (Due n runs k e.own e.peer e.row × ((length classes.now ≡ cell_count) × (length marks.now ≡ cell_count))) }
     ensures { Tested t.now runs k e classes.now marks.now result }
 {
-    let own = e.own;
-    let peer = e.peer;
-    if marks[own] {
-        if marks[peer] {
-            let scope = Scope {
-                rows: n,
-                runs,
-                run: k + 1,
-            };
-            if read_possible::possible(t, classes, marks, scope, e.row) {
-                return read_completions::completes(t, classes, marks, scope, e.row);
-            }
-        }
+    if !marks[e.own] || !marks[e.peer] {
+        return false;
     }
-    false
+    let scope = Scope {
+        rows: n,
+        runs,
+        run: k + 1,
+    };
+    read_possible::possible(t, classes, marks, scope, e.row)
+        && read_completions::completes(t, classes, marks, scope, e.row)
 }

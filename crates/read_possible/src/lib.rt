@@ -24,14 +24,11 @@ fn fits_cell(
     ensures { CanTake t.now scope.rows scope.runs classes.now scope.run marks.now r y w → result ≡ true }
 {
     let c = cell(y, w);
-    if marks[c] {
-        let class = classes[c];
-        if class as usize == c {
-            let needs = read_fits::needs_of(t, classes, scope, r, class);
-            return needs.met;
-        }
+    let class = classes[c];
+    if !marks[c] || usize::from(class) != c {
+        return false;
     }
-    false
+    read_fits::needs_of(t, classes, scope, r, class).is_some()
 }
 
 // Whether row r can still get the value of row y in some run.
@@ -39,14 +36,7 @@ fn fits_row(t: &[u8], classes: &[u16], marks: &[bool], scope: Scope, r: usize, y
     requires { RowInRun t.now classes.now marks.now scope r × (y < scope.rows) }
     ensures { (w : ℕ) → w ≤ scope.runs → CanTake t.now scope.rows scope.runs classes.now scope.run marks.now r y w → result ≡ true }
 {
-    let mut w = 0;
-    while w <= scope.runs {
-        if fits_cell(t, classes, marks, scope, r, y, w) {
-            return true;
-        }
-        w += 1;
-    }
-    false
+    (0..scope.runs + 1).any(|w| fits_cell(t, classes, marks, scope, r, y, w))
 }
 
 // Whether row r can still get the value of a marked cell of its kind.
@@ -55,16 +45,7 @@ fn fits_mark(t: &[u8], classes: &[u16], marks: &[bool], scope: Scope, r: usize) 
     ensures { TriesMarks t.now classes.now marks.now scope r result }
 {
     let kind = rows::kind_of(t, r);
-    let mut y = 0;
-    while y < scope.rows {
-        if rows::kind_of(t, y) == kind {
-            if fits_row(t, classes, marks, scope, r, y) {
-                return true;
-            }
-        }
-        y += 1;
-    }
-    false
+    (0..scope.rows).any(|y| rows::kind_of(t, y) == kind && fits_row(t, classes, marks, scope, r, y))
 }
 
 // Whether rows l and s have both passed the test.
@@ -72,10 +53,7 @@ fn both(can: &[bool; 96], l: usize, s: usize) -> bool
     requires { (l < 96) × (s < 96) }
     ensures { result ≡ (get_or can.now l false && get_or can.now s false) }
 {
-    if can[l] {
-        return can[s];
-    }
-    false
+    can[l] && can[s]
 }
 
 // The test of row r, by the tests of other rows: a value stays, a variable can be anything, and any other row is built of its parts or has the value of a marked cell.
@@ -100,10 +78,8 @@ fn test_row(
     if kind == Kind::PAIR {
         return both(can, rows::left_of(t, r), cells::second_of(t, r));
     }
-    if kind == Kind::ENCRYPTED {
-        if both(can, rows::left_of(t, r), cells::second_of(t, r)) {
-            return true;
-        }
+    if kind == Kind::ENCRYPTED && both(can, rows::left_of(t, r), cells::second_of(t, r)) {
+        return true;
     }
     fits_mark(t, classes, marks, scope, r)
 }
@@ -115,13 +91,10 @@ pub fn possible(t: &[u8], classes: &[u16], marks: &[bool], scope: Scope, x: usiz
 {
     let below = variables::beneath(t, scope.rows, x);
     let mut can = [true; 96];
-    let mut r = 0;
-    while r <= x {
+    for r in 0..=x {
         if below[r] {
-            let passes = test_row(&can, t, classes, marks, scope, r);
-            can[r] = passes;
+            can[r] = test_row(&can, t, classes, marks, scope, r);
         }
-        r += 1;
     }
     can[x]
 }

@@ -38,8 +38,8 @@ pub fn tried(
     ensures refilled { Refilled (rows_of t.now) scope.runs scope.run names.new filled.now classes.new }
     ensures settled { Settled (rows_of t.now) scope.runs classes.new marks result }
 {
-    state::copy(&mut names[..], before);
-    put(&mut names[..], x, scope.run, r, w);
-    state::copy(&mut classes[..], filled);
-    state::with_names(&mut classes[..], marks, &names[..], t, scope)
+    names.copy_from_slice(before);
+    put(names, x, scope.run, r, w);
+    classes.copy_from_slice(filled);
+    state::with_names(classes, marks, names, t, scope)
 }

@@ -45,6 +45,12 @@ abbrev pub TellsUnset : List Row → List ℕ → ℕ → List (Atom × Value) �
 TellsUnset rows names u sets =
     (y : ℕ) (a : Atom) → atom_at rows y ≡ some a → T (variable_atom a) → (get_or names (cell_of y u) absent ≡ absent) ↔ (assigned a sets ≡ none)
 
+-- a row of a set is a variable's and has no name
+pub record NotNamed (bytes names : List ℕ) (u : ℕ) (below : List Bool) (y : ℕ) : Type 0 where
+  pub inside : In below y
+  pub kind : get_or bytes (3 * y) 0 ≡ 6
+  pub name : get_or names (cell_of y u) absent ≡ absent
+
 -- the first unset variable beneath a pattern whose row is not below a number, or none
 pub data NextUnset (rows : List Row) (names : List ℕ) (u pattern from x : ℕ) : Type 0 where
   is_next :
@@ -67,12 +73,6 @@ first_run kind = cond (eqb kind 7) 1 0
 unfoldable pub run_count : ℕ → Bool → ℕ → ℕ
 run_count runs true kind = cond (eqb kind 4) 1 (cond (eqb kind 7) runs 0)
 run_count runs false kind = cond (leb kind 2) 1 0
-
--- the higher of two numbers
-pub record Higher (a b r : ℕ) : Type 0 where
-  pub left : a ≤ r
-  pub right : b ≤ r
-  pub one : (r ≡ a) ⊎ (r ≡ b)
 
 -- the values of a type whose row is a given one and whose run is not below a number, or whose row is higher
 unfoldable pub values_from : List Row → ℕ → VariableType → ℕ → ℕ → List Value

@@ -1,13 +1,13 @@
 // The variables that a read sets, in order of their rows, and the values that a variable may take, in order of row and run.
 #![tactic(auto)]
 
-ghost use Rattle.std.specs.Prelude.{◌≡◌, false, ◌&&◌, ℕ, ◌+◌, ◌*◌, ◌<◌, ◌≤◌, eqb, length, get_or};
+ghost use Rattle.std.specs.Prelude.{◌≡◌, false, ◌&&◌, ℕ, ◌+◌, ◌*◌, ◌<◌, ◌≤◌, eqb, length, get_or, IsTrue, ◌↔◌};
 ghost use Rattle.std.proofs.Math.Option.{some};
 ghost use Rattle.semantics.specs.Term.{VariableType, Atom, variable};
 ghost use Rattle.semantics.specs.Runs.{atom_at};
 ghost use Rattle.rows.specs.Rows.{rows_of, Sized, Shape};
 ghost use Rattle.cells.specs.Cells.{cell_count, cell_of, absent};
-ghost use Rattle.variables.specs.Variables.{Beneath, ClosedFrom, NextUnset, first_run, run_count, TellsValue, Higher, NextOf, Among, Unset};
+ghost use Rattle.variables.specs.Variables.{Beneath, ClosedFrom, NextUnset, first_run, run_count, TellsValue, NextOf, NotNamed, Among, Unset};
 
 use cells::Cells;
 use rows::Kind;
@@ -31,10 +31,7 @@ fn mark_parts(below: &mut [bool; 96], t: &[u8], n: usize, r: usize)
     requires { Sized t.now n × (r < n) }
     ensures { (x : ℕ) → ClosedFrom (rows_of t.now) x (r + 1) below.old → ClosedFrom (rows_of t.now) x r below.new }
 {
-    if !below[r] {
-        return;
-    }
-    if rows::kind_of(t, r) < Kind::FIRST_MADE {
+    if !below[r] || rows::kind_of(t, r) < Kind::FIRST_MADE {
         return;
     }
     below[rows::left_of(t, r)] = true;
@@ -48,12 +45,18 @@ pub fn beneath(t: &[u8], n: usize, x: usize) -> [bool; 96]
 {
     let mut below = [false; 96];
     below[x] = true;
-    let mut r = x + 1;
-    while 0 < r {
-        r -= 1;
+    for r in (0..=x).rev() {
         mark_parts(&mut below, t, n, r);
     }
     below
+}
+
+// Whether row y is an unset variable of run u that is marked.
+fn is_unset(t: &[u8], names: &[u16], below: &[bool], u: usize, y: usize) -> bool
+    requires { (y < 96) × ((3 * y + 2 < length t.now) × ((length names.now ≡ cell_count) × ((length below.now ≡ 96) × (u ≤ 4)))) }
+    ensures { IsTrue result ↔ NotNamed t.now names.now u below.now y }
+{
+    below[y] && rows::kind_of(t, y) == Kind::VARIABLE && names[cells::cell(y, u)] == Cells::ABSENT
 }
 
 // The first row, not below a given one, that is an unset variable of run u beneath the pattern, or n.
@@ -61,18 +64,9 @@ pub fn next_unset(t: &[u8], n: usize, names: &[u16], below: &[bool], u: usize, f
     requires { Sized t.now n × ((length names.now ≡ cell_count) × ((length below.now ≡ 96) × ((u ≤ 4) × (from ≤ n)))) }
     ensures { (pattern : ℕ) → Beneath (rows_of t.now) pattern below.now → NextUnset (rows_of t.now) names.now u pattern from result }
 {
-    let mut y = from;
-    while y < n {
-        if below[y] {
-            if rows::kind_of(t, y) == Kind::VARIABLE {
-                if names[cells::cell(y, u)] == Cells::ABSENT {
-                    return y;
-                }
-            }
-        }
-        y += 1;
-    }
-    n
+    (from..n)
+        .find(|y| is_unset(t, names, below, u, *y))
+        .unwrap_or(n)
 }
 
 // The variables of a table among the rows of a set.
@@ -82,15 +76,11 @@ pub fn variable_rows(t: &[u8], n: usize, set: &[bool; 96]) -> VariableRows
 {
     let mut found = [0; 8];
     let mut count = 0;
-    let mut x = 0;
-    while x < n {
-        if set[x] {
-            if rows::kind_of(t, x) == Kind::VARIABLE {
-                found[count] = x;
-                count += 1;
-            }
+    for x in 0..n {
+        if set[x] && rows::kind_of(t, x) == Kind::VARIABLE {
+            found[count] = x;
+            count += 1;
         }
-        x += 1;
     }
     VariableRows { rows: found, count }
 }
@@ -101,12 +91,10 @@ fn without_value(set: [bool; 96], values: &[u16], u: usize) -> [bool; 96]
     ensures { (x : ℕ) → x < 96 → get_or result x false ≡ (get_or set x false && eqb (get_or values.now (cell_of x u) absent) absent) }
 {
     let mut less = set;
-    let mut x = 0;
-    while x < 96 {
+    for x in 0..96 {
         if values[cells::cell(x, u)] != Cells::ABSENT {
             less[x] = false;
         }
-        x += 1;
     }
     less
 }
@@ -116,37 +104,30 @@ pub fn unset_rows(t: &[u8], n: usize, values: &[u16], set: [bool; 96], u: usize)
     requires { Sized t.now n × ((length values.now ≡ cell_count) × (u ≤ 4)) }
     ensures { Unset t.now n values.now u set result }
 {
-    let less = without_value(set, values, u);
-    variable_rows(t, n, &less)
+    variable_rows(t, n, &without_value(set, values, u))
 }
 
 // The first run with which a row of a kind is a value: 1 for a local constant, 0 for every other.
 fn first_run(kind: usize) -> usize
     ensures { (result ≡ first_run kind) × (result ≤ 1) }
 {
-    if kind == Kind::LOCAL {
-        return 1;
-    }
-    0
+    usize::from(kind == Kind::LOCAL)
 }
 
 // With how many runs a row of a kind is a value of a fresh variable, or of an agent variable.
+#[tactic(auto, unfolding(crate::specs::Variables::run_count))]
 fn run_count(kind: usize, fresh: bool, runs: usize) -> usize
     ensures { (result ≡ run_count runs fresh kind) × (result ≤ runs + 1) }
 {
     if fresh {
-        if kind == Kind::INTRUDER {
-            return 1;
+        match kind {
+            Kind::INTRUDER => 1,
+            Kind::LOCAL => runs,
+            _ => 0,
         }
-        if kind == Kind::LOCAL {
-            return runs;
-        }
-        return 0;
+    } else {
+        usize::from(kind <= Kind::UNTRUSTED)
     }
-    if kind <= Kind::UNTRUSTED {
-        return 1;
-    }
-    0
 }
 
 // Whether the variable of row x is a fresh one.
@@ -167,20 +148,7 @@ pub fn may_take(t: &[u8], n: usize, runs: usize, x: usize, r: usize, w: usize) -
     }
     let kind = rows::kind_of(t, r);
     let first = first_run(kind);
-    if w < first {
-        return false;
-    }
-    w - first < run_count(kind, is_fresh(t, x), runs)
-}
-
-// The higher of two numbers.
-fn higher(a: usize, b: usize) -> usize
-    ensures { Higher a b result }
-{
-    if a < b {
-        return b;
-    }
-    a
+    first <= w && w - first < run_count(kind, is_fresh(t, x), runs)
 }
 
 // The first value that the variable of row x may take whose row is r and run at least w, or whose row is higher.
@@ -189,16 +157,14 @@ pub fn next_value(t: &[u8], n: usize, runs: usize, x: usize, r: usize, w: usize)
     ensures { (num : ℕ) (type : VariableType) → atom_at (rows_of t.now) x ≡ some (variable num type) → NextOf (rows_of t.now) runs type r w result }
 {
     let fresh = is_fresh(t, x);
-    let mut y = r;
     let mut v = w;
-    while y < n {
+    for y in r..n {
         let kind = rows::kind_of(t, y);
         let first = first_run(kind);
-        let run = higher(v, first);
+        let run = v.max(first);
         if run < first + run_count(kind, fresh, runs) {
-            return NextValue::Value { row: y, run: run };
+            return NextValue::Value { row: y, run };
         }
-        y += 1;
         v = 0;
     }
     NextValue::Nothing

@@ -1,8 +1,7 @@
--- `read_completions::set_at` meets its contract: a row with a value by its mark, a variable by those that are marked, any other by its parts and the marked cells. Assumes nothing.
+-- `read_completions::set_at` meets its contract: by the value of the row, as a variable, or by its parts and the marked cells of its kind. Assumes nothing.
+use Rattle.std.proofs.Common.{arith, sym, ◌∙◌}
+use Rattle.cells.specs.laws.Cells.{left-small, second-small}
 use Rattle.read_completions.specs.laws.Rows.{misses-none-set, misses-none-pair, misses-none-encryption, misses-none-key}
-use Rattle.read_possible.specs.laws.Tests.{parts-small}
-use mathlib.Core.Path.{sym, ◌∙◌}
-use native.Mathlib.Omega.{arith}
 use Rattle.read_completions.proofs.set_at.Goals as goal
 
 pub returns-then-class_at-lt-ABSENT : goal.returns-then-class_at-lt-ABSENT
@@ -10,22 +9,23 @@ returns-then-class_at-lt-ABSENT c =
     misses-none-set c.requires.0.scene c.args.dom.now c.args.i c.args.r c.requires.1.1.1 c.class_at.ensures c.if-class_at-lt-ABSENT.true c.cell.ensures.0
 
 pub returns-then-kind-lt-FIRST_MADE : goal.returns-then-kind-lt-FIRST_MADE
-returns-then-kind-lt-FIRST_MADE c =
-    c.leaf.ensures c.args.t.now c.args.classes.now c.args.marks.now c.requires.0
+returns-then-kind-lt-FIRST_MADE c = c.leaf.ensures c.args.t.now c.args.classes.now c.args.marks.now c.requires.0
 
-pub join-requires : goal.join-requires
-join-requires c =
-    let p = parts-small c.args.t.now c.args.pattern.scope.rows c.args.pattern.scope.runs c.requires.0.scene.shape c.args.r c.requires.1.1.1 c.kind_of-kind.ensures.0 c.if-kind-lt-FIRST_MADE.false c.left_of.ensures.0 c.second_of.ensures.0 in
-    (c.requires.1.0.size, (p.0, p.1))
+pub bounds-sets-left_of : goal.bounds-sets-left_of
+bounds-sets-left_of c = left-small c.args.t.now c.args.pattern.scope.rows c.args.pattern.scope.runs c.requires.0.scene.shape c.args.r c.requires.1.1.1 (omega (arith, c.kind_of-kind.ensures.0, c.if-kind-lt-FIRST_MADE.false)) c.left_of.ensures.0
+
+pub bounds-sets-second_of : goal.bounds-sets-second_of
+bounds-sets-second_of c = second-small c.args.t.now c.args.pattern.scope.rows c.args.pattern.scope.runs c.requires.0.scene.shape c.args.r c.requires.1.1.1 (omega (arith, c.kind_of-kind.ensures.0, c.if-kind-lt-FIRST_MADE.false)) c.second_of.ensures.0
 
 pub returns-then-kind-eq-PAIR : goal.returns-then-kind-eq-PAIR
 returns-then-kind-eq-PAIR c =
     misses-none-pair c.requires.0.scene c.args.dom.now c.args.i c.args.r c.requires.1.0 c.requires.1.1.1 c.left_of.ensures.0 c.second_of.ensures.0 (sym c.kind_of-kind.ensures.0 ∙ c.if-kind-eq-PAIR.true) c.join.ensures
 
-pub join-requires-then-kind-eq-ENCRYPTED : goal.join-requires-then-kind-eq-ENCRYPTED
-join-requires-then-kind-eq-ENCRYPTED c =
-    let p = parts-small c.args.t.now c.args.pattern.scope.rows c.args.pattern.scope.runs c.requires.0.scene.shape c.args.r c.requires.1.1.1 c.kind_of-kind.ensures.0 c.if-kind-lt-FIRST_MADE.false c.left_of-then-kind-eq-ENCRYPTED.ensures.0 c.second_of-then-kind-eq-ENCRYPTED.ensures.0 in
-    (c.requires.1.0.size, (p.0, p.1))
+pub bounds-sets-left_of-then-kind-eq-ENCRYPTED : goal.bounds-sets-left_of-then-kind-eq-ENCRYPTED
+bounds-sets-left_of-then-kind-eq-ENCRYPTED c = left-small c.args.t.now c.args.pattern.scope.rows c.args.pattern.scope.runs c.requires.0.scene.shape c.args.r c.requires.1.1.1 (omega (arith, c.kind_of-kind.ensures.0, c.if-kind-lt-FIRST_MADE.false)) c.left_of-then-kind-eq-ENCRYPTED.ensures.0
+
+pub bounds-sets-second_of-then-kind-eq-ENCRYPTED : goal.bounds-sets-second_of-then-kind-eq-ENCRYPTED
+bounds-sets-second_of-then-kind-eq-ENCRYPTED c = second-small c.args.t.now c.args.pattern.scope.rows c.args.pattern.scope.runs c.requires.0.scene.shape c.args.r c.requires.1.1.1 (omega (arith, c.kind_of-kind.ensures.0, c.if-kind-lt-FIRST_MADE.false)) c.second_of-then-kind-eq-ENCRYPTED.ensures.0
 
 pub returns-then-kind-eq-ENCRYPTED : goal.returns-then-kind-eq-ENCRYPTED
 returns-then-kind-eq-ENCRYPTED c =

@@ -1,44 +1,27 @@
--- `read_completions::set_of` meets its contract. The loop's invariant: the set of each row below r misses no class, and the others have every class.
--- The measure is how many rows are left. Assumes nothing.
-use mathlib.Core.Path.{sym}
-use Rattle.read_completions.specs.laws.Rows.{rows_start, rows_more, rows-one}
-use mathlib.Core.Logic.{⊎_elim}
-use native.Mathlib.Omega.{arith}
+-- `read_completions::set_of` meets its contract. The loop's invariant: no set misses a class. Assumes nothing.
+use Rattle.std.proofs.Common.{◌<◌, arith}
+use Rattle.read_completions.specs.Completions.{RowsMissNone}
+use Rattle.read_completions.specs.laws.Rows.{rows_start, rows_more}
 use Rattle.read_completions.proofs.set_of.Goals as goal
+use Rattle.read_completions.proofs.set_of.Goals.{then-below-r, else-below-r, else-loop-r-test, then-loop-r-test+else-r-r-end}
 
 pub loop-r-init : goal.loop-r-init
-loop-r-init c =
-    (omega arith, rows_start c.requires.0.scene c.args.dom.now c.args.i)
-
-pub slice_bounds-set_at-end : goal.slice_bounds-set_at-end
-slice_bounds-set_at-end c = sym c.loop-r.invariant.1.size
-
-pub set_at-set-requires : goal.set_at-set-requires
-set_at-set-requires c =
-    (c.requires.0, (c.loop-r.invariant.1, (c.requires.1, omega (arith, c.requires.0.scene.row, c.loop-r-test.true))))
-
-pub slice_bounds-put-end : goal.slice_bounds-put-end
-slice_bounds-put-end c = sym c.loop-r.invariant.1.size
-
-pub put-requires : goal.put-requires
-put-requires c =
-    (c.loop-r.invariant.1.size, omega (arith, c.requires.0.scene.row, c.requires.0.scene.shape.few, c.loop-r-test.true))
-
-pub loop-r-smaller : goal.loop-r-smaller
-loop-r-smaller c = omega (arith, c.loop-r-test.true)
+loop-r-init c = rows_start c.requires.0.scene c.args.dom.now c.args.i
 
 pub loop-r-preserved : goal.loop-r-preserved
-loop-r-preserved c =
-    let l = c.loop-r in
-    (omega (arith, c.loop-r-test.true), ⊎_elim (λ w. rw w.sets-is (rows_more c.requires.0.scene c.args.dom.now l.invariant.1 w.set_at-set.ensures w.put.ensures)) (λ w. rw w.sets-is l.invariant.1) c.if-below-r.branch-raw)
-
-pub slice_bounds-join-end : goal.slice_bounds-join-end
-slice_bounds-join-end c = sym c.loop-r.invariant.1.size
-
-pub join-requires : goal.join-requires
-join-requires c =
-    (c.loop-r.invariant.1.size, (omega (arith, c.requires.0.scene.row, c.requires.0.scene.shape.few), omega (arith, c.requires.0.scene.row, c.requires.0.scene.shape.few)))
+loop-r-preserved c = elim c.if-below-r.branch [
+  | then-below-r w ↦ rw w.sets-is (rows_more c.requires.0.scene c.args.dom.now _ (omega (arith, c.requires.0.scene.row, c.requires.0.scene.shape.few, c.loop-r-test.true)) c.loop-r.invariant w.set_at.ensures)
+  | else-below-r w ↦ rw w.sets-is c.loop-r.invariant
+]
 
 pub returns : goal.returns
 returns c =
-    rows-one c.requires.0.scene c.args.dom.now c.loop-r.invariant.1 (omega (arith, c.requires.0.scene.row, c.requires.0.scene.shape.few)) c.join.ensures
+    let low : c.args.pattern.row < 96 = omega (arith, c.requires.0.scene.row, c.requires.0.scene.shape.few) in
+    let each_row : RowsMissNone c.args.t.now c.args.classes.now c.args.marks.now c.args.pattern c.args.dom.now c.args.i c.loop-r-test.sets = elim c.loop-r-test.branch [
+      | else-loop-r-test w ↦ rw w.sets-is c.loop-r.invariant
+      | then-loop-r-test+else-r-r-end w ↦ rw w.sets-is (elim w.if-below-r.branch [
+        | then-below-r v ↦ rw v.sets-is (rows_more c.requires.0.scene c.args.dom.now _ (omega (arith, c.loop-r.auto.r-end)) c.loop-r.invariant v.set_at.ensures)
+        | else-below-r v ↦ rw v.sets-is c.loop-r.invariant
+      ])
+    ] in
+    each_row.each c.args.pattern.row low

@@ -1,9 +1,6 @@
--- `read_completions::smallest` is safe and ends. The measure is how many variables are left. Assumes nothing.
-use Prim.Native.Nat.{◌-◌, ◌≤◌}
+-- `read_completions::smallest` meets its contract. The loop's invariant: what is chosen is a variable. Assumes nothing.
+use Rattle.std.proofs.Common.{◌≤◌, ◌<◌, IfSome}
 use Rattle.read_completions.proofs.smallest.Given as goal
 
 abbrev pub invariant-loop-i : goal.invariant-loop-i
-invariant-loop-i l = (l.i ≤ l.vars.count)
-
-abbrev pub decreases-loop-i : goal.decreases-loop-i
-decreases-loop-i l = l.vars.count - l.i
+invariant-loop-i l = IfSome l.best (λ i. i < l.vars.count) × (l.found ≤ l.i)

@@ -1,12 +1,13 @@
 -- The classes that variables get where a row is derivable: by its value, by marked cells, and by its parts. Assumes nothing.
-use Rattle.std.specs.Prelude.{ℕ, ◌+◌, ◌*◌, ◌%◌, ◌<◌, ◌≤◌, ◌≡◌, refl, Bool, true, false, List, length, get_or, set, replicate}
+use Rattle.std.specs.Prelude.{ℕ, ◌+◌, ◌%◌, ◌<◌, ◌≤◌, ◌≡◌, refl, Bool, true, false, List, [], Option, None, Some, length, get_or, set, replicate}
+use Rattle.std.specs.Prelude as lists
 use Rattle.std.proofs.Math.Decide.{ℕ_discrete}
-use Rattle.std.proofs.Common.{arith, sym, ◌∙◌, subst}
+use Rattle.std.proofs.Common.{arith, sym, ◌∙◌, subst, length-set}
 use Rattle.std.proofs.lemmas.Bool.{false≢true}
 use Rattle.std.proofs.Math.Option.{some-injective}
 use Rattle.std.proofs.lemmas.List.{length-replicate, get_or-replicate}
 use Rattle.cells.specs.Cells.{cell_of, cell_count, absent, second_of}
-use Rattle.cells.specs.laws.Cells.{class-read, left-lower, second-lower}
+use Rattle.cells.specs.laws.Cells.{left-lower, second-lower}
 use Rattle.classes.specs.laws.Kinds.{first_part, second_part, value_made}
 use Rattle.classes.specs.laws.Values.{cell-kept}
 use Rattle.knowledge.specs.Marks.{Marked}
@@ -18,8 +19,8 @@ use Rattle.read_possible.specs.laws.Known.{Way, by_mark, by_parts, way}
 use Rattle.read_possible.specs.laws.Tests.{kind-most, pair-parts}
 use Rattle.variables.specs.declared.VariableRows.{VariableRows}
 use Rattle.variables.specs.Variables.{In}
-use Rattle.read_domains.specs.laws.Sets.{stays, in-set}
-use Rattle.read_domains.specs.Domains.{set_cells, InRow, Fit, Slot, is_at, is_none, Joins, RowPut}
+use Rattle.read_domains.specs.laws.Sets.{row_in, row_stays}
+use Rattle.read_domains.specs.Domains.{InRow, Fit, Joins}
 use Rattle.read_completions.specs.declared.Pattern.{Pattern}
 use Rattle.read_completions.specs.Completions.{Scene, TakesCell, Completion, GetsClass, InDomains, GetsDerivable, FromMark, MarkedDomains, NeedsAt, Matched, MissesNone, RowsMissNone, NeededAdded}
 
@@ -32,17 +33,9 @@ pub in-mark : {mark : Bool} {c : ℕ} → c < cell_count → mark ≡ true → I
 in-mark {mark} {c} l e = get_or-replicate {A = Bool} cell_count c mark false l ∙ e
 
 module _ (vars : VariableRows) (i : ℕ) (need : List ℕ) (before : List Bool) where
-  -- needs that are not met add nothing
-  pub admitted-unmet : {met : Bool} → met ≡ false → NeededAdded vars i met need before before
-  admitted-unmet e = record { keeps = λ c l h. h; adds = λ m. absurd (false≢true (sym e ∙ m)) }
-
-  -- what the variable needs
-  pub admitted-need : length before ≡ cell_count → get_or need (get_or vars.rows i 0) 0 < absent → (met : Bool) → NeededAdded vars i met need before (set before (get_or need (get_or vars.rows i 0) 0) true)
-  admitted-need sized l met = record { keeps = λ c k h. stays before _ true (λ q. refl) h; adds = λ m c k own. in-set before (omega arith) (own l) }
-
   -- every class
-  pub admitted-all : (met : Bool) → NeededAdded vars i met need before (replicate cell_count true)
-  admitted-all met = record { keeps = λ c l h. in_all cell_count l; adds = λ m c l own. in_all cell_count l }
+  pub admitted-all : NeededAdded vars i need before (replicate cell_count true)
+  admitted-all = record { keeps = λ c l h. in_all cell_count l; adds = λ c l own. in_all cell_count l }
 
 module _ {bytes classes : List ℕ} {marks : List Bool} {pattern : Pattern} (scene : Scene bytes classes marks pattern)
     (k : Completion bytes classes marks pattern) where
@@ -64,7 +57,7 @@ module _ {bytes classes : List ℕ} {marks : List Bool} {pattern : Pattern} (sce
       (k.exact takes.row takes.run (inside bytes pattern.scope.rows pattern.scope.runs k.extension.shape k.extension.old classes k.extension.right takes.inside)).1 (takes.term, takes.has, rw same at d.2)
 
   -- rows that need what they get fit domains that have it
-  pub in-domains-fit : (dom : List Bool) {need : List ℕ} → InDomains k dom → Needed k.extension need → Fit pattern.vars dom need
+  pub in-domains-fit : (dom : List (List Bool)) {need : List ℕ} → InDomains k dom → Needed k.extension need → Fit pattern.vars dom need
   in-domains-fit dom within needed j l there =
       let low = scene.low.row j l in
       let few = scene.shape.few in
@@ -99,56 +92,47 @@ module _ {bytes classes : List ℕ} {marks : List Bool} {pattern : Pattern} (sce
           from_parts (omega (arith, m.kind, kind-most t)) (first_part t, m.first, a) (second_part t, m.second, b)
 
 -- the same as `Matched`, of the cells below a number
-abbrev pub MatchedIn : List ℕ → List ℕ → List Bool → Pattern → List Bool → ℕ → ℕ → ℕ → List Bool → Type 0
+abbrev pub MatchedIn : List ℕ → List ℕ → List Bool → Pattern → List (List Bool) → ℕ → ℕ → ℕ → List Bool → Type 0
 MatchedIn bytes classes marks pattern dom i r cell set =
     (k : Completion bytes classes marks pattern) → InDomains k dom → (y w : ℕ) → cell_of y w < cell → FromMark k r y w → (c : ℕ) → GetsClass k i c → In set c
 
-module _ {bytes classes : List ℕ} {marks : List Bool} {pattern : Pattern} (scene : Scene bytes classes marks pattern) (dom : List Bool) where
+module _ {bytes classes : List ℕ} {marks : List Bool} {pattern : Pattern} (scene : Scene bytes classes marks pattern) (dom : List (List Bool)) where
   module _ (r : ℕ) {cell : ℕ} (inside-marks : cell < cell_count) where
-    -- a cell that is none of the table's, and one that does not stand for its own value
-    pub needs-row : pattern.scope.rows ≤ cell % 96 → (met : Bool) (need : List ℕ) → NeedsAt bytes classes marks pattern dom r cell met need
-    needs-row h met need k within y w e from = let few = scene.shape.few in absurd (omega (arith, from.inside.0))
-
-    pub needs-class : (get_or classes cell 0 ≡ cell → ⊥) → (met : Bool) (need : List ℕ) → NeedsAt bytes classes marks pattern dom r cell met need
-    needs-class d met need k within y w e from = absurd (d (class-read classes scene.classed (sym e) inside-marks ∙ from.own ∙ e))
-
-    -- a cell of another kind
-    pub needs-kind : {a b : ℕ} → a ≡ kind_at bytes (cell % 96) → b ≡ kind_at bytes r → (a ≡ b → ⊥) → (met : Bool) (need : List ℕ) → NeedsAt bytes classes marks pattern dom r cell met need
-    needs-kind ea eb d met need k within y w e from =
-        let few = scene.shape.few in
-        let same : y ≡ cell % 96 = omega (arith, from.inside.0) in
-        absurd (d (ea ∙ rw same at from.kind ∙ sym eb))
-
-    module _ {class : ℕ} (ec : class ≡ cell) {met : Bool} {need : List ℕ} (needs : NeedsMet bytes pattern.scope.rows pattern.scope.runs classes pattern.scope.run r class met need) where
-      -- needs that are met
-      pub needs-met : NeedsAt bytes classes marks pattern dom r cell met need
-      needs-met k within y w e from = needs k.extension (rw (ec ∙ sym e) from.gets)
+    module _ {class : ℕ} (ec : class ≡ cell) (needs : Option (List ℕ)) (met : NeedsMet bytes pattern.scope.rows pattern.scope.runs classes pattern.scope.run r class needs) where
+      -- needs that are met, or none
+      pub needs-met : NeedsAt bytes classes marks pattern dom r cell needs
+      needs-met k within y w e from = met k.extension (rw (ec ∙ sym e) from.gets)
 
       -- needs that the domains do not have
-      pub needs-unfit : {fits : Bool} → (Fit pattern.vars dom need → fits ≡ true) → fits ≡ false → (met' : Bool) (need' : List ℕ) → NeedsAt bytes classes marks pattern dom r cell met' need'
-      needs-unfit f e met' need' k within y w q from = absurd (false≢true (sym e ∙ f (in-domains-fit scene k dom within (needs-met k within y w q from).1)))
+      pub needs-unfit : {need : List ℕ} → needs ≡ Some need → {fits : Bool} → (Fit pattern.vars dom need → fits ≡ true) → fits ≡ false → NeedsAt bytes classes marks pattern dom r cell None
+      needs-unfit q f e k within y w h from = false≢true (sym e ∙ f (in-domains-fit scene k dom within (rw q at (needs-met k within y w h from))))
 
   module _ (i r : ℕ) where
     abbrev MatchedBelow : ℕ → List Bool → Type 0
     MatchedBelow cell set = MatchedIn bytes classes marks pattern dom i r cell set
 
-    pub matched-none : (set : List Bool) → MatchedBelow 0 set
-    matched-none set k within y w l = absurd (omega arith)
-
-    pub matched-more : i < pattern.vars.count → {cell : ℕ} {met : Bool} {need set more : List _} → MatchedBelow cell set → NeedsAt bytes classes marks pattern dom r cell met need
-        → NeededAdded pattern.vars i met need set more → MatchedBelow (cell + 1) more
-    matched-more count {cell} {met} {need} {set} {more} before allowed admitted k within y w l from c g = go (ℕ_discrete (cell_of y w) cell)
+    pub matched-more : i < pattern.vars.count → {cell : ℕ} {needs : Option (List ℕ)} {need : List ℕ} {set more : List Bool} → MatchedBelow cell set → NeedsAt bytes classes marks pattern dom r cell needs → needs ≡ Some need
+        → NeededAdded pattern.vars i need set more → MatchedBelow (cell + 1) more
+    matched-more count {cell} {needs} {need} {set} {more} before allowed q admitted k within y w l from c g = go (ℕ_discrete (cell_of y w) cell)
       where
         low : c < cell_count
         low = gets-low scene k _ g
 
         go : Dec (cell_of y w ≡ cell) → In more c
         go (yes e) =
-            let a = allowed k within y w e from in
+            let a = rw q at (allowed k within y w e from) in
             let few = scene.shape.few in
             let row = scene.low.row i count in
-            admitted.adds a.0 c low (λ there. gets-one k.extension _ g (a.1.each _ (omega arith) there))
+            admitted.adds c low (λ there. gets-one k.extension _ g (a.each _ (omega arith) there))
         go (no d) = admitted.keeps c low (before k within y w (omega arith) from c g)
+
+    -- a cell without needs adds nothing
+    pub matched-unmet : {cell : ℕ} {needs : Option (List ℕ)} (set : List Bool) → NeedsAt bytes classes marks pattern dom r cell needs → needs ≡ None → MatchedBelow cell set → MatchedBelow (cell + 1) set
+    matched-unmet {cell} set allowed q before k within y w l from c g = go (ℕ_discrete (cell_of y w) cell)
+      where
+        go : Dec (cell_of y w ≡ cell) → In set c
+        go (yes e) = absurd (rw q at (allowed k within y w e from))
+        go (no d) = before k within y w (omega arith) from c g
 
     pub matched-unmarked : {cell : ℕ} (set : List Bool) → get_or marks cell false ≡ false → MatchedBelow cell set → MatchedBelow (cell + 1) set
     matched-unmarked {cell} set e before k within y w l from c g = go (ℕ_discrete (cell_of y w) cell)
@@ -171,36 +155,36 @@ module _ {bytes classes : List ℕ} {marks : List Bool} {pattern : Pattern} (sce
     pub misses-none-set : r < pattern.scope.rows → {class cell : ℕ} → class ≡ class_at classes r pattern.scope.run → class < absent → cell ≡ cell_of r pattern.scope.run → MissesNone bytes classes marks pattern dom i r (In (replicate cell_count (get_or marks cell false)))
     misses-none-set low e l ec k within d c g = in-mark (gets-low scene k _ g) (derivable-marked scene k low e l ec d)
 
-    module _ (marked : List Bool) (opens : MarkedDomains bytes classes marks pattern marked) where
+    module _ (marked : List (List Bool)) (opens : MarkedDomains bytes classes marks pattern marked) where
       -- the variable itself
-      pub misses-none-own : i < pattern.vars.count → get_or pattern.vars.rows i 0 ≡ r → (set : List Bool) → ((c : ℕ) → c < cell_count → InRow marked i c → In set c) → MissesNone bytes classes marks pattern dom i r (In set)
-      misses-none-own l e set f k within d c g = f c (gets-low scene k _ g) (opens k i l (rw e d) c g)
+      pub misses-none-own : i < pattern.vars.count → get_or pattern.vars.rows i 0 ≡ r → MissesNone bytes classes marks pattern dom i r (InRow marked i)
+      misses-none-own l e k within d c g = opens k i l (rw e d) c g
 
-      -- another variable, of which no class is in its domain and marked
-      pub misses-none-never : {slot : ℕ} → slot < pattern.vars.count → get_or pattern.vars.rows slot 0 ≡ r → {b : Bool} → ((c : ℕ) → c < cell_count → InRow dom slot c → InRow marked slot c → b ≡ true) → b ≡ false
-          → (P : ℕ → Type 0) → MissesNone bytes classes marks pattern dom i r P
-      misses-none-never {slot} l e f z P k within d c g =
+      -- another variable: every class if one of its domain is marked, and else none
+      pub misses-none-other : {slot : ℕ} → slot < pattern.vars.count → get_or pattern.vars.rows slot 0 ≡ r → {b : Bool} → ((c : ℕ) → c < cell_count → InRow dom slot c → InRow marked slot c → b ≡ true)
+          → MissesNone bytes classes marks pattern dom i r (In (replicate cell_count b))
+      misses-none-other {slot} l e f k within d c g =
           let h = takes-gets scene k (k.filled slot l) in
-          absurd (false≢true (sym z ∙ f _ (gets-low scene k _ h) (within slot l _ h) (opens k slot l (rw e d) _ h)))
+          in-mark (gets-low scene k _ g) (f _ (gets-low scene k _ h) (within slot l _ h) (opens k slot l (rw e d) _ h))
 
-    module _ {sets : List Bool} (each_row : RowsMissNone bytes classes marks pattern dom i sets) (low : r < pattern.scope.rows) {l s : ℕ} (el : l ≡ left_at bytes r) (es : s ≡ second_of bytes r) where
+    module _ {sets : List (List Bool)} (each_row : RowsMissNone bytes classes marks pattern dom i sets) (low : r < pattern.scope.rows) {l s : ℕ} (el : l ≡ left_at bytes r) (es : s ≡ second_of bytes r) where
       part_low : 8 ≤ kind_at bytes r → (left_at bytes r < 96) × (second_of bytes r < 96)
       part_low high =
           let few = scene.shape.few in
           (omega (arith, left-lower bytes pattern.scope.rows pattern.scope.runs scene.shape r low high), omega (arith, second-lower bytes pattern.scope.rows pattern.scope.runs scene.shape r low high))
 
-      misses-none-both : 8 ≤ kind_at bytes r → {set more : List Bool} → Joins set sets l s more → (k : Completion bytes classes marks pattern) → InDomains k dom → GetsDerivable k (left_at bytes r) → GetsDerivable k (second_of bytes r)
+      misses-none-both : 8 ≤ kind_at bytes r → {set more : List Bool} → Joins set (get_or sets l []) (get_or sets s []) more → (k : Completion bytes classes marks pattern) → InDomains k dom → GetsDerivable k (left_at bytes r) → GetsDerivable k (second_of bytes r)
           → (c : ℕ) → GetsClass k i c → In more c
       misses-none-both high joins k within a b c g =
           let p = part_low high in
           joins.adds c (gets-low scene k _ g) (rw el (each_row.each (left_at bytes r) p.0 k within a c g)) (rw es (each_row.each (second_of bytes r) p.1 k within b c g))
 
       -- a pair, by its parts
-      pub misses-none-pair : kind_at bytes r ≡ 11 → {set more : List Bool} → Joins set sets l s more → MissesNone bytes classes marks pattern dom i r (In more)
+      pub misses-none-pair : kind_at bytes r ≡ 11 → {set more : List Bool} → Joins set (get_or sets l []) (get_or sets s []) more → MissesNone bytes classes marks pattern dom i r (In more)
       misses-none-pair e joins k within d c g = let p = derivable-pair scene k low e d in misses-none-both (omega arith) joins k within p.0 p.1 c g
 
       -- an encryption, by its parts or a marked cell
-      pub misses-none-encryption : kind_at bytes r ≡ 12 → {set more : List Bool} → Matched bytes classes marks pattern dom i r set → Joins set sets l s more → MissesNone bytes classes marks pattern dom i r (In more)
+      pub misses-none-encryption : kind_at bytes r ≡ 12 → {set more : List Bool} → Matched bytes classes marks pattern dom i r set → Joins set (get_or sets l []) (get_or sets s []) more → MissesNone bytes classes marks pattern dom i r (In more)
       misses-none-encryption e {set} {more} matched joins k within d c g = go (ways scene k low (omega arith) (λ z. omega arith) d)
         where
           go : Ways scene k r → In more c
@@ -217,24 +201,16 @@ module _ {bytes classes : List ℕ} {marks : List Bool} {pattern : Pattern} (sce
         go (from_parts q a b) = absurd (another q)
 
   -- sets of all classes, and one row more
-  pub rows_start : (i : ℕ) → RowsMissNone bytes classes marks pattern dom i (replicate set_cells true)
-  rows_start i =
-      record { size = length-replicate {A = Bool} set_cells true; each = λ y l k within d c g. get_or-replicate {A = Bool} set_cells (y * cell_count + c) true false (omega (arith, gets-low scene k _ g)) }
+  pub rows_start : (i : ℕ) → RowsMissNone bytes classes marks pattern dom i (replicate 96 (replicate cell_count true))
+  rows_start i = record {
+    size = length-replicate {A = List Bool} 96 (replicate cell_count true);
+    each = λ y l k within d c g. rw (get_or-replicate {A = List Bool} 96 y (replicate cell_count true) [] l) (in_all cell_count (gets-low scene k _ g));
+  }
 
-  pub rows_more : {i r : ℕ} {sets set after : List Bool} → RowsMissNone bytes classes marks pattern dom i sets → MissesNone bytes classes marks pattern dom i r (In set) → RowPut sets r set after
-      → RowsMissNone bytes classes marks pattern dom i after
-  rows_more {i} {r} {sets} {set} {after} each_row covered written = record { size = written.size ∙ each_row.size; each = λ y l. go y l (ℕ_discrete y r) }
+  pub rows_more : {i r : ℕ} {sets : List (List Bool)} (set : List Bool) → r < 96 → RowsMissNone bytes classes marks pattern dom i sets → MissesNone bytes classes marks pattern dom i r (In set)
+      → RowsMissNone bytes classes marks pattern dom i (lists.set sets r set)
+  rows_more {i} {r} {sets} set low each_row covered = record { size = length-set sets r set ∙ each_row.size; each = λ y l. go y l (ℕ_discrete y r) }
     where
-      go : (y : ℕ) → y < 96 → Dec (y ≡ r) → MissesNone bytes classes marks pattern dom i y (InRow after y)
-      go y l (yes e) k within d c g = rw e (written.own c (gets-low scene k _ g) (covered k within (rw e at d) c g))
-      go y l (no z) k within d c g = written.others y c (gets-low scene k _ g) z (each_row.each y l k within d c g)
-
--- a place that is not the number of variables is that of the row
-pub slot_at : {vars : VariableRows} {q slot : ℕ} → Slot vars q slot → (slot ≡ vars.count → ⊥) → (slot < vars.count) × (get_or vars.rows slot 0 ≡ q)
-slot_at (is_at l e) d = (l, e)
-slot_at (is_none e) d = absurd (d e)
-
--- the set of one row
-pub rows-one : {bytes classes : List ℕ} {marks : List Bool} {pattern : Pattern} (scene : Scene bytes classes marks pattern) (dom : List Bool) {i x : ℕ} {start sets more : List Bool}
-    → RowsMissNone bytes classes marks pattern dom i sets → x < 96 → Joins start sets x x more → MissesNone bytes classes marks pattern dom i x (In more)
-rows-one scene dom {x = x} each_row l joins k within d c g = let h = each_row.each x l k within d c g in joins.adds c (gets-low scene k _ g) h h
+      go : (y : ℕ) → y < 96 → Dec (y ≡ r) → MissesNone bytes classes marks pattern dom i y (InRow (lists.set sets r set) y)
+      go y l (yes e) k within d c g = rw e (row_in sets r set c (omega (arith, each_row.size)) (covered k within (rw e at d) c g))
+      go y l (no z) k within d c g = row_stays sets r set y c (λ e. absurd (z e)) (each_row.each y l k within d c g)

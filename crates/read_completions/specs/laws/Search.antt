@@ -1,5 +1,5 @@
 -- Domains that are narrowed and tried: none misses a completion with which the row is derivable. Assumes nothing.
-use Rattle.std.specs.Prelude.{ℕ, ◌+◌, ◌*◌, ◌<◌, ◌≤◌, ◌≡◌, Bool, true, false, List, T, get_or}
+use Rattle.std.specs.Prelude.{ℕ, ◌+◌, ◌<◌, ◌≤◌, ◌≡◌, Bool, true, false, List, [], T, get_or}
 use Rattle.std.proofs.Math.Decide.{ℕ_discrete}
 use Rattle.std.proofs.Common.{arith, sym, ◌∙◌, subst, true≢false}
 use Rattle.std.proofs.lemmas.Bool.{false≢true}
@@ -18,7 +18,7 @@ use Rattle.read_completions.specs.Completions.{NoneEmpty, Scene, TakesCell, Comp
 use Rattle.read_completions.specs.laws.Rows.{gets-low, takes-gets, takes-class, takes-marked}
 
 -- the domains of the pattern's variables miss no value, or none that is marked
-abbrev AllListed : List ℕ → List ℕ → List Bool → Pattern → Bool → List Bool → Type 0
+abbrev AllListed : List ℕ → List ℕ → List Bool → Pattern → Bool → List (List Bool) → Type 0
 AllListed bytes classes marks pattern only dom =
     (i : ℕ) → i < pattern.vars.count → Listed bytes pattern.scope.rows pattern.scope.runs classes marks only (get_or pattern.vars.rows i 0) (InRow dom i)
 
@@ -32,7 +32,7 @@ pub scene-of : {bytes classes : List ℕ} {marks : List Bool} {scope : Scope} {x
 scene-of given low = record { shape = given.0.0; classed = given.0.1.0; marked = given.1; run = given.0.1.1.0; row = given.0.1.1.1; low = low }
 
 -- no class of variable i below a number leads to a completion
-abbrev pub Tried : List ℕ → List ℕ → List Bool → Pattern → List Bool → ℕ → ℕ → Type 0
+abbrev pub Tried : List ℕ → List ℕ → List Bool → Pattern → List (List Bool) → ℕ → ℕ → Type 0
 Tried bytes classes marks pattern dom i c =
     (k : Completion bytes classes marks pattern) → InDomains k dom → GetsDerivable k pattern.row → (e : ℕ) → e < c → GetsClass k i e → ⊥
 
@@ -46,41 +46,41 @@ module _ {bytes classes : List ℕ} {marks : List Bool} {pattern : Pattern} (sce
       (has-class bytes pattern.scope.rows pattern.scope.runs k.extension.shape k.extension.old classes k.extension.right takes.inside takes.has))
 
   -- domains of all values that variables may take miss none
-  pub in-domains-start : (dom : List Bool) → AllListed bytes classes marks pattern false dom → (k : Completion bytes classes marks pattern) → InDomains k dom
+  pub in-domains-start : (dom : List (List Bool)) → AllListed bytes classes marks pattern false dom → (k : Completion bytes classes marks pattern) → InDomains k dom
   in-domains-start dom listed k i l c g = listed-class false (InRow dom i) k (listed i l) (k.filled i l) (λ e. absurd (false≢true e)) c g
 
   -- and those of marked values miss none of a variable that is derivable
-  pub marked-domains-start : (dom : List Bool) → AllListed bytes classes marks pattern true dom → MarkedDomains bytes classes marks pattern dom
+  pub marked-domains-start : (dom : List (List Bool)) → AllListed bytes classes marks pattern true dom → MarkedDomains bytes classes marks pattern dom
   marked-domains-start dom listed k i l d c g = listed-class true (InRow dom i) k (listed i l) (k.filled i l) (λ e. d) c g
 
-  module _ (dom : List Bool) where
+  module _ (dom : List (List Bool)) where
     -- one domain is narrowed
-    pub kept_more : {i : ℕ} → i < pattern.vars.count → (less : List Bool) (set next : List Bool) → CompletionsKept bytes classes marks pattern dom less → MissesNone bytes classes marks pattern less i pattern.row (In set)
+    pub kept_more : {i : ℕ} → i < pattern.vars.count → (less : List (List Bool)) (set : List Bool) (next : List (List Bool)) → CompletionsKept bytes classes marks pattern dom less → MissesNone bytes classes marks pattern less i pattern.row (In set)
         → Narrows less i set next → CompletionsKept bytes classes marks pattern dom next
     kept_more {i} l less set next kept covered narrows k within d j m c g =
         let before = kept k within d in
         narrows j c (omega (arith, scene.low.few)) (gets-low scene k _ g) (before j m c g) (λ e. covered k before d c (rw e at g))
 
     -- one more round
-    pub kept-both : (less next : List Bool) → CompletionsKept bytes classes marks pattern dom less → CompletionsKept bytes classes marks pattern less next → CompletionsKept bytes classes marks pattern dom next
+    pub kept-both : (less next : List (List Bool)) → CompletionsKept bytes classes marks pattern dom less → CompletionsKept bytes classes marks pattern less next → CompletionsKept bytes classes marks pattern dom next
     kept-both less next kept more k within d = more k (kept k within d) d
 
     -- a domain without a class
-    pub completable-empty : (less : List Bool) → CompletionsKept bytes classes marks pattern dom less → {b : Bool} → (NoneEmpty pattern.vars less → b ≡ false) → b ≡ true
+    pub completable-empty : (less : List (List Bool)) → CompletionsKept bytes classes marks pattern dom less → {b : Bool} → (NoneEmpty pattern.vars less → b ≡ false) → b ≡ true
         → (answer : Bool) → Completable bytes classes marks pattern dom answer
     completable-empty less kept f e answer k within d = absurd (is_true e (f (λ i l. let g = takes-gets scene k (k.filled i l) in (_, (gets-low scene k _ g, kept k within d i l _ g)))))
 
     abbrev TriedIn : ℕ → ℕ → Type 0
     TriedIn i c = Tried bytes classes marks pattern dom i c
 
-    pub tried-absent : {i c : ℕ} → i < pattern.vars.count → get_or dom (i * cell_count + c) false ≡ false → TriedIn i c → TriedIn i (c + 1)
+    pub tried-absent : {i c : ℕ} → i < pattern.vars.count → get_or (get_or dom i []) c false ≡ false → TriedIn i c → TriedIn i (c + 1)
     tried-absent {i} {c} m z tried k within d e l g = go (ℕ_discrete e c)
       where
         go : Dec (e ≡ c) → ⊥
         go (yes q) = true≢false (sym (within i m c (rw q at g)) ∙ z)
         go (no n) = tried k within d e (omega arith) g
 
-    pub tried-more : {i c : ℕ} → i < pattern.vars.count → c < cell_count → (only : List Bool) → NarrowsTo dom i c only → {b : Bool} → Completable bytes classes marks pattern only b → b ≡ false
+    pub tried-more : {i c : ℕ} → i < pattern.vars.count → c < cell_count → (only : List (List Bool)) → NarrowsTo dom i c only → {b : Bool} → Completable bytes classes marks pattern only b → b ≡ false
         → TriedIn i c → TriedIn i (c + 1)
     tried-more {i} {c} m low only narrows {b} passed z tried k within d e l g = go (ℕ_discrete e c)
       where
@@ -97,11 +97,11 @@ module _ {bytes classes : List ℕ} {marks : List Bool} {pattern : Pattern} (sce
     tried-all {i} m h tried answer k within d = let g = takes-gets scene k (k.filled i m) in absurd (tried k within d _ (omega (arith, gets-low scene k _ g)) g)
 
     -- what later domains pass, earlier ones do
-    pub completable-kept : (less : List Bool) → CompletionsKept bytes classes marks pattern dom less → {answer : Bool} → Completable bytes classes marks pattern less answer → Completable bytes classes marks pattern dom answer
+    pub completable-kept : (less : List (List Bool)) → CompletionsKept bytes classes marks pattern dom less → {answer : Bool} → Completable bytes classes marks pattern less answer → Completable bytes classes marks pattern dom answer
     completable-kept less kept passed k within d = passed k (kept k within d) d
 
 -- the test of the unset variables beneath the pattern
-pub completes-tested : {bytes classes : List ℕ} {marks : List Bool} {pattern : Pattern} {below : List Bool} (dom : List Bool) → Scene bytes classes marks pattern
+pub completes-tested : {bytes classes : List ℕ} {marks : List Bool} {pattern : Pattern} {below : List Bool} (dom : List (List Bool)) → Scene bytes classes marks pattern
     → Beneath (rows_of bytes) pattern.row below → Unset bytes pattern.scope.rows classes pattern.scope.run below pattern.vars → AllListed bytes classes marks pattern false dom
     → {answer : Bool} → Completable bytes classes marks pattern dom answer → Completes bytes pattern.scope.rows pattern.scope.runs classes marks pattern.scope.run pattern.row answer
 completes-tested {bytes} {classes} {marks} {pattern} {below} dom scene beneath-x unset listed completable s known exact celled filled t h d =

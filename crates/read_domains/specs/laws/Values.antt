@@ -1,9 +1,8 @@
 -- The classes of the values that a variable may take, one cell after the other, and the domains, one variable after the other. Assumes nothing.
-use Rattle.std.specs.Prelude.{ℕ, ◌+◌, ◌*◌, ◌/◌, ◌%◌, ◌<◌, ◌≤◌, ◌≡◌, refl, Bool, true, false, List, length, get_or, set, replicate}
-use Rattle.std.proofs.Common.{eq-or-lt_of_le, arith, sym, ap, ◌∙◌, ⊎_elim, below_more, get_or-set_same}
+use Rattle.std.specs.Prelude.{ℕ, ◌+◌, ◌/◌, ◌%◌, ◌<◌, ◌≤◌, ◌≡◌, Bool, true, false, List, length, get_or}
+use Rattle.std.proofs.Common.{eq-or-lt_of_le, arith, sym, ◌∙◌, ⊎_elim}
 use Rattle.std.proofs.lemmas.Bool.{false≢true}
 use Rattle.std.proofs.Math.Option.{some}
-use Rattle.std.proofs.lemmas.List.{get_or-replicate}
 use Rattle.semantics.specs.Term.{Atom}
 use Rattle.semantics.specs.Runs.{atom_at}
 use Rattle.semantics.specs.Moves.{candidates}
@@ -13,8 +12,7 @@ use Rattle.cells.specs.Cells.{cell_of, cell_count, absent}
 use Rattle.knowledge.specs.Marks.{Marked}
 use Rattle.knowledge.specs.Steps.{class_at, Inside}
 use Rattle.variables.specs.Variables.{In, TellsValue, takes, takes_not}
-use Rattle.read_domains.specs.Domains.{domain_cells, InRow, Candidate, Listed, ListedAt, Narrows}
-use Rattle.read_domains.specs.laws.Sets.{stays}
+use Rattle.read_domains.specs.Domains.{InRow, Candidate, Listed, ListedAt}
 
 module _ (bytes : List ℕ) (n runs : ℕ) (classes : List ℕ) (marks : List Bool) (only : Bool) where
   module _ (q : ℕ) where
@@ -31,28 +29,11 @@ module _ (bytes : List ℕ) (n runs : ℕ) (classes : List ℕ) (marks : List Bo
     listed-all own shape l listed y w i = listed y w (omega (arith, shape.few, shape.few_runs, i.0, i.1)) i
 
     module _ (c : ℕ) (own : List Bool) where
-      -- a cell that adds nothing: not marked, or without a class, or no value of the variable
+      -- a cell that adds nothing
       listed_same :
           ((y w : ℕ) → cell_of y w ≡ c → Inside n runs y w → Candidate bytes runs q y w → (only ≡ true → Marked marks y w) → class_at classes y w < absent → ⊥)
           → ListedAt bytes n runs classes marks only q c own own
       listed_same none = record { keeps = λ e h. h; adds = λ y w e i m k a. absurd (none y w e i m k a) }
-
-      pub listed-unmarked : only ≡ true → get_or marks c false ≡ false → ListedAt bytes n runs classes marks only q c own own
-      listed-unmarked is off = listed_same (λ y w e i m k a. false≢true (sym off ∙ rw e at (k is)))
-
-      -- the class of the cell, by its row and run
-      class-there : {class : ℕ} → class ≡ class_at classes (c % 96) (c / 96) → (y w : ℕ) → cell_of y w ≡ c → class ≡ class_at classes y w
-      class-there e y w q = let p : cell_of (c % 96) (c / 96) ≡ cell_of y w = omega arith in e ∙ ap (λ d. get_or classes d absent) p
-
-      pub listed-absent : {class : ℕ} → class ≡ class_at classes (c % 96) (c / 96) → absent ≤ class → ListedAt bytes n runs classes marks only q c own own
-      listed-absent e l = listed_same (λ y w q i m k a. omega (arith, class-there e y w q))
-
-      pub listed-set :
-          {class : ℕ} → length own ≡ cell_count → class ≡ class_at classes (c % 96) (c / 96) → class < absent → ListedAt bytes n runs classes marks only q c own (set own class true)
-      listed-set {class} sized e l = record {
-        keeps = λ d h. stays own class true (λ q. refl) h;
-        adds = λ y w q i m k a. rw (← class-there e y w q) (get_or-set_same own class true false (omega arith));
-      }
 
       pub listed-other :
           Shape bytes n runs → {b : Bool} → ((a : Atom) → atom_at (rows_of bytes) q ≡ some a → TellsValue (rows_of bytes) runs a (c % 96) (c / 96) b) → b ≡ false
@@ -64,21 +45,7 @@ module _ (bytes : List ℕ) (n runs : ℕ) (classes : List ℕ) (marks : List Bo
           go a y w ey ew v (takes d e f g) = false≢true (sym off ∙ e)
           go a y w ey ew v (takes_not e f) = false≢true (sym f ∙ rw (ey, ew) at v)
 
-  module _ (rows : List ℕ) where
-    -- the domains of the variables so far hold their values, and those of the others hold all
-    pub record DomainsTo (i : ℕ) (dom : List Bool) : Type 0 where
-      pub done : (j : ℕ) → j < i → Listed bytes n runs classes marks only (get_or rows j 0) (InRow dom j)
-      pub full : (j c : ℕ) → i ≤ j → j < 8 → c < cell_count → InRow dom j c
-
-    pub domains-start : DomainsTo 0 (replicate domain_cells true)
-    domains-start = record { done = λ j l. absurd (omega arith); full = λ j c k l m. get_or-replicate {A = Bool} domain_cells (j * cell_count + c) true false (omega arith) }
-
-    -- one more is narrowed to its values
-    pub domains-more :
-        {i : ℕ} {dom : List Bool} (own less : List Bool) → i < 8 → DomainsTo i dom → Listed bytes n runs classes marks only (get_or rows i 0) (In own) → Narrows dom i own less → DomainsTo (i + 1) less
-    domains-more {i} own less few d listed narrows = record {
-      done = below_more _ i
-          (λ j k y w s m o a. narrows j (class_at classes y w) (omega arith) a (d.done j k y w s m o a) (λ e. absurd (omega arith)))
-          (λ y w s m o a. narrows i (class_at classes y w) few a (d.full i (class_at classes y w) (omega arith) few a) (λ e. listed y w s m o a));
-      full = λ j c k l m. narrows j c l m (d.full j c (omega arith) l m) (λ e. absurd (omega arith));
-    }
+  -- the domains of the variables so far hold their values
+  pub record DomainsTo (rows : List ℕ) (i : ℕ) (dom : List (List Bool)) : Type 0 where
+    pub size : length dom ≡ 8
+    pub done : (j : ℕ) → j < i → Listed bytes n runs classes marks only (get_or rows j 0) (InRow dom j)

@@ -1,11 +1,6 @@
--- `read_fits::needs_of` meets its contract. The loop's invariant: every row that needs a class gets its value, if row r gets the value of the class.
--- The measure is the row. Assumes nothing.
-use Prim.Native.Nat.{◌≤◌}
+-- `read_fits::needs_of` meets its contract. The loop's invariant: every row that needs a class gets its value, if row r gets the value of the class. Assumes nothing.
 use Rattle.read_fits.specs.laws.Fits.{Needs}
 use Rattle.read_fits.proofs.needs_of.Given as goal
 
 abbrev pub invariant-loop-q : goal.invariant-loop-q
-invariant-loop-q l = (l.q ≤ l.scope.rows) × Needs l.t l.scope.rows l.scope.runs l.classes l.scope.run l.r l.class l.need
-
-abbrev pub decreases-loop-q : goal.decreases-loop-q
-decreases-loop-q l = l.q
+invariant-loop-q l = Needs l.t l.scope.rows l.scope.runs l.classes l.scope.run l.r l.class l.need

@@ -1,4 +1,4 @@
--- `read_possible::share` meets its contract: the first part is asked, then the second. Assumes nothing.
+-- `read_fits::share` meets its contract: the first part is asked, then the second. Assumes nothing.
 use Rattle.cells.specs.laws.Cells.{left-small, second-small}
 use Rattle.read_fits.specs.laws.Fits.{shared-both, shared-refused}
 use native.Mathlib.Omega.{arith}
@@ -24,6 +24,6 @@ pub returns-then-ask : goal.returns-then-ask
 returns-then-ask c =
     shared-both c.args.t.now c.args.scope.rows c.args.scope.runs c.args.classes.now c.args.scope.run c.args.q c.args.y c.args.w c.left_of.ensures.0 c.class_at-first.ensures c.left_of-2.ensures.0 c.ask.ensures c.second_of.ensures.0 c.class_at-second.ensures c.second_of-then-ask.ensures.0 c.ask-then-ask.ensures
 
-pub returns : goal.returns
-returns c =
+pub returns-else-ask : goal.returns-else-ask
+returns-else-ask c =
     shared-refused c.args.t.now c.args.scope.rows c.args.scope.runs c.args.classes.now c.args.scope.run c.args.q c.args.y c.args.w c.left_of.ensures.0 c.class_at-first.ensures c.left_of-2.ensures.0 c.ask.ensures c.if-ask.false _ _

@@ -1,5 +1,5 @@
 -- Needs of rows: one that is noted is met, and one that is refused cannot be. Assumes nothing.
-use Rattle.std.specs.Prelude.{ℕ, ◌/◌, ◌%◌, ◌<◌, ◌≤◌, ◌≡◌, refl, Bool, true, false, List, eqb, length, get_or, set, replicate}
+use Rattle.std.specs.Prelude.{ℕ, ◌/◌, ◌%◌, ◌<◌, ◌≤◌, ◌≡◌, refl, Bool, true, false, List, eqb, length, get_or, set, replicate, None}
 use Rattle.std.proofs.Math.Decide.{ℕ_discrete}
 use Rattle.std.proofs.Common.{arith, sym, ◌∙◌, eq-eqb, length-set, get_or-set_same, get_or-set_other}
 use Rattle.std.proofs.lemmas.Bool.{false≢true}
@@ -56,14 +56,6 @@ module _ (classes : List ℕ) (u : ℕ) (need : List ℕ) (q class : ℕ) where
   -- a row that has a class already
   pub asked-own : {own : ℕ} → own ≡ class_at classes q u → own < absent → Asked classes u need need q class (eqb own class)
   asked-own {own} e l bytes n runs s nd g = (eq-eqb own class (e ∙ gets-own s q (rw e at l) g), nd)
-
-  -- a row that needs one already
-  pub asked-had : q < 96 → get_or need q 0 < absent → Asked classes u need need q class (eqb (get_or need q 0) class)
-  asked-had l h bytes n runs s nd g = (eq-eqb (get_or need q 0) class (gets-one s q (nd.each q l h) g), nd)
-
-  -- a row that needs one now
-  pub asked-now : q < 96 → Asked classes u need (set need q class) q class true
-  asked-now l bytes n runs s nd g = (refl, needed-set s l nd g)
 
 module _ (bytes : List ℕ) (n runs : ℕ) (classes : List ℕ) (u q y w : ℕ) {l p first : ℕ} (el : l ≡ left_at bytes y) (ef : first ≡ class_at classes l w) (ep : p ≡ left_at bytes q) where
   -- the need of the first part
@@ -147,9 +139,8 @@ module _ (bytes : List ℕ) (n runs : ℕ) (classes : List ℕ) (u r class : ℕ
   needs-more needs followed s g = (followed s (needs s g)).1
 
   -- a row that is refused what it needs
-  pub needs-refused : {need after : List ℕ} {o : Bool} → Needs need → PassedDown bytes n runs classes u need after o → o ≡ false → (met : Bool)
-      → NeedsMet bytes n runs classes u r class met after
-  needs-refused needs followed e met s g = absurd (false≢true (sym e ∙ (followed s (needs s g)).0))
+  pub needs-refused : {need after : List ℕ} {o : Bool} → Needs need → PassedDown bytes n runs classes u need after o → o ≡ false → NeedsMet bytes n runs classes u r class None
+  needs-refused needs followed e s g = false≢true (sym e ∙ (followed s (needs s g)).0)
 
 module _ (bytes : List ℕ) (n runs : ℕ) (classes : List ℕ) (marks : List Bool) (u r y w : ℕ) {c : ℕ} (ec : c ≡ cell_of y w) where
   -- a marked cell that stands for its own value

@@ -2,12 +2,7 @@
 use native.Mathlib.Omega.{arith}
 use Rattle.read_partial.specs.laws.Refused.{own-refused, peer-refused, row-refused, values-refused}
 use Rattle.read_partial.proofs.may_be_read.Goals as goal
-
-pub bounds-marks-own : goal.bounds-marks-own
-bounds-marks-own c = omega (arith, c.requires.1.0.agent, c.requires.0.few, c.requires.1.1.1)
-
-pub bounds-marks-peer : goal.bounds-marks-peer
-bounds-marks-peer c = omega (arith, c.requires.1.0.other, c.requires.0.few, c.requires.1.1.1)
+use Rattle.read_partial.proofs.may_be_read.Goals.{then-not-marks-e-via-then-not-marks-e, then-not-marks-e-via-else-not-marks-e+then-not-marks-e-2}
 
 pub possible-requires : goal.possible-requires
 possible-requires c =
@@ -25,8 +20,8 @@ pub returns-else-possible : goal.returns-else-possible
 returns-else-possible c sc d s a from xs vs ws names next kind setting arrays takes answer =
     row-refused c.requires.0 c.requires.1.0 from xs vs ws next kind setting arrays c.possible.result c.possible.ensures c.if-possible.false
 
-pub returns-else-marks-peer : goal.returns-else-marks-peer
-returns-else-marks-peer c sc d s a from xs vs ws names next kind setting arrays takes answer = peer-refused c.requires.0 c.requires.1.0 from xs vs ws next kind setting arrays c.if-marks-peer.false
-
-pub returns-else-marks-own : goal.returns-else-marks-own
-returns-else-marks-own c sc d s a from xs vs ws names next kind setting arrays takes answer = own-refused c.requires.0 c.requires.1.0 from xs vs ws next kind setting arrays c.if-marks-own.false
+pub returns-then-not-marks-e : goal.returns-then-not-marks-e
+returns-then-not-marks-e c sc d s a from xs vs ws names next kind setting arrays takes answer = elim c.then-not-marks-e.branch [
+  | then-not-marks-e-via-then-not-marks-e w ↦ own-refused c.requires.0 c.requires.1.0 from xs vs ws next kind setting arrays w.if-not-marks-e.true
+  | then-not-marks-e-via-else-not-marks-e+then-not-marks-e-2 w ↦ peer-refused c.requires.0 c.requires.1.0 from xs vs ws next kind setting arrays w.if-not-marks-e-2.true
+]

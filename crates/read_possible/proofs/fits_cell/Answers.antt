@@ -1,19 +1,24 @@
 -- `read_possible::fits_cell` meets its contract: only a marked cell that stands for its own value is looked at. Assumes nothing.
+use Rattle.std.proofs.Common.{◌≡◌, true, Option, None, Some, IsSomeAnd, sym, refl, ◌∙◌}
+use Rattle.std.specs.Option.{is_some}
 use Rattle.read_fits.specs.laws.Fits.{take-fits, take-other, take-unmarked}
-use native.Mathlib.Omega.{arith}
 use Rattle.read_possible.proofs.fits_cell.Goals as goal
+use Rattle.read_possible.proofs.fits_cell.Goals.{then-not-marks-c-via-then-not-marks-c, then-not-marks-c-via-else-not-marks-c+then-from-c}
 
-pub overflow_cast-class : goal.overflow_cast-class
-overflow_cast-class c = omega (arith, c.shared_slice_known-then-marks-c-1.given c.cell-c.result)
+pub returns-then-not-marks-c : goal.returns-then-not-marks-c
+returns-then-not-marks-c c = elim c.then-not-marks-c.branch [
+  | then-not-marks-c-via-then-not-marks-c w ↦
+      take-unmarked c.args.t.now c.args.scope.rows c.args.scope.runs c.args.classes.now c.args.marks.now c.args.scope.run c.args.r c.args.y c.args.w c.cell-c.ensures.0 w.if-not-marks-c.true
+  | then-not-marks-c-via-else-not-marks-c+then-from-c w ↦
+      take-other c.args.t.now c.args.scope.rows c.args.scope.runs c.args.classes.now c.args.marks.now c.args.scope.run c.args.r c.args.y c.args.w c.cell-c.ensures.0 c.requires.0.0.1.0 c.cell-c.ensures.1 (λ e. w.if-from-c.true (w.from.ensures ∙ e))
+]
 
-pub returns-then-class-c : goal.returns-then-class-c
-returns-then-class-c c =
-    take-fits c.args.t.now c.args.scope.rows c.args.scope.runs c.args.classes.now c.args.marks.now c.args.scope.run c.args.r c.args.y c.args.w c.cell-c.ensures.0 c.if-class-c.true (λ g. (c.needs_of-needs.ensures g.0 g.1).0)
+-- a value that has something is there
+there : {A : Type 0} (o : Option A) (P : A → Type 0) → IsSomeAnd o P → is_some o ≡ true
+there None P h = absurd h
+there (Some x) P h = refl
 
-pub returns-else-class-c : goal.returns-else-class-c
-returns-else-class-c c =
-    take-other c.args.t.now c.args.scope.rows c.args.scope.runs c.args.classes.now c.args.marks.now c.args.scope.run c.args.r c.args.y c.args.w c.cell-c.ensures.0 c.requires.0.0.1.0 c.cell-c.ensures.1 c.if-class-c.false
-
-pub returns-else-marks-c : goal.returns-else-marks-c
-returns-else-marks-c c =
-    take-unmarked c.args.t.now c.args.scope.rows c.args.scope.runs c.args.classes.now c.args.marks.now c.args.scope.run c.args.r c.args.y c.args.w c.cell-c.ensures.0 c.if-marks-c.false
+pub returns : goal.returns
+returns c =
+    take-fits c.args.t.now c.args.scope.rows c.args.scope.runs c.args.classes.now c.args.marks.now c.args.scope.run c.args.r c.args.y c.args.w c.cell-c.ensures.0
+    (sym c.from.ensures ∙ c.if-from-c.false) (λ g. c.is_some.ensures ∙ there c.needs_of.result _ (c.needs_of.ensures g.0 g.1))

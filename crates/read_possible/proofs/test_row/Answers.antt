@@ -1,9 +1,9 @@
 -- `read_possible::test_row` meets its contract: by the row's mark, as a variable, by its parts, or by the marked cells of its kind. Assumes nothing.
 use mathlib.Core.Path.{sym, ◌∙◌}
-use mathlib.Core.Logic.{⊎_elim}
 use Rattle.read_possible.specs.laws.Tests.{parts-small, possible-set, possible-pair, possible-other, both_read}
 use native.Mathlib.Omega.{arith}
 use Rattle.read_possible.proofs.test_row.Goals as goal
+use Rattle.read_possible.proofs.test_row.Goals.{else-kind-eq-ENCRYPTED-via-then-kind-eq-ENCRYPTED+else-both, else-kind-eq-ENCRYPTED-via-else-kind-eq-ENCRYPTED}
 
 pub returns-then-class_at-lt-ABSENT : goal.returns-then-class_at-lt-ABSENT
 returns-then-class_at-lt-ABSENT c =
@@ -27,4 +27,8 @@ pub returns : goal.returns
 returns c =
     let k = c.kind_of-kind.ensures.0 in
     let h = c.if-kind-lt-FIRST_MADE.false in
-    possible-other c.args.t.now c.args.scope.rows c.args.scope.runs c.requires.1.0.0 c.args.classes.now c.args.marks.now c.args.scope.run c.args.r c.requires.1.0.1.1.0 c.requires.1.0.1.1.1 c.args.can.now c.requires.0 (omega arith) (λ e. c.if-kind-eq-PAIR.false (k ∙ e)) (⊎_elim (λ w e. both_read c.args.t.now c.args.r c.args.can.now w.left_of-then-kind-eq-ENCRYPTED.ensures.0 w.second_of-then-kind-eq-ENCRYPTED.ensures.0 w.both-then-kind-eq-ENCRYPTED.ensures w.if-both.false) (λ w e. absurd (w.if-kind-eq-ENCRYPTED.false (k ∙ e))) c.if-kind-eq-ENCRYPTED.branch-raw) c.fits_mark.ensures
+    possible-other c.args.t.now c.args.scope.rows c.args.scope.runs c.requires.1.0.0 c.args.classes.now c.args.marks.now c.args.scope.run c.args.r c.requires.1.0.1.1.0 c.requires.1.0.1.1.1 c.args.can.now c.requires.0 (omega arith) (λ e. c.if-kind-eq-PAIR.false (k ∙ e))
+    (elim c.else-kind-eq-ENCRYPTED.branch [
+      | else-kind-eq-ENCRYPTED-via-then-kind-eq-ENCRYPTED+else-both w ↦ λ e. both_read c.args.t.now c.args.r c.args.can.now w.left_of-then-kind-eq-ENCRYPTED.ensures.0 w.second_of-then-kind-eq-ENCRYPTED.ensures.0 w.both-then-kind-eq-ENCRYPTED.ensures w.if-both.false
+      | else-kind-eq-ENCRYPTED-via-else-kind-eq-ENCRYPTED w ↦ λ e. absurd (w.if-kind-eq-ENCRYPTED.false (k ∙ e))
+    ]) c.fits_mark.ensures

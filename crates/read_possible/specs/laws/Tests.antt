@@ -1,7 +1,6 @@
 -- The test of a row keeps its promise, if the tests of its parts do. Assumes nothing.
-use Rattle.std.specs.Prelude.{ℕ, ◌<◌, ◌≤◌, ◌≡◌, Bool, true, false, ◌&&◌, List, [], get_or, set, replicate}
-use Rattle.std.proofs.Math.Decide.{ℕ_discrete}
-use Rattle.std.proofs.Common.{arith, sym, ◌∙◌, length-set, get_or-set_same, get_or-set_other}
+use Rattle.std.specs.Prelude.{ℕ, ◌<◌, ◌≤◌, ◌≡◌, Bool, true, false, ◌&&◌, List, [], get_or, replicate}
+use Rattle.std.proofs.Common.{arith, sym, ◌∙◌}
 use Rattle.std.proofs.lemmas.Bool.{false≢true}
 use Rattle.std.proofs.Math.Option.{some-injective}
 use Rattle.std.proofs.lemmas.List.{length-replicate, get_or-replicate}
@@ -50,15 +49,6 @@ both-pass e f = rw (e, f)
 pub both_read : (bytes : List ℕ) (r : ℕ) (can : List Bool) {l k : ℕ} {b : Bool} → l ≡ left_at bytes r → k ≡ second_of bytes r → b ≡ (get_or can l false && get_or can k false) → b ≡ false
     → (get_or can (left_at bytes r) false && get_or can (second_of bytes r) false) ≡ false
 both_read bytes r can el ek eb e = sym (rw (el, ek) at eb) ∙ e
-
--- one test more that keeps the promise
-pub tested-set : {bytes : List ℕ} {runs : ℕ} {classes : List ℕ} {marks : List Bool} {u : ℕ} {can : List Bool} {r : ℕ} {b : Bool} → r < 96 → TestedRows bytes runs classes marks u can
-    → Possible (rows_of bytes) runs classes marks u r b → TestedRows bytes runs classes marks u (set can r b)
-tested-set {bytes} {runs} {classes} {marks} {u} {can} {r} {b} l tested p = record { size = length-set can r b ∙ tested.size; each = λ y k. go y k (ℕ_discrete y r) }
-  where
-    go : (y : ℕ) → y < 96 → Dec (y ≡ r) → Possible (rows_of bytes) runs classes marks u y (get_or (set can r b) y false)
-    go y k (yes e) = rw (e, get_or-set_same can r b false (omega (arith, tested.size))) p
-    go y k (no d) = rw (get_or-set_other can r y b false d) (tested.each y k)
 
 -- tests that all pass keep it
 pub tested-start : (bytes : List ℕ) (runs : ℕ) (classes : List ℕ) (marks : List Bool) (u : ℕ) → TestedRows bytes runs classes marks u (replicate 96 true)

@@ -3,12 +3,14 @@ use Rattle.cells.specs.laws.Cells.{left-small, second-small}
 use Rattle.variables.specs.laws.Beneath.{closed-unmarked, closed-atom, closed_parts}
 use native.Mathlib.Omega.{arith}
 use Rattle.variables.proofs.mark_parts.Goals as goal
+use Rattle.variables.proofs.mark_parts.Goals.{then-not-below-r-via-then-not-below-r, then-not-below-r-via-else-not-below-r+then-kind_of-lt-FIRST_MADE}
 
 pub returns-then-not-below-r : goal.returns-then-not-below-r
-returns-then-not-below-r c = closed-unmarked c.args.t.now c.args.n c.requires.0 c.args.r c.requires.1 c.args.below.now c.if-not-below-r.true
-
-pub returns-then-kind_of-lt-FIRST_MADE : goal.returns-then-kind_of-lt-FIRST_MADE
-returns-then-kind_of-lt-FIRST_MADE c = closed-atom c.args.t.now c.args.n c.requires.0 c.args.r c.requires.1 c.args.below.now (rw c.kind_of.ensures.0 at c.if-kind_of-lt-FIRST_MADE.true)
+returns-then-not-below-r c = elim c.then-not-below-r.branch [
+  | then-not-below-r-via-then-not-below-r w ↦ closed-unmarked c.args.t.now c.args.n c.requires.0 c.args.r c.requires.1 c.args.below.now w.if-not-below-r.true
+  | then-not-below-r-via-else-not-below-r+then-kind_of-lt-FIRST_MADE w ↦
+      closed-atom c.args.t.now c.args.n c.requires.0 c.args.r c.requires.1 c.args.below.now (rw w.kind_of.ensures.0 at w.if-kind_of-lt-FIRST_MADE.true)
+]
 
 pub bounds-below-left_of : goal.bounds-below-left_of
 bounds-below-left_of c = left-small c.args.t.now c.args.n 0 c.requires.0 c.args.r c.requires.1 (omega arith) c.left_of.ensures.0

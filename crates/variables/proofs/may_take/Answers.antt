@@ -1,5 +1,6 @@
 -- `variables::may_take` meets its contract: the run is one of those with which the row is a value. Assumes nothing.
 use mathlib.Core.Path.{refl}
+use borrow.Author.Tests.{lt-leb}
 use Rattle.variables.specs.laws.Spans.{may-absent, may-below, may-counted, first_read, count-read}
 use Rattle.variables.proofs.may_take.Goals as goal
 
@@ -7,13 +8,13 @@ pub returns-then-n-r : goal.returns-then-n-r
 returns-then-n-r c =
     λ a e. may-absent c.args.t.now c.args.n c.args.runs c.requires.0 c.args.x c.requires.1.0 c.requires.1.1 c.args.r c.args.w e c.if-n-r.true
 
-pub returns-then-w-first : goal.returns-then-w-first
-returns-then-w-first c =
-    λ a e. may-below c.args.t.now c.args.n c.args.runs c.requires.0 c.args.x c.requires.1.0 c.requires.1.1 c.args.r c.args.w e
-    (first_read c.args.t.now c.args.n c.args.runs c.requires.0 c.args.x c.requires.1.0 c.args.r c.kind_of-kind.ensures.0 c.first_run-first.ensures.0) c.if-w-first.true
-
-pub returns : goal.returns
-returns c =
+pub returns-then-first-w : goal.returns-then-first-w
+returns-then-first-w c =
     λ a e. may-counted c.args.t.now c.args.n c.args.runs c.requires.0 c.args.x c.requires.1.0 c.requires.1.1 c.args.r c.args.w e c.if-n-r.false
     (first_read c.args.t.now c.args.n c.args.runs c.requires.0 c.args.x c.requires.1.0 c.args.r c.kind_of-kind.ensures.0 c.first_run-first.ensures.0)
-    (count-read c.args.t.now c.args.n c.args.runs c.requires.0 c.args.x c.requires.1.0 c.args.r c.kind_of-kind.ensures.0 c.is_fresh.ensures c.run_count.ensures.0) c.if-w-first.false refl
+    (count-read c.args.t.now c.args.n c.args.runs c.requires.0 c.args.x c.requires.1.0 c.args.r c.kind_of-kind.ensures.0 c.is_fresh.ensures c.run_count.ensures.0) c.if-first-w.true refl
+
+pub returns-else-first-w : goal.returns-else-first-w
+returns-else-first-w c =
+    λ a e. rw (lt-leb c.first_run-first.result c.args.w c.if-first-w.false) (may-below c.args.t.now c.args.n c.args.runs c.requires.0 c.args.x c.requires.1.0 c.requires.1.1 c.args.r c.args.w e
+    (first_read c.args.t.now c.args.n c.args.runs c.requires.0 c.args.x c.requires.1.0 c.args.r c.kind_of-kind.ensures.0 c.first_run-first.ensures.0) c.if-first-w.false)

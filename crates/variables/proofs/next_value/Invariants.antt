@@ -1,12 +1,8 @@
 -- `variables::next_value` meets its contract. The loop's invariant: row y with run v is not before the given row and run, and no value of the variable lies between the two.
--- The measure is how many rows are left. Assumes nothing.
-use Prim.Native.Nat.{◌-◌, ◌≤◌}
+-- Assumes nothing.
 use Rattle.rows.specs.Rows.{rows_of}
 use Rattle.variables.specs.laws.Spans.{Ahead}
 use Rattle.variables.proofs.next_value.Given as goal
 
 abbrev pub invariant-loop-y : goal.invariant-loop-y
-invariant-loop-y l = (l.y ≤ l.n) × Ahead (rows_of l.t) l.runs l.x l.r l.w l.y l.v
-
-abbrev pub decreases-loop-y : goal.decreases-loop-y
-decreases-loop-y l = l.n - l.y
+invariant-loop-y l = Ahead (rows_of l.t) l.runs l.x l.r l.w l.y l.v

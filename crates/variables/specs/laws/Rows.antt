@@ -1,8 +1,7 @@
 -- The rows of a table's variables, one after the other. Assumes nothing.
-use Rattle.std.specs.Prelude.{ℕ, zero, suc, ◌+◌, ◌*◌, ◌<◌, ◌≤◌, ◌≡◌, refl, Bool, true, false, ◌&&◌, List, [], ◌∷◌, T, eqb, length, get_or, take, set, replicate}
+use Rattle.std.specs.Prelude.{ℕ, zero, suc, ◌+◌, ◌*◌, ◌<◌, ◌≤◌, ◌≡◌, refl, Bool, true, false, List, [], ◌∷◌, T, length, get_or, take, set, replicate}
 use Rattle.std.proofs.Math.Decide.{ℕ_discrete}
-use Rattle.std.proofs.Common.{add-one, arith, below_more, eq-eqb, ne_eqb, eqb-true, sym, ap, ◌∙◌, length-set, get_or-set_same, get_or-set_other}
-use Rattle.std.proofs.lemmas.Bool.{false≢true}
+use Rattle.std.proofs.Common.{add-one, arith, below_more, sym, ap, ◌∙◌, length-set, get_or-set_same, get_or-set_other}
 use Rattle.std.proofs.Math.Option.{some, some-injective, none-ne-some}
 use Rattle.std.proofs.Math.ListN.{get_elem?}
 use Rattle.std.proofs.lemmas.List.{get_or-replicate}
@@ -12,9 +11,7 @@ use Rattle.semantics.proofs.laws.List.{keep-cons, get_elem-there}
 use Rattle.rows.specs.Rows.{rows_of, Sized}
 use Rattle.rows.specs.laws.Decode.{six-variable}
 use Rattle.rows.specs.laws.Table.{table-good, table-row}
-use Rattle.cells.specs.Cells.{cell_of, absent}
-use Rattle.variables.specs.declared.VariableRows.{VariableRows}
-use Rattle.variables.specs.Variables.{In, Among, Unset}
+use Rattle.variables.specs.Variables.{In, Among}
 
 -- how many of the first rows are variables
 abbrev pub variables_below : List ℕ → ℕ → ℕ
@@ -135,58 +132,3 @@ module _ (t : List ℕ) (n : ℕ) (sized : Sized t n) where
       each = g.each;
       all = λ y h. g.all y (omega arith);
     }
-
--- the rows below a number have lost those with a value, and the others are as they were
-pub record ClearedRows (before : List Bool) (values : List ℕ) (u x : ℕ) (less : List Bool) : Type 0 where
-  pub size : length less ≡ 96
-  pub done : (y : ℕ) → y < x → get_or less y false ≡ (get_or before y false && eqb (get_or values (cell_of y u) absent) absent)
-  pub rest : (y : ℕ) → x ≤ y → get_or less y false ≡ get_or before y false
-
-pub cleared-none : (before : List Bool) (values : List ℕ) (u : ℕ) → length before ≡ 96 → ClearedRows before values u 0 before
-cleared-none before values u sized = record { size = sized; done = λ y l. absurd (omega arith); rest = λ y l. refl }
-
-module _ {before : List Bool} {values : List ℕ} {u x : ℕ} {less : List Bool} (c : ClearedRows before values u x less) where
-  and-true : (b : Bool) → b ≡ (b && true)
-  and-true true = refl
-  and-true false = refl
-
-  and-false : (b : Bool) → false ≡ (b && false)
-  and-false true = refl
-  and-false false = refl
-
-  -- a row without a value stays
-  pub cleared-kept : get_or values (cell_of x u) absent ≡ absent → ClearedRows before values u (x + 1) less
-  cleared-kept e = record {
-    size = c.size;
-    done = below_more _ x c.done (rw (eq-eqb (get_or values (cell_of x u) absent) absent e) (c.rest x (omega arith) ∙ and-true (get_or before x false)));
-    rest = λ y l. c.rest y (omega arith);
-  }
-
-  -- a row with one goes
-  pub cleared-gone : x < 96 → (get_or values (cell_of x u) absent ≡ absent → ⊥) → ClearedRows before values u (x + 1) (set less x false)
-  cleared-gone l d = record {
-    size = length-set less x false ∙ c.size;
-    done =
-        below_more _ x (λ y k. get_or-set_other less x y false false (λ e. omega arith) ∙ c.done y k)
-        (rw (ne_eqb (get_or values (cell_of x u) absent) absent d) (get_or-set_same less x false false (omega (arith, c.size)) ∙ and-false (get_or before x false)));
-    rest = λ y k. get_or-set_other less x y false false (λ e. omega arith) ∙ c.rest y (omega arith);
-  }
-
--- what is left of a set has no value
-module _ (before : List Bool) (values : List ℕ) (u : ℕ) (less : List Bool) (cleared : (x : ℕ) → x < 96 → get_or less x false ≡ (get_or before x false && eqb (get_or values (cell_of x u) absent) absent)) where
-  left_one : {x : ℕ} → x < 96 → In less x → In before x × (get_or values (cell_of x u) absent ≡ absent)
-  left_one {x} l e = go (get_or before x false) (eqb (get_or values (cell_of x u) absent) absent) refl refl (sym (cleared x l) ∙ e)
-    where
-      go : (a b : Bool) → get_or before x false ≡ a → eqb (get_or values (cell_of x u) absent) absent ≡ b → (a && b) ≡ true → In before x × (get_or values (cell_of x u) absent ≡ absent)
-      go true true p q r = (p, eqb-true (get_or values (cell_of x u) absent) absent q)
-      go true false p q r = absurd (false≢true r)
-      go false true p q r = absurd (false≢true r)
-      go false false p q r = absurd (false≢true r)
-
-  pub unset-among : {t : List ℕ} {n : ℕ} {vars : VariableRows} → n ≤ 96 → Among t n less vars → Unset t n values u before vars
-  unset-among few a = record {
-    low = a.low;
-    under = λ i l. (left_one (omega (arith, a.low.row i l)) (a.each i l)).0;
-    unset = λ i l. (left_one (omega (arith, a.low.row i l)) (a.each i l)).1;
-    all = λ x l k e v. a.all x l k (cleared x (omega arith) ∙ rw (e, eq-eqb (get_or values (cell_of x u) absent) absent v) refl);
-  }

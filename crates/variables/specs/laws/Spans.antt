@@ -1,6 +1,7 @@
 -- The runs with which a row is a value, by its kind, and whether a row with a run is one. Assumes nothing.
-use Rattle.std.specs.Prelude.{ℕ, ◌+◌, ◌-◌, ◌*◌, ◌<◌, ◌≤◌, ◌≡◌, refl, ◌↔◌, Bool, cond, T, ltb, leb, eqb, length, get_or}
+use Rattle.std.specs.Prelude.{ℕ, ◌+◌, ◌-◌, ◌*◌, ◌<◌, ◌≤◌, ◌≡◌, refl, ◌↔◌, ◌⊎◌, max, Bool, cond, T, ltb, leb, eqb, length, get_or}
 use Rattle.std.proofs.Common.{add-one, sym, ap, ◌∙◌, inl, inr, ⊎_elim}
+use Rattle.std.proofs.Math.Decide.{dec_lt}
 use native.Mathlib.Omega.{arith}
 use Rattle.std.proofs.Math.Bool.{true, false}
 use mathlib.Core.List.{List, [], ◌∷◌, Memᴰ}
@@ -23,7 +24,7 @@ use Rattle.rows.specs.Rows.{rows_of, Shape}
 use Rattle.rows.specs.laws.Decode.{six-atom}
 use Rattle.cells.specs.Cells.{Canonical}
 use Rattle.cells.specs.laws.Cells.{row-there, row-decodes}
-use Rattle.variables.specs.Variables.{is_fresh, first_run, run_count, Higher, values_from, NamesAtom, NotBefore, NextOf, has_next, has_none, TellsValue, takes, takes_not}
+use Rattle.variables.specs.Variables.{is_fresh, first_run, run_count, values_from, NamesAtom, NotBefore, NextOf, has_next, has_none, TellsValue, takes, takes_not}
 use Rattle.variables.specs.declared.NextValue.TheVariants.{Value as is_value, Nothing}
 use Rattle.variables.specs.laws.Values.{value_at, spanned, from-none, from_next, values-end, values-skip, values-next}
 
@@ -224,14 +225,21 @@ module _ (bytes : List ℕ) (n runs : ℕ) (shape : Shape bytes n runs) (x : ℕ
     pub next-none : n ≤ y → (num : ℕ) (type : VariableType) → atom_at (rows_of bytes) x ≡ some (variable num type) → NextOf (rows_of bytes) runs type r w Nothing
     next-none l num type e = has_none refl (ahead.same num type e ∙ values-end (rows_of bytes) runs type y v (omega (arith, shape.count)))
 
-    module _ (within : y < n) {first count m : ℕ} (f : first ≡ first_at y) (c : count ≡ count_at y) (h : Higher v first m) where
+    module _ (within : y < n) {first count m : ℕ} (f : first ≡ first_at y) (c : count ≡ count_at y) (h : m ≡ max v first) where
+      one : (m ≡ v) ⊎ (m ≡ first)
+      one = go (dec_lt v first)
+        where
+          go : Dec (v < first) → (m ≡ v) ⊎ (m ≡ first)
+          go (yes l) = inr (omega arith)
+          go (no l) = inl (omega arith)
+
       -- the next value is at the row
       pub next_here : m < first + count → (num : ℕ) (type : VariableType) → atom_at (rows_of bytes) x ≡ some (variable num type) → NextOf (rows_of bytes) runs type r w (is_value y m)
       next_here l num type e =
           let b = names_at y within m (omega arith) (omega arith) in
           let s : values_at runs type y (atom_at (rows_of bytes) y) ≡ spanned y first count = rw (f, c) (values-at e y within) in
-          has_next y m b.0 refl b.1 (⊎_elim inl (λ q. inr (q.0, omega (arith, q.1, h.left))) ahead.later)
-          (ahead.same num type e ∙ values-next (rows_of bytes) runs type y v m (rw s (from_next y count h.left h.right l h.one)))
+          has_next y m b.0 refl b.1 (⊎_elim inl (λ q. inr (q.0, omega (arith, q.1))) ahead.later)
+          (ahead.same num type e ∙ values-next (rows_of bytes) runs type y v m (rw s (from_next y count (omega arith) (omega arith) l one)))
 
       -- the row has no value left
       pub ahead_more : first + count ≤ m → Ahead (rows_of bytes) runs x r w (y + 1) 0
@@ -239,5 +247,5 @@ module _ (bytes : List ℕ) (n runs : ℕ) (shape : Shape bytes n runs) (x : ℕ
         later = inl (⊎_elim (λ (p : r < y). omega arith) (λ (q : (r ≡ y) × (w ≤ v)). omega arith) ahead.later);
         same = λ num type e.
             let s : values_at runs type y (atom_at (rows_of bytes) y) ≡ spanned y first count = rw (f, c) (values-at e y within) in
-            rw (add-one y) (ahead.same num type e ∙ values-skip (rows_of bytes) runs type y v (rw s (from-none y count l h.one)));
+            rw (add-one y) (ahead.same num type e ∙ values-skip (rows_of bytes) runs type y v (rw s (from-none y count l one)));
       }

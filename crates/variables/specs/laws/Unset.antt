@@ -1,9 +1,12 @@
 -- The unset variables beneath a pattern, row by row. Assumes nothing.
-use Prim.Native.Nat.{ℕ, suc, ◌+◌, ◌-◌, ◌*◌, ◌<◌, ◌≤◌}
-use Rattle.std.proofs.Common.{add-one, sym, ◌∙◌}
+use Prim.Native.Nat.{ℕ, zero, suc, ◌+◌, ◌-◌, ◌<◌, ◌≤◌}
+use Rattle.std.proofs.Common.{sym, ap, ◌∙◌}
 use native.Mathlib.Omega.{arith}
 use Rattle.std.specs.Prelude.{◌≡◌, refl, Bool, true, false, ◌&&◌, not, List, [], ◌∷◌, map, T, get_or}
 use Rattle.std.proofs.Math.Option.{Option, none, some}
+use Rattle.std.specs.Prelude as std
+use Rattle.std.specs.Prelude.{None, Some, MatchOption}
+use Rattle.std.specs.Option.{unwrap_or}
 use Rattle.std.proofs.Math.ListN.{length}
 use Rattle.semantics.specs.Basic.{present, keep, present_ones, numbers_from}
 use Rattle.semantics.specs.Term.{Atom}
@@ -14,9 +17,8 @@ use Rattle.semantics.specs.State.{Value, assigned, unset_beneath}
 use Rattle.semantics.proofs.laws.Test.{passes-true}
 use Rattle.rows.specs.Rows.{rows_of, Sized}
 use Rattle.rows.specs.laws.Decode.{variable-six, six-atom}
-use Rattle.cells.specs.Cells.{cell_of, absent}
 use Rattle.cells.specs.laws.Cells.{row-there, row-decodes}
-use Rattle.variables.specs.Variables.{Beneath, unset_from, TellsUnset, NextUnset, is_next, no_next}
+use Rattle.variables.specs.Variables.{Beneath, unset_from, TellsUnset, NotNamed, NextUnset, is_next, no_next}
 
 module _ {A B : Type 0} (f : B → Option A) (b : B → Bool) (p : A → Bool) (n : B) (ns : List B) where
   -- what is kept of the values of some chosen elements
@@ -87,46 +89,43 @@ unset-false sets a h = go (variable_atom a) (assigned a sets) h
     go true (some v) h = refl
 
 -- no unset variable beneath a pattern has a row from one number up to another
-abbrev pub NoneUnset : List Row → List ℕ → ℕ → List Bool → ℕ → ℕ → Type 0
+abbrev NoneUnset : List Row → List ℕ → ℕ → List Bool → ℕ → ℕ → Type 0
 NoneUnset rows names u below from y =
     (pattern : ℕ) → Beneath rows pattern below → (sets : List (Atom × Value)) → TellsUnset rows names u sets → unset_from rows sets pattern from ≡ unset_from rows sets pattern y
 
-module _ (bytes : List ℕ) (n : ℕ) (sized : Sized bytes n) (names : List ℕ) (u : ℕ) (below : List Bool) (from : ℕ) where
-  -- behind the last row
-  pub none-unset : {y : ℕ} → n ≤ y → NoneUnset (rows_of bytes) names u below from y → (pattern : ℕ) → Beneath (rows_of bytes) pattern below → NextUnset (rows_of bytes) names u pattern from n
-  none-unset l passed pattern b = no_next sized.count (λ sets tells. passed pattern b sets tells ∙ unset-end (rows_of bytes) sets pattern (omega (arith, sized.count)))
+module _ (bytes : List ℕ) (n : ℕ) (sized : Sized bytes n) (names : List ℕ) (u : ℕ) (below : List Bool) where
+  -- a row that lies not beneath, is no variable's or is set
+  passed_one : (y : ℕ) → y < n → (NotNamed bytes names u below y → ⊥) → NoneUnset (rows_of bytes) names u below y (suc y)
+  passed_one y low other pattern b sets tells = go (get_or below y false) refl
+    where
+      within : y < length (rows_of bytes)
+      within = omega (arith, sized.count)
 
-  module _ (y : ℕ) (low : y < n) (passed : NoneUnset (rows_of bytes) names u below from y) where
-    within : y < length (rows_of bytes)
-    within = omega (arith, sized.count)
+      go : (m : Bool) → get_or below y false ≡ m → unset_from (rows_of bytes) sets pattern y ≡ unset_from (rows_of bytes) sets pattern (suc y)
+      go false e = unset-outside (rows_of bytes) sets pattern within (sym (b.each y within) ∙ e)
+      go true e = unset-other (rows_of bytes) sets pattern within λ a f.
+          let w = row-there bytes n 0 sized y low in
+          unset-false sets a (λ t g. other (record { inside = e; kind = variable-six (row-decodes bytes n 0 sized y low) a (rw w.1 at f) t; name = (tells y a f t).1 g }))
 
-    -- one row more
-    passed-more : ((pattern : ℕ) → Beneath (rows_of bytes) pattern below → (sets : List (Atom × Value)) → TellsUnset (rows_of bytes) names u sets → unset_from (rows_of bytes) sets pattern y ≡ unset_from (rows_of bytes) sets pattern (suc y))
-        → NoneUnset (rows_of bytes) names u below from (y + 1)
-    passed-more h pattern b sets tells = rw (add-one y) (passed pattern b sets tells ∙ h pattern b sets tells)
+  -- and so are all rows from one up to another
+  none-between : (k : ℕ) {from y : ℕ} → y ≡ from + k → y ≤ n → ((z : ℕ) → from ≤ z → z < y → NotNamed bytes names u below z → ⊥) → NoneUnset (rows_of bytes) names u below from y
+  none-between zero {from} {y} e l clear pattern b sets tells = let q : from ≡ y = omega arith in ap (unset_from (rows_of bytes) sets pattern) q
+  none-between (suc k) {from} {y} e l clear pattern b sets tells =
+      passed_one from (omega arith) (clear from (omega arith) (omega arith)) pattern b sets tells
+      ∙ none-between k {from = suc from} (omega arith) l (λ z h j. clear z (omega arith) j) pattern b sets tells
 
-    -- a row that does not lie beneath the pattern
-    pub passed-outside : get_or below y false ≡ false → NoneUnset (rows_of bytes) names u below from (y + 1)
-    passed-outside e = passed-more (λ pattern b sets tells. unset-outside (rows_of bytes) sets pattern within (sym (b.each y within) ∙ e))
-
-    -- a row that is no variable
-    pub passed-other : (get_or bytes (3 * y) 0 ≡ 6 → ⊥) → NoneUnset (rows_of bytes) names u below from (y + 1)
-    passed-other d = passed-more λ pattern b sets tells. unset-other (rows_of bytes) sets pattern within λ a e.
-        let w = row-there bytes n 0 sized y low in
-        unset-false sets a (λ t _. d (variable-six (row-decodes bytes n 0 sized y low) a (rw w.1 at e) t))
-
-    -- a variable that is set
-    pub passed-set : {name : ℕ} → name ≡ get_or names (cell_of y u) absent → (name ≡ absent → ⊥) → NoneUnset (rows_of bytes) names u below from (y + 1)
-    passed-set q d = passed-more λ pattern b sets tells. unset-other (rows_of bytes) sets pattern within λ a e.
-        unset-false sets a (λ t f. d (q ∙ (tells y a e t).1 f))
-
-    -- an unset variable beneath the pattern
-    pub next-unset : get_or below y false ≡ true → get_or bytes (3 * y) 0 ≡ 6 → {name : ℕ} → name ≡ get_or names (cell_of y u) absent → name ≡ absent → from ≤ y
-        → (pattern : ℕ) → Beneath (rows_of bytes) pattern below → NextUnset (rows_of bytes) names u pattern from y
-    next-unset e k q f l pattern b =
-        let w = row-there bytes n 0 sized y low in
-        let v = six-atom (row-decodes bytes n 0 sized y low) k in
-        let atom : atom_at (rows_of bytes) y ≡ some v.0 = rw w.1 v.1 in
-        is_next v.0 within l atom v.2 (sym q ∙ f) λ sets tells.
-        passed pattern b sets tells
-        ∙ unset-here (rows_of bytes) sets pattern within (sym (b.each y within) ∙ e) atom (unset-true sets v.0 v.2 ((tells y v.0 atom v.2).0 (sym q ∙ f)))
+  -- the first row that is not named is the next unset variable
+  pub next-unset : {from : ℕ} → from ≤ n → (first : std.Option ℕ)
+      → MatchOption first ((z : ℕ) → from ≤ z → z < n → NotNamed bytes names u below z → ⊥) (λ y. (from ≤ y) × (y < n) × NotNamed bytes names u below y × ((z : ℕ) → from ≤ z → z < y → NotNamed bytes names u below z → ⊥))
+      → (pattern : ℕ) → Beneath (rows_of bytes) pattern below → NextUnset (rows_of bytes) names u pattern from (unwrap_or first n)
+  next-unset {from = from} l None clear pattern b =
+      no_next sized.count (λ sets tells. none-between (n - from) (omega arith) (omega arith) clear pattern b sets tells ∙ unset-end (rows_of bytes) sets pattern (omega (arith, sized.count)))
+  next-unset {from = from} l (Some y) h pattern b =
+      let own = h.2 in
+      let within : y < length (rows_of bytes) = omega (arith, h.1, sized.count) in
+      let w = row-there bytes n 0 sized y h.1 in
+      let v = six-atom (row-decodes bytes n 0 sized y h.1) own.kind in
+      let atom : atom_at (rows_of bytes) y ≡ some v.0 = rw w.1 v.1 in
+      is_next v.0 within h.0 atom v.2 own.name λ sets tells.
+      none-between (y - from) (omega (arith, h.0)) (omega (arith, h.1)) h.3 pattern b sets tells
+      ∙ unset-here (rows_of bytes) sets pattern within (sym (b.each y within) ∙ own.inside) atom (unset-true sets v.0 v.2 ((tells y v.0 atom v.2).0 own.name))

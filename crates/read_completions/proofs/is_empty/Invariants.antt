@@ -1,9 +1,0 @@
--- `read_completions::is_empty` meets its contract: a domain of size 0 has no class. The measure is how many variables are left. Assumes nothing.
-use Prim.Native.Nat.{◌-◌, ◌≤◌}
-use Rattle.read_completions.proofs.is_empty.Given as goal
-
-abbrev pub invariant-loop-i : goal.invariant-loop-i
-invariant-loop-i l = (l.i ≤ l.vars.count)
-
-abbrev pub decreases-loop-i : goal.decreases-loop-i
-decreases-loop-i l = l.vars.count - l.i
