@@ -1,5 +1,5 @@
 -- The variables that a read sets, from a row on, and the values that a variable may take, from a row and a run on. Assumes nothing.
-use Rattle.std.specs.Prelude.{ℕ, suc, ◌*◌, ◌-◌, ◌<◌, ◌≤◌, ◌≡◌, ◌↔◌, ◌⊎◌, Bool, true, false, cond, ◌&&◌, not, T, leb, eqb, length, get_or}
+use Rattle.std.specs.Prelude.{Option as CodeOption, None, Some, ℕ, suc, ◌*◌, ◌-◌, ◌<◌, ◌≤◌, ◌≡◌, ◌↔◌, ◌⊎◌, Bool, true, false, cond, ◌&&◌, not, T, leb, eqb, length, get_or}
 use mathlib.Core.List.{List, [], ◌∷◌, ◌++◌, map, Memᴰ}
 use Rattle.std.proofs.Math.Option.{none, some}
 use Rattle.std.proofs.Math.ListN.{get_elem?}
@@ -13,9 +13,8 @@ use Rattle.semantics.specs.Moves.{values_at, candidates}
 use Rattle.semantics.specs.Replay.{is_value_of}
 use Rattle.semantics.specs.Guarantee.{refers_to}
 use Rattle.cells.specs.Cells.{cell_of, absent, Canonical}
-use Rattle.variables.specs.declared.NextValue.{NextValue}
+use Rattle.variables.specs.declared.Value.{Value as CodeValue}
 use Rattle.variables.specs.declared.VariableRows.{VariableRows}
-use Rattle.variables.specs.declared.NextValue.TheVariants.{Value as is_value, Nothing}
 
 -- which rows lie beneath a row
 pub record Beneath (rows : List Row) (x : ℕ) (below : List Bool) : Type 0 where
@@ -91,12 +90,19 @@ pub record NamesAtom (rows : List Row) (runs row run : ℕ) (b : Atom) : Type 0 
 abbrev pub NotBefore : ℕ → ℕ → ℕ → ℕ → Type 0
 NotBefore r w y v = (r < y) ⊎ ((r ≡ y) × (w ≤ v))
 
+-- the next value, if there is one
+abbrev pub NextValue : Type 0
+NextValue = CodeOption CodeValue
+
+abbrev pub is_value : ℕ → ℕ → NextValue
+is_value y v = Some (record { row = y; run = v })
+
 -- the next value of a type, from a row and a run on
 pub data NextOf (rows : List Row) (runs : ℕ) (type : VariableType) (r w : ℕ) (next : NextValue) : Type 0 where
   has_next :
       (y v : ℕ) (b : Atom) → next ≡ is_value y v → NamesAtom rows runs y v b → NotBefore r w y v
       → values_from rows runs type r w ≡ record { row = y; run = v } ∷ values_from rows runs type y (suc v) → NextOf rows runs type r w next
-  has_none : next ≡ Nothing → values_from rows runs type r w ≡ [] → NextOf rows runs type r w next
+  has_none : next ≡ None → values_from rows runs type r w ≡ [] → NextOf rows runs type r w next
 
 -- whether a row and a run are a value that a variable may take
 pub data TellsValue (rows : List Row) (runs : ℕ) (a : Atom) (row run : ℕ) (answer : Bool) : Type 0 where

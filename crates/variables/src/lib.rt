@@ -12,11 +12,11 @@ ghost use Rattle.variables.specs.Variables.{Beneath, ClosedFrom, NextUnset, firs
 use cells::Cells;
 use rows::Kind;
 
-// The next value of a variable: its row and run, or nothing.
-#[derive(Clone, Copy)]
-pub enum NextValue {
-    Value { row: usize, run: usize },
-    Nothing,
+// A value of a variable: a row, and the run in which it is read.
+#[derive(Clone, Copy, PartialEq, Eq)]
+pub struct Value {
+    pub row: usize,
+    pub run: usize,
 }
 
 // Rows of variables, and how many they are; unused places hold row 0.
@@ -152,7 +152,7 @@ pub fn may_take(t: &[u8], n: usize, runs: usize, x: usize, r: usize, w: usize) -
 }
 
 // The first value that the variable of row x may take whose row is r and run at least w, or whose row is higher.
-pub fn next_value(t: &[u8], n: usize, runs: usize, x: usize, r: usize, w: usize) -> NextValue
+pub fn next_value(t: &[u8], n: usize, runs: usize, x: usize, r: usize, w: usize) -> Option<Value>
     requires { Shape t.now n runs × ((x < n) × (r ≤ n)) }
     ensures { (num : ℕ) (type : VariableType) → atom_at (rows_of t.now) x ≡ some (variable num type) → NextOf (rows_of t.now) runs type r w result }
 {
@@ -163,9 +163,9 @@ pub fn next_value(t: &[u8], n: usize, runs: usize, x: usize, r: usize, w: usize)
         let first = first_run(kind);
         let run = v.max(first);
         if run < first + run_count(kind, fresh, runs) {
-            return NextValue::Value { row: y, run };
+            return Some(Value { row: y, run });
         }
         v = 0;
     }
-    NextValue::Nothing
+    None
 }

@@ -1,5 +1,5 @@
 -- The walk through the values of one more variable of a read. Assumes nothing.
-use Rattle.std.specs.Prelude.{ℕ, suc, ◌+◌, ◌-◌, ◌<◌, ◌≤◌, ◌≡◌, refl, Bool, true, false, T, length, set}
+use Rattle.std.specs.Prelude.{None, Some, ℕ, suc, ◌+◌, ◌-◌, ◌<◌, ◌≤◌, ◌≡◌, refl, Bool, true, false, T, length, set}
 use Rattle.std.proofs.Common.{add-one, arith, sym, ap, ◌∙◌, subst, length-append}
 use mathlib.Core.List.Memᴰ
 use mathlib.Core.List.Memᴰ.{head as first}
@@ -21,9 +21,7 @@ use Rattle.classes.specs.Classes.{Refilled}
 use Rattle.knowledge.specs.Marks.{Settled}
 use Rattle.runs.specs.declared.RunEvent.{RunEvent}
 use Rattle.state.specs.declared.State.{State as CodeState}
-use Rattle.variables.specs.declared.NextValue.{NextValue}
-use Rattle.variables.specs.declared.NextValue.TheVariants.{Value as is_value, Nothing}
-use Rattle.variables.specs.Variables.{Beneath, unset_from, NextUnset, values_from, NamesAtom, NotBefore, NextOf, has_next, has_none}
+use Rattle.variables.specs.Variables.{NextValue, is_value, Beneath, unset_from, NextUnset, values_from, NamesAtom, NotBefore, NextOf, has_next, has_none}
 use Rattle.variables.specs.laws.Values.{values-all}
 use Rattle.values.specs.Values.{Setting}
 use Rattle.values.specs.laws.Values.{setting-more}
@@ -61,19 +59,19 @@ pub record IsNext (rows : List Row) (runs : ℕ) (type : VariableType) (row run 
 
 -- what was answered for it, the other way round
 abbrev is-there : NextValue → ℕ
-is-there (is_value y v) = 1
-is-there Nothing = 0
+is-there (Some v) = 1
+is-there None = 0
 
 abbrev row_of : NextValue → ℕ
-row_of (is_value y v) = y
-row_of Nothing = 0
+row_of (Some v) = v.row
+row_of None = 0
 
 abbrev run_of : NextValue → ℕ
-run_of (is_value y v) = v
-run_of Nothing = 0
+run_of (Some v) = v.run
+run_of None = 0
 
 module _ {rows : List Row} {runs : ℕ} {type : VariableType} {row run : ℕ} {next : NextValue} where
-  no_value : NextOf rows runs type row run next → next ≡ Nothing → values_from rows runs type row run ≡ []
+  no_value : NextOf rows runs type row run next → next ≡ None → values_from rows runs type row run ≡ []
   no_value (has_next y v b e names later same) z = absurd (let w : ◌≡◌ {A = ℕ} 1 0 = ap is-there (sym e ∙ z) in omega arith)
   no_value (has_none e none_left) z = none_left
 
@@ -188,7 +186,7 @@ module _ {file t : List ℕ} {plan : Plan} {sc : Scenario} {d : State} {s : Code
       in-scenario : NextOf sc.rows (length sc.runs) var.1 row run next
       in-scenario = subst (λ (rows : List Row). NextOf rows (length sc.runs) var.1 row run next) (sym move.clear.here.reached.given.rows) (subst (λ (m : ℕ). NextOf (rows_of t) m var.1 row run next) move.clear.here.reached.given.runs.count found)
 
-      values-end : next ≡ Nothing → values_from sc.rows (length sc.runs) var.1 row run ≡ []
+      values-end : next ≡ None → values_from sc.rows (length sc.runs) var.1 row run ≡ []
       values-end e = no_value in-scenario e
 
       value-next : {y v : ℕ} → next ≡ is_value y v → IsNext sc.rows (length sc.runs) var.1 row run y v
@@ -252,7 +250,7 @@ module _ {file t : List ℕ} {plan : Plan} {course : Course} {own names classes 
       next_of = told (var m.read.move m.read.is_read m.choosing view more).0 (var m.read.move m.read.is_read m.choosing view more).1 (atom-read m.read.move m.read.is_read m.choosing view more)
 
       -- no value is left
-      pub tried-end : next ≡ Nothing → {count : ℕ} → Tried row run count → (b : List ℕ) → FindsRead m.read m.vs reach b b (Clean count)
+      pub tried-end : next ≡ None → {count : ℕ} → Tried row run count → (b : List ℕ) → FindsRead m.read m.vs reach b b (Clean count)
       tried-end e tried b = trying-end m.read.move m.read.is_read m.choosing view more tried.trying (values-end m.read.move m.read.is_read m.choosing view more next_of e) b
 
       -- the next one

@@ -1,5 +1,5 @@
 -- The runs with which a row is a value, by its kind, and whether a row with a run is one. Assumes nothing.
-use Rattle.std.specs.Prelude.{ℕ, ◌+◌, ◌-◌, ◌*◌, ◌<◌, ◌≤◌, ◌≡◌, refl, ◌↔◌, ◌⊎◌, max, Bool, cond, T, ltb, leb, eqb, length, get_or}
+use Rattle.std.specs.Prelude.{None, ℕ, ◌+◌, ◌-◌, ◌*◌, ◌<◌, ◌≤◌, ◌≡◌, refl, ◌↔◌, ◌⊎◌, max, Bool, cond, T, ltb, leb, eqb, length, get_or}
 use Rattle.std.proofs.Common.{add-one, sym, ap, ◌∙◌, inl, inr, ⊎_elim}
 use Rattle.std.proofs.Math.Decide.{dec_lt}
 use native.Mathlib.Omega.{arith}
@@ -24,8 +24,7 @@ use Rattle.rows.specs.Rows.{rows_of, Shape}
 use Rattle.rows.specs.laws.Decode.{six-atom}
 use Rattle.cells.specs.Cells.{Canonical}
 use Rattle.cells.specs.laws.Cells.{row-there, row-decodes}
-use Rattle.variables.specs.Variables.{is_fresh, first_run, run_count, values_from, NamesAtom, NotBefore, NextOf, has_next, has_none, TellsValue, takes, takes_not}
-use Rattle.variables.specs.declared.NextValue.TheVariants.{Value as is_value, Nothing}
+use Rattle.variables.specs.Variables.{is_value, is_fresh, first_run, run_count, values_from, NamesAtom, NotBefore, NextOf, has_next, has_none, TellsValue, takes, takes_not}
 use Rattle.variables.specs.laws.Values.{value_at, spanned, from-none, from_next, values-end, values-skip, values-next}
 
 -- the type of a variable by its right byte
@@ -222,7 +221,7 @@ module _ (bytes : List ℕ) (n runs : ℕ) (shape : Shape bytes n runs) (x : ℕ
 
   module _ (r w y v : ℕ) (ahead : Ahead (rows_of bytes) runs x r w y v) where
     -- behind the last row there is no value
-    pub next-none : n ≤ y → (num : ℕ) (type : VariableType) → atom_at (rows_of bytes) x ≡ some (variable num type) → NextOf (rows_of bytes) runs type r w Nothing
+    pub next-none : n ≤ y → (num : ℕ) (type : VariableType) → atom_at (rows_of bytes) x ≡ some (variable num type) → NextOf (rows_of bytes) runs type r w None
     next-none l num type e = has_none refl (ahead.same num type e ∙ values-end (rows_of bytes) runs type y v (omega (arith, shape.count)))
 
     module _ (within : y < n) {first count m : ℕ} (f : first ≡ first_at y) (c : count ≡ count_at y) (h : m ≡ max v first) where
