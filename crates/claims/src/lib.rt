@@ -21,16 +21,11 @@ fn claims_derivable(file: &[u8], r: Runs, marks: &[bool], k: usize, j: usize) ->
     requires { ((sc : Scenario) × (RunsAt file.now sc r × (Guarantee sc × (k < r.count)))) × (length marks.now ≡ cell_count) }
     ensures { AnswersEvent file.now r marks.now k j result }
 {
-    let events = r.events;
-    if events[k] <= j {
+    if r.events[k] <= j {
         return false;
     }
     let e = runs::event_of(file, r, k, j);
-    if e.kind == Event::CLAIM {
-        let c = cell(e.row, k + 1);
-        return marks[c];
-    }
-    false
+    e.kind == Event::CLAIM && marks[cell(e.row, k + 1)]
 }
 
 // The first broken claim of run k, from 0, among the events that it has made.
@@ -46,21 +41,17 @@ fn broken_in_run(
     requires { ((sc : Scenario) × Given file.now t.now n r sc) × ((length marks.now ≡ cell_count) × (k < r.count)) }
     ensures { AnswersRun file.now t.now r marks.now done k result }
 {
-    if runs::all_trusted(file, t, n, r, k) {
-        let mut j = 0;
-        while j < done {
-            let event = j;
-            j += 1;
-            if claims_derivable(file, r, marks, k, event) {
-                return Some(Claim {
-                    run: k + 1,
-                    event,
-                    kind: ClaimKind::Secrecy,
-                });
-            }
-        }
+    if !runs::all_trusted(file, t, n, r, k) {
+        return None;
     }
-    None
+    match (0..done).find(|j| claims_derivable(file, r, marks, k, *j)) {
+        Some(event) => Some(Claim {
+            run: k + 1,
+            event,
+            kind: ClaimKind::Secrecy,
+        }),
+        None => None,
+    }
 }
 
 // The first claim that a state breaks: of the lowest run, and there the first of its events.
@@ -75,14 +66,11 @@ pub fn broken(
     requires { (sc : Scenario) × (d : definitions.State) × (s : State) × Given file.now t.now n r sc × IsState sc d s × (done ≡ s.done) × (marks ≡ s.marks) }
     ensures { AnswersState file.now t.now n r done marks result }
 {
-    let runs = r.count;
-    let mut k = 0;
-    while k < runs {
+    for k in 0..r.count {
         let found = broken_in_run(file, t, n, r, &marks, done[k], k);
         if let Some(_) = found {
             return found;
         }
-        k += 1;
     }
     None
 }

@@ -18,21 +18,11 @@ pub fn is_allowed(classes: &[u16], marks: &[bool; Cells::COUNT], k: usize, e: Ru
     ensures { TellsAllowed k e classes.now marks.now result }
 {
     let c = cell(e.row, k + 1);
-    if e.kind == Event::READ {
-        let own = e.own;
-        let peer = e.peer;
-        if marks[own] {
-            if marks[peer] {
-                return marks[c];
-            }
-            return false;
-        }
-        return false;
+    match e.kind {
+        Event::READ => marks[e.own] && marks[e.peer] && marks[c],
+        Event::SEND => classes[c] != Cells::ABSENT,
+        _ => true,
     }
-    if e.kind == Event::SEND {
-        return classes[c] != Cells::ABSENT;
-    }
-    true
 }
 
 // The marks after the next event of run k, if it is allowed: a send makes term, receiver and sender known, a read and a claim nothing. Classes and marks are

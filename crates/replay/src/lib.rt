@@ -19,21 +19,18 @@ fn followed(file: &[u8], l: Layout, trace: &[u8]) -> Result<Option<Claim>, Refus
     let t = frame::block_of(file, 0);
     let mut s = State::initial(file, t, n, r, frame::block_of(file, 3));
     let mut at = 0;
+    // stays: steps differ in length, so there is no range to go over
     while at < trace.len() {
-        let stepped = replay_steps::step(file, t, n, r, s, &trace[at..]);
-        if !stepped.allowed {
+        let Some(stepped) = replay_steps::step(file, t, n, r, s, &trace[at..]) else {
             return Err(Refusal {
                 reason: Reason::Step,
                 place: at,
             });
-        }
-        let after = stepped.state;
-        s = after;
+        };
+        s = stepped.state;
         at += stepped.length;
     }
-    let done = s.done;
-    let marks = s.marks;
-    Ok(claims::broken(file, t, n, r, done, marks))
+    Ok(claims::broken(file, t, n, r, s.done, s.marks))
 }
 
 // "Replay refuses as Open, then 12 .. Otherwise it gives the claim broken, or none."

@@ -14,13 +14,6 @@ use cells::Cells;
 use runs::RunEvent;
 use state::State;
 
-// Whether new values suit a read, and the names with them.
-#[derive(Drop)]
-pub struct Choice {
-    pub suits: bool,
-    pub names: [u16; Cells::COUNT],
-}
-
 // The names with the new values of a read of run k, if they are as many as its unset variables and each may be taken.
 fn chosen(
     names: [u16; Cells::COUNT],
@@ -30,7 +23,7 @@ fn chosen(
     k: usize,
     row: usize,
     values: &[u8],
-) -> Choice
+) -> Option<[u16; Cells::COUNT]>
     requires { Shape t.now n runs × ((k < runs) × (row < n)) }
     ensures { SuitedRead t.now runs k row names values.now result }
 {
@@ -42,29 +35,17 @@ fn chosen(
         let x = variables::next_unset(t, n, &names, &below, k + 1, from);
         if x == n {
             if values.len() <= i + 1 {
-                return Choice {
-                    suits: true,
-                    names: more,
-                };
+                return Some(more);
             }
-            return Choice {
-                suits: false,
-                names: more,
-            };
+            return None;
         }
         if values.len() <= i + 1 {
-            return Choice {
-                suits: false,
-                names: more,
-            };
+            return None;
         }
         let r = rows::wide(values[i]);
         let w = rows::wide(values[i + 1]);
         if !variables::may_take(t, n, runs, x, r, w) {
-            return Choice {
-                suits: false,
-                names: more,
-            };
+            return None;
         }
         values::put(&mut more, x, k + 1, r, w);
         from = x + 1;
@@ -72,7 +53,7 @@ fn chosen(
     }
 }
 
-// The names with the new values of a step of run k: those of a read, and none of any other event.
+// The names with the new values of a step of run k, if they suit it: those of a read, and none of any other event.
 pub fn valued(
     s: State,
     t: &[u8],
@@ -81,19 +62,16 @@ pub fn valued(
     k: usize,
     e: RunEvent,
     values: &[u8],
-) -> Choice
+) -> Option<[u16; Cells::COUNT]>
     requires { Shape t.now n runs × ((k < runs) × (e.row < n)) }
     ensures { (sc : Scenario) (d : definitions.State) (a : Active) → NextMove t.now runs k e sc d s a → Suited sc d a (values_in values.now) result }
 {
-    let names = s.names;
     if e.kind == 1 {
-        return chosen(names, t, n, runs, k, e.row, values);
+        return chosen(s.names, t, n, runs, k, e.row, values);
     }
     if values.len() < 2 {
-        return Choice { suits: true, names };
-    }
-    Choice {
-        suits: false,
-        names,
+        Some(s.names)
+    } else {
+        None
     }
 }

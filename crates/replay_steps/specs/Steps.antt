@@ -1,5 +1,5 @@
 -- One step of a trace as the code answers it. Assumes nothing.
-use Rattle.std.specs.Prelude.{ℕ, ◌≡◌, Bool, true, false, List}
+use Rattle.std.specs.Prelude.{ℕ, ◌≡◌, Bool, List, Option as Answered, Some, None}
 use Rattle.std.proofs.Math.Option.{Option, none, some}
 use Rattle.semantics.specs.Table.{Row}
 use Rattle.semantics.specs.Scenario.{Scenario}
@@ -16,12 +16,12 @@ abbrev pub step_after : Scenario → definitions.State → Option (Move × ℕ) 
 step_after sc d none = none
 step_after sc d (some step) = elim (after sc d step.0) [ none ↦ none | some d' ↦ some (d', step.1) ]
 
--- a step that is allowed, with how many bytes it takes, or one that is not
-pub data StepDone (sc : Scenario) (d : definitions.State) (bytes : List ℕ) (stepped : Stepped) : Type 0 where
+-- a step that is allowed, with how many bytes it takes, or none
+pub data StepDone (sc : Scenario) (d : definitions.State) (bytes : List ℕ) (stepped : Answered Stepped) : Type 0 where
   is_step :
-      {d' : definitions.State} → stepped.allowed ≡ true → step_after sc d (first_step bytes) ≡ some (d', stepped.length) → IsState sc d' stepped.state
+      {done : Stepped} {d' : definitions.State} → stepped ≡ Some done → step_after sc d (first_step bytes) ≡ some (d', done.length) → IsState sc d' done.state
       → StepDone sc d bytes stepped
-  no_step : stepped.allowed ≡ false → step_after sc d (first_step bytes) ≡ none → StepDone sc d bytes stepped
+  no_step : stepped ≡ None → step_after sc d (first_step bytes) ≡ none → StepDone sc d bytes stepped
 
 -- classes and marks for an event of run u: worked on for a read, else as they were
 pub data Worked (rows : List Row) (runs u kind : ℕ) (names classes : List ℕ) (marks : List Bool) (classes' : List ℕ) (marks' : List Bool) : Type 0 where

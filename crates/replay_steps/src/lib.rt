@@ -14,10 +14,9 @@ use records::Event;
 use runs::{RunEvent, Runs};
 use state::State;
 
-// Whether a step is allowed, how many bytes it takes, and the state after it.
+// A step that is allowed: how many bytes it takes, and the state after it.
 #[derive(Drop)]
 pub struct Stepped {
-    pub allowed: bool,
     pub length: usize,
     pub state: State,
 }
@@ -40,81 +39,48 @@ fn worked(
     marks
 }
 
-// The step at the front of some bytes: run, count of new values, two bytes for each.
-pub fn step(file: &[u8], t: &[u8], n: usize, r: Runs, s: State, trace: &[u8]) -> Stepped
+// The step at the front of some bytes, if it is allowed: run, count of new values, two bytes for each.
+pub fn step(file: &[u8], t: &[u8], n: usize, r: Runs, s: State, trace: &[u8]) -> Option<Stepped>
     requires { (sc : Scenario) × (d : definitions.State) × Given file.now t.now n r sc × IsState sc d s }
     ensures { (sc : Scenario) (d : definitions.State) → Given file.now t.now n r sc → IsState sc d s → StepDone sc d trace.now result }
 {
     if trace.len() < 2 {
-        return Stepped {
-            allowed: false,
-            length: 0,
-            state: s,
-        };
+        return None;
     }
     let u = rows::wide(trace[0]);
     let end = 2 + 2 * rows::wide(trace[1]);
     if trace.len() < end {
-        return Stepped {
-            allowed: false,
-            length: 0,
-            state: s,
-        };
+        return None;
     }
     if u == 0 {
-        return Stepped {
-            allowed: false,
-            length: 0,
-            state: s,
-        };
+        return None;
     }
     if r.count < u {
-        return Stepped {
-            allowed: false,
-            length: 0,
-            state: s,
-        };
+        return None;
     }
     let k = u - 1;
     let j = s.done[k];
     if r.events[k] <= j {
-        return Stepped {
-            allowed: false,
-            length: 0,
-            state: s,
-        };
+        return None;
     }
     let e = runs::event_of(file, r, k, j);
-    let choice = replay_choices::valued(s, t, n, r.count, k, e, &trace[2..end]);
-    if choice.suits {
-        let names = choice.names;
-        let before = s.done;
-        let marks = s.marks;
-        let mut classes = s.classes;
-        let scope = Scope {
-            rows: n,
-            runs: r.count,
-            run: k + 1,
-        };
-        let more = worked(&mut classes, marks, &names, t, scope, e.kind);
-        if moves::is_allowed(&classes, &more, k, e) {
-            let after = moves::perform(&classes, more, t, n, r.count, k, e);
-            let done = state::advance(before, k);
-            return Stepped {
-                allowed: true,
-                length: end,
-                state: State::after(done, names, classes, after),
-            };
-        }
-        return Stepped {
-            allowed: false,
-            length: 0,
-            state: s,
-        };
+    let names = replay_choices::valued(s, t, n, r.count, k, e, &trace[2..end])?;
+    let before = s.done;
+    let marks = s.marks;
+    let mut classes = s.classes;
+    let scope = Scope {
+        rows: n,
+        runs: r.count,
+        run: k + 1,
+    };
+    let more = worked(&mut classes, marks, &names, t, scope, e.kind);
+    if !moves::is_allowed(&classes, &more, k, e) {
+        return None;
     }
-    Stepped {
-        allowed: false,
-        length: 0,
-        state: s,
-    }
+    let after = moves::perform(&classes, more, t, n, r.count, k, e);
+    let done = state::advance(before, k);
+    Some(Stepped {
+        length: end,
+        state: State::after(done, names, classes, after),
+    })
 }

@@ -63,15 +63,13 @@ pub fn runs_of(file: &[u8], l: Layout) -> Runs
     let mut starts = [0; 4];
     let mut firsts = [0; 4];
     let mut events = [0; 4];
-    let mut k = 0;
     let mut start = l.runs.start;
-    while k < count {
+    for k in 0..count {
         let found = events_from(file, start);
         starts[k] = start;
         firsts[k] = found.first;
         events[k] = found.count;
         start += 1 + roles;
-        k += 1;
     }
     Runs {
         count,
@@ -110,14 +108,7 @@ fn trusted_from(file: &[u8], t: &[u8], n: usize, start: usize, roles: usize) -> 
     requires { Sized t.now n × (start + roles < length file.now) }
     ensures { (agents : List ℕ) → AgentsAt file.now start roles agents → result ≡ every (λ a. is_trusted (atom_at (rows_of t.now) a)) agents }
 {
-    let mut i = 0;
-    while i < roles {
-        if !rows::is_trusted(t, n, agent_of(file, start, i)) {
-            return false;
-        }
-        i += 1;
-    }
-    true
+    (0..roles).all(|i| rows::is_trusted(t, n, agent_of(file, start, i)))
 }
 
 // Whether all agents of run k are trusted.

@@ -22,11 +22,10 @@ fn event_count(r: Runs) -> usize
     requires { (r.count ≤ 4) × ((k : ℕ) → k < 4 → get_or r.events k 0 ≤ 8) }
     ensures { (result ≡ total (take r.count r.events)) × (result ≤ 32) }
 {
+    // stays: `sum()` over a part of an array leaves its bound unproved
     let mut sum = 0;
-    let mut k = 0;
-    while k < r.count {
-        sum += r.events[k];
-        k += 1;
+    for n in &r.events[..r.count] {
+        sum += *n;
     }
     sum
 }

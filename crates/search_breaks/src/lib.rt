@@ -60,15 +60,10 @@ pub fn write_step(trace: &mut [u8], at: usize, run: usize, values: Values)
     requires { (at + 2 + 2 * values.count ≤ length trace.old) × ((values.count ≤ 8) × (run < 256)) }
     ensures { trace.new ≡ over trace.old at (run ∷ values.count ∷ take (2 * values.count) values.bytes) }
 {
-    let bytes = values.bytes;
     let end = 2 * values.count;
     trace[at] = run as u8;
     trace[at + 1] = values.count as u8;
-    let mut i = 0;
-    while i < end {
-        trace[at + 2 + i] = bytes[i];
-        i += 1;
-    }
+    trace[at + 2..at + 2 + end].copy_from_slice(&values.bytes[..end]);
 }
 
 // Writes the step of a move at a place of the trace, if a break was found after it.

@@ -56,11 +56,7 @@ pub fn own(left: usize, claimed: Option<Claim>) -> Walked
 pub fn goes_on(own: Walked, depth: usize) -> bool
     ensures { result ≡ goes_on own depth }
 {
-    match own {
-        Walked::Broken(_) => false,
-        Walked::Clean(_) => depth != 0,
-        Walked::Cut => false,
-    }
+    matches!(own, Walked::Clean(_)) && depth != 0
 }
 
 // What a remembered number of traces without a break comes to with what is left of the budget.
@@ -101,11 +97,7 @@ pub fn after_step(found: Walked, bytes: usize) -> Walked
 pub fn is_clean(found: Walked) -> bool
     ensures { result ≡ is_clean found }
 {
-    match found {
-        Walked::Broken(_) => false,
-        Walked::Clean(_) => true,
-        Walked::Cut => false,
-    }
+    matches!(found, Walked::Clean(_))
 }
 
 // How many traces without a break are counted, and remembered: none where the walk did not come to the end.

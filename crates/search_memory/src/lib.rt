@@ -1,7 +1,7 @@
 // The memory of Search: states whose traces were all walked without a break, each with how many there are.
 #![tactic(auto)]
 
-ghost use Rattle.std.specs.Prelude.{◌≡◌, true, ℕ, ◌+◌, ◌*◌, ◌/◌, ◌%◌, ◌<◌, ◌≤◌, length, get_or};
+ghost use Rattle.std.specs.Prelude.{◌≡◌, true, ℕ, IfSome, ◌+◌, ◌*◌, ◌/◌, ◌%◌, ◌<◌, ◌≤◌, length, get_or};
 ghost use Rattle.rows.specs.Rows.{Sized};
 ghost use Rattle.cells.specs.Cells.{cell_count};
 ghost use Rattle.search_memory.specs.Memory.{word_count, slot_count, key_size, count_end, Variables, name_of, IsKey, HoldsKey, count_at, LookedUp, Stored, Kept, Written};
@@ -29,21 +29,12 @@ impl Memory {
     const HIGH: usize = 39;
     // the first half is below this
     const HALF: usize = 65536;
-    // a hash takes the words of a key in pairs
-    const PAIRS: usize = 19;
-    // what a hash is multiplied by for each pair
+    // what a hash is multiplied by for each pair of a key's words
     const FACTOR: u64 = 1640531527;
     // the low end of the product is dropped
     const DROPPED: u64 = 65536;
     // and the middle is kept
     const KEPT: u64 = 4294967296;
-}
-
-// A word as a number.
-fn wide(x: u16) -> usize
-    ensures { (result ≡ x) × (result < 65536) }
-{
-    x as usize
 }
 
 // The rows of a table's variables; unused places hold row 0.
@@ -61,10 +52,8 @@ fn fill_names(key: &mut [u16; 38], variables: &[usize; 8], names: &[u16], k: usi
     requires { (length key.old ≡ key_size) × ((length names.now ≡ cell_count) × ((k < 4) × ((i : ℕ) → i < 8 → get_or variables.now i 0 < 96))) }
     ensures { Written key.old key.new (6 + 8 * k) 8 (name_of variables.now names.now k) }
 {
-    let mut i = 0;
-    while i < 8 {
-        key[6 + 8 * k + i] = names[cell(variables[i], k + 1)];
-        i += 1;
+    for (i, x) in variables.iter().enumerate() {
+        key[6 + 8 * k + i] = names[cell(*x, k + 1)];
     }
 }
 
@@ -74,15 +63,10 @@ pub fn key_of(variables: [usize; 8], done: [usize; 4], names: &[u16], depth: usi
     ensures { IsKey variables done names.now depth result }
 {
     let mut key = [0; 38];
-    key[0] = done[0] as u16;
-    key[1] = done[1] as u16;
-    key[2] = done[2] as u16;
-    key[3] = done[3] as u16;
     key[4] = depth as u16;
-    let mut k = 0;
-    while k < 4 {
+    for k in 0..4 {
+        key[k] = done[k] as u16;
         fill_names(&mut key, &variables, names, k);
-        k += 1;
     }
     key
 }
@@ -91,7 +75,7 @@ pub fn key_of(variables: [usize; 8], done: [usize; 4], names: &[u16], depth: usi
 fn joined(low: u16, high: u16) -> u64
     ensures { result < count_end }
 {
-    low as u64 + 65536 * (high as u64)
+    u64::from(low) + 65536 * u64::from(high)
 }
 
 // The hash of a key, mixed by multiplication, two words at a time.
@@ -99,11 +83,8 @@ fn hash(key: &[u16; 38]) -> u64
     ensures { result < count_end }
 {
     let mut h = 0;
-    let mut i = 0;
-    while i < Memory::PAIRS {
-        h = (h + joined(key[2 * i], key[2 * i + 1])) * Memory::FACTOR / Memory::DROPPED
-            % Memory::KEPT;
-        i += 1;
+    for pair in key.chunks_exact(2) {
+        h = (h + joined(pair[0], pair[1])) * Memory::FACTOR / Memory::DROPPED % Memory::KEPT;
     }
     h
 }
@@ -121,14 +102,7 @@ fn holds_key(memory: &[u16], slot: usize, key: &[u16; 38]) -> bool
     ensures { result ≡ true → HoldsKey memory.now slot key.now }
 {
     let at = Memory::SLOT * slot;
-    let mut j = 0;
-    while j < Memory::KEY {
-        if memory[at + j] != key[j] {
-            return false;
-        }
-        j += 1;
-    }
-    true
+    memory[at..at + Memory::KEY] == key[..]
 }
 
 // The count of a slot.
@@ -137,23 +111,18 @@ fn count_at(memory: &[u16], slot: usize) -> usize
     ensures { (result ≡ count_at memory.now slot) × (result < count_end) }
 {
     let at = Memory::SLOT * slot;
-    wide(memory[at + Memory::LOW]) + Memory::HALF * wide(memory[at + Memory::HIGH])
+    usize::from(memory[at + Memory::LOW]) + Memory::HALF * usize::from(memory[at + Memory::HIGH])
 }
 
-// The count that the memory has for a key, or 0.
-pub fn look_up(memory: &[u16], key: &[u16; 38]) -> usize
+// The count that the memory has for a key, if it has one.
+pub fn look_up(memory: &[u16], key: &[u16; 38]) -> Option<usize>
     requires { length memory.now ≡ word_count }
-    ensures { LookedUp memory.now key.now result }
+    ensures { IfSome result (λ count. (0 < count) × LookedUp memory.now key.now count) }
 {
     let first = first_slot(key);
-    let mut way = 0;
-    while way < Memory::WAYS {
-        if holds_key(memory, first + way, key) {
-            return count_at(memory, first + way);
-        }
-        way += 1;
-    }
-    0
+    let slot = (first..first + Memory::WAYS).find(|slot| holds_key(memory, *slot, key))?;
+    let count = count_at(memory, slot);
+    if count == 0 { None } else { Some(count) }
 }
 
 // The slot to which an entry goes: the one of the same key, or else the first of the smallest count.
@@ -162,21 +131,19 @@ fn slot_for(memory: &[u16], key: &[u16; 38]) -> usize
     ensures { result < slot_count }
 {
     let first = first_slot(key);
-    let mut slot = first;
+    let mut best = first;
     let mut least = count_at(memory, first);
-    let mut way = 0;
-    while way < Memory::WAYS {
-        if holds_key(memory, first + way, key) {
-            return first + way;
+    for slot in first..first + Memory::WAYS {
+        if holds_key(memory, slot, key) {
+            return slot;
         }
-        let count = count_at(memory, first + way);
+        let count = count_at(memory, slot);
         if count < least {
-            slot = first + way;
+            best = slot;
             least = count;
         }
-        way += 1;
     }
-    slot
+    best
 }
 
 // Writes a key from a place on.
@@ -184,11 +151,7 @@ fn write_key(memory: &mut [u16], at: usize, key: &[u16; 38])
     requires { at + key_size ≤ length memory.old }
     ensures { Written memory.old memory.new at key_size (λ i. get_or key.now i 0) }
 {
-    let mut i = 0;
-    while i < Memory::KEY {
-        memory[at + i] = key[i];
-        i += 1;
-    }
+    memory[at..at + Memory::KEY].copy_from_slice(key);
 }
 
 // The first half of a count.

@@ -34,10 +34,14 @@ SomeStanding file r done = (sc : Scenario) × (d : State) × Standing file r don
 abbrev pub TellsReady : List ℕ → Runs → List ℕ → ℕ → Bool → Type 0
 TellsReady file r done k b = (sc : Scenario) (d : State) → Standing file r done sc d → ready_at sc d (suc k) ≡ provided b (suc k)
 
--- the lowest such run, or how many runs there are
+-- the lowest such run, from 0
 pub record LowestReady (file : List ℕ) (r : Runs) (done : List ℕ) (k : ℕ) : Type 0 where
-  pub ready : k < r.count → (sc : Scenario) (d : State) → Standing file r done sc d → first_of (map (ready_at sc d) (run_numbers sc)) ≡ some (suc k)
-  pub unready : r.count ≤ k → (sc : Scenario) (d : State) → Standing file r done sc d → first_of (map (ready_at sc d) (run_numbers sc)) ≡ none
+  pub below : k < r.count
+  pub ready : (sc : Scenario) (d : State) → Standing file r done sc d → first_of (map (ready_at sc d) (run_numbers sc)) ≡ some (suc k)
+
+-- there is none
+abbrev pub NoneReady : List ℕ → Runs → List ℕ → Type 0
+NoneReady file r done = (sc : Scenario) (d : State) → Standing file r done sc d → first_of (map (ready_at sc d) (run_numbers sc)) ≡ none
 
 -- the runs that a list goes on with, from 0
 pub record GoesOn (file : List ℕ) (r : Runs) (done : List ℕ) (list : Listing) (s : Span) : Type 0 where

@@ -1,8 +1,8 @@
 // Search: which list of traces is walked through, and the runs whose moves it goes on with from a state.
 #![tactic(auto)]
 
-ghost use Rattle.std.specs.Prelude.{◌<◌};
-ghost use Rattle.search_runs.specs.Runs.{SomeStanding, TellsReady, LowestReady, GoesOn};
+ghost use Rattle.std.specs.Prelude.{◌<◌, MatchOption};
+ghost use Rattle.search_runs.specs.Runs.{SomeStanding, TellsReady, NoneReady, LowestReady, GoesOn};
 
 use records::Event;
 use runs::Runs;
@@ -26,31 +26,16 @@ fn is_ready(file: &[u8], r: Runs, done: [usize; 4], k: usize) -> bool
     requires { SomeStanding file.now r done × (k < r.count) }
     ensures { TellsReady file.now r done k result }
 {
-    let events = r.events;
     let j = done[k];
-    if events[k] <= j {
-        return false;
-    }
-    let event = runs::event_of(file, r, k, j);
-    if event.kind == Event::READ {
-        return false;
-    }
-    true
+    j < r.events[k] && runs::event_of(file, r, k, j).kind != Event::READ
 }
 
-// The lowest run whose next event is a send or claim, or how many runs there are.
-fn lowest_ready(file: &[u8], r: Runs, done: [usize; 4]) -> usize
+// The lowest run whose next event is a send or claim, if there is one.
+fn lowest_ready(file: &[u8], r: Runs, done: [usize; 4]) -> Option<usize>
     requires { SomeStanding file.now r done }
-    ensures { LowestReady file.now r done result }
+    ensures { MatchOption result (NoneReady file.now r done) (LowestReady file.now r done) }
 {
-    let mut k = 0;
-    while k < r.count {
-        if is_ready(file, r, done, k) {
-            return k;
-        }
-        k += 1;
-    }
-    k
+    (0..r.count).find(|k| is_ready(file, r, done, *k))
 }
 
 // The runs whose moves a list goes on with.
@@ -63,18 +48,15 @@ pub fn runs_in(list: Listing, file: &[u8], r: Runs, done: [usize; 4]) -> Span
             from: 0,
             end: r.count,
         },
-        Listing::Short => {
-            let k = lowest_ready(file, r, done);
-            if k < r.count {
-                return Span {
-                    from: k,
-                    end: k + 1,
-                };
-            }
-            Span {
+        Listing::Short => match lowest_ready(file, r, done) {
+            Some(k) => Span {
+                from: k,
+                end: k + 1,
+            },
+            None => Span {
                 from: 0,
                 end: r.count,
-            }
-        }
+            },
+        },
     }
 }

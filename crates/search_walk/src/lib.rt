@@ -9,7 +9,6 @@ use answers::Walked;
 use cells::{Cells, Scope};
 use records::Event;
 use search_breaks::{Choice, Course, Plan, Reach, Turn};
-use variables::NextValue;
 
 // Walks through the traces from a state on. How far the runs have come and the marks go by value; names and classes, which only a read changes, are lent. The
 // memory stays right.
@@ -38,11 +37,8 @@ pub fn walk(
         return own;
     }
     let mut count = search_findings::count_of(own);
-    let list = plan.list;
-    let span = search_runs::runs_in(list, file, plan.runs, done);
-    let end = span.end;
-    let mut k = span.from;
-    while k < end {
+    let span = search_runs::runs_in(plan.list, file, plan.runs, done);
+    for k in span.from..span.end {
         let found = walk_run(
             trace,
             memory,
@@ -65,7 +61,6 @@ pub fn walk(
             return total;
         }
         count = search_findings::count_of(total);
-        k += 1;
     }
     Walked::Clean(count)
 }
@@ -175,67 +170,67 @@ fn walk_values(
     let mut count = 0;
     let mut row = 0;
     let mut run = 0;
-    loop {
-        let next = variables::next_value(t, plan.rows, plan.runs.count, x, row, run);
-        match next {
-            NextValue::Nothing => {
-                return Walked::Clean(count);
-            }
-            NextValue::Value { row: y, run: w } => {
-                let mut more = [0; Cells::COUNT];
-                let mut more_classes = [0; Cells::COUNT];
-                let more_marks = values::tried(
-                    &mut more,
-                    &mut more_classes,
-                    names,
-                    classes,
-                    marks,
-                    t,
-                    Scope {
-                        rows: plan.rows,
-                        runs: plan.runs.count,
-                        run: choice.turn.run + 1,
-                    },
-                    x,
-                    y,
-                    w,
-                );
-                let found = walk_values(
-                    trace,
-                    memory,
-                    file,
-                    t,
-                    plan,
-                    course,
-                    own,
-                    &more,
-                    &more_classes,
-                    more_marks,
-                    Reach {
-                        left: reach.left - count,
-                        at: reach.at,
-                        depth: reach.depth,
-                    },
-                    Choice {
-                        turn: Turn {
-                            run: choice.turn.run,
-                            event,
-                            values: search_breaks::with_value(values, y, w),
-                        },
-                        under,
-                        from: x + 1,
-                    },
-                );
-                let total = search_findings::behind(count, found);
-                if !search_findings::is_clean(total) {
-                    return total;
-                }
-                count = search_findings::count_of(total);
-                row = y;
-                run = w + 1;
-            }
+    while let Some(value) = variables::next_value(
+        t,
+        plan.rows,
+        plan.runs.count,
+        x,
+        row,
+        run,
+    ) {
+        let mut more = [0; Cells::COUNT];
+        let mut more_classes = [0; Cells::COUNT];
+        let more_marks = values::tried(
+            &mut more,
+            &mut more_classes,
+            names,
+            classes,
+            marks,
+            t,
+            Scope {
+                rows: plan.rows,
+                runs: plan.runs.count,
+                run: choice.turn.run + 1,
+            },
+            x,
+            value.row,
+            value.run,
+        );
+        let found = walk_values(
+            trace,
+            memory,
+            file,
+            t,
+            plan,
+            course,
+            own,
+            &more,
+            &more_classes,
+            more_marks,
+            Reach {
+                left: reach.left - count,
+                at: reach.at,
+                depth: reach.depth,
+            },
+            Choice {
+                turn: Turn {
+                    run: choice.turn.run,
+                    event,
+                    values: search_breaks::with_value(values, value.row, value.run),
+                },
+                under,
+                from: x + 1,
+            },
+        );
+        let total = search_findings::behind(count, found);
+        if !search_findings::is_clean(total) {
+            return total;
         }
+        count = search_findings::count_of(total);
+        row = value.row;
+        run = value.run + 1;
     }
+    Walked::Clean(count)
 }
 
 // Walks through the traces that go on with one move, all its values being chosen, if it is allowed.
@@ -291,8 +286,7 @@ fn walk_after(
     let variables = plan.variables;
     let next = state::advance(done, turn.run);
     let key = search_memory::key_of(variables, next, names, reach.depth);
-    let known = search_memory::look_up(&memory[..], &key);
-    if 0 < known {
+    if let Some(known) = search_memory::look_up(&memory[..], &key) {
         return search_findings::known(reach.left, known);
     }
     let after = moves::perform(

@@ -40,11 +40,7 @@ pub fn copy(to: &mut [u16], from: &[u16])
     requires { (length to.old ≡ cell_count) × (length from.now ≡ cell_count) }
     ensures { to.new ≡ from.now }
 {
-    let mut i = 0;
-    while i < Cells::COUNT {
-        to[i] = from[i];
-        i += 1;
-    }
+    to.copy_from_slice(from);
 }
 
 // The marks once the names of a run have grown; the classes are filled anew.
@@ -109,13 +105,10 @@ impl State {
         let runs = r.count;
         let mut names = [Cells::ABSENT; Cells::COUNT];
         let mut classes = [Cells::ABSENT; Cells::COUNT];
-        let mut u = 0;
-        while u <= runs {
+        for u in 0..runs + 1 {
             let agents = agents_of(file, r, u);
-            let more = state_start::entered(names, t, n, u, agents);
-            names = more;
+            names = state_start::entered(names, t, n, u, agents);
             classes::refill(&mut classes, t, n, runs, &names, u);
-            u += 1;
         }
         let marks = knowledge::settle(state_start::start_marks(t, n, list), t, n, runs, &classes);
         State {

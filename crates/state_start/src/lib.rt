@@ -22,11 +22,10 @@ fn name_of(t: &[u8], n: usize, r: usize, u: usize, agents: &[u8]) -> u16
         return Cells::ABSENT;
     }
     if kind == Kind::ROLE {
-        let i = rows::left_of(t, r);
-        if i < agents.len() {
-            return rows::wide(agents[i]) as u16;
-        }
-        return Cells::ABSENT;
+        return match agents.get(rows::left_of(t, r)) {
+            Some(agent) => u16::from(*agent),
+            None => Cells::ABSENT,
+        };
     }
     if kind == Kind::LOCAL {
         return cell(r, u) as u16;
@@ -46,11 +45,8 @@ pub fn entered(
     ensures { Entered (rows_of t.now) u agents.now names result }
 {
     let mut more = names;
-    let mut r = 0;
-    while r < n {
-        let name = name_of(t, n, r, u, agents);
-        more[cell(r, u)] = name;
-        r += 1;
+    for r in 0..n {
+        more[cell(r, u)] = name_of(t, n, r, u, agents);
     }
     more
 }
@@ -60,13 +56,11 @@ fn intruder_marks(t: &[u8], n: usize) -> [bool; Cells::COUNT]
     requires { Shape t.now n 0 }
     ensures { StartMarks t.now n [] result }
 {
-    let mut marks = [false; 480];
-    let mut r = 0;
-    while r < n {
+    let mut marks = [false; Cells::COUNT];
+    for r in 0..n {
         if rows::kind_of(t, r) == Kind::INTRUDER {
             marks[r] = true;
         }
-        r += 1;
     }
     marks
 }
@@ -77,10 +71,8 @@ pub fn start_marks(t: &[u8], n: usize, list: &[u8]) -> [bool; Cells::COUNT]
     ensures { StartMarks t.now n list.now result }
 {
     let mut marks = intruder_marks(t, n);
-    let mut i = 0;
-    while i < list.len() {
-        marks[rows::wide(list[i])] = true;
-        i += 1;
+    for r in list {
+        marks[usize::from(*r)] = true;
     }
     marks
 }

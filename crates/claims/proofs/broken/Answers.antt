@@ -1,4 +1,4 @@
--- `broken` answers the first broken claim of a state. The loop's invariant: none of the first k runs breaks a claim. The measure is how many runs are left. Assumes nothing.
+-- `broken` answers the first broken claim of a state. The loop's invariant: none of the first k runs breaks a claim. Assumes nothing.
 use Prim.Native.Nat.{ℕ}
 use native.Mathlib.Omega.{arith}
 use mathlib.Core.Path.{◌≡◌, sym, subst}
@@ -20,7 +20,7 @@ lent {file} {t} {n} {r} {sc} {d} {s} given is {done} same own =
     subst (λ (m : List Bool). StandsIn file t n r m done sc d) (sym own) (subst (λ (l : List ℕ). StandsIn file t n r s.marks l sc d) (sym same) (stands given is))
 
 pub loop-k-init : goal.loop-k-init
-loop-k-init c = (omega arith, λ sc d is i l. absurd (omega arith))
+loop-k-init c sc d is i l = absurd (omega arith)
 
 pub broken_in_run-found-requires : goal.broken_in_run-found-requires
 broken_in_run-found-requires c =
@@ -29,16 +29,14 @@ broken_in_run-found-requires c =
 
 pub returns-in-Broken : goal.returns-in-Broken
 returns-in-Broken c sc d s' given is same own =
-    state-broken c.args.file.now c.args.t.now c.args.n c.args.r c.args.marks c.args.done c.loop-k.k c.loop-k.invariant.1 c.loop-k-test.true
+    state-broken c.args.file.now c.args.t.now c.args.n c.args.r c.args.marks c.args.done c.loop-k.k c.loop-k.invariant c.loop-k-test.true
     c.broken_in_run-found.result c.broken_in_run-found.ensures _ c.in-Broken.is sc d (lent given is same own)
 
 pub loop-k-preserved : goal.loop-k-preserved
-loop-k-preserved c = (
-  omega (arith, c.loop-k-test.true),
-  none-next c.args.file.now c.args.t.now c.args.n c.args.r c.args.marks c.args.done c.loop-k.k c.loop-k.invariant.1 c.loop-k-test.true
-      c.broken_in_run-found.result c.broken_in_run-found.ensures c.in_default.is,
-)
+loop-k-preserved c =
+    none-next c.args.file.now c.args.t.now c.args.n c.args.r c.args.marks c.args.done c.loop-k.k c.loop-k.invariant c.loop-k-test.true
+    c.broken_in_run-found.result c.broken_in_run-found.ensures c.in_default.is
 
 pub returns : goal.returns
 returns c sc d s' given is same own =
-    state-none c.args.file.now c.args.t.now c.args.n c.args.r c.args.marks c.args.done c.loop-k.k c.loop-k.invariant.1 c.loop-k-test.false sc d (lent given is same own)
+    state-none c.args.file.now c.args.t.now c.args.n c.args.r c.args.marks c.args.done c.loop-k.k c.loop-k.invariant c.loop-k-test.false sc d (lent given is same own)

@@ -1,36 +1,42 @@
--- `broken_in_run` answers the first broken claim of a run. The loop's invariant: none of the first j events is one. The measure is how many events are left. Assumes nothing.
-use native.Mathlib.Omega.{arith}
-use mathlib.Core.Path.{sym, ◌∙◌}
+-- `broken_in_run` answers the first broken claim of a run: the first event that is one, if the run's agents are all trusted. Assumes nothing.
+use Rattle.std.proofs.Common.{ℕ, ◌≤◌, ◌<◌, Bool, List, Option, Some, None, MatchOption, true, false, arith, rules, tests, sym, ◌∙◌}
+use Rattle.std.proofs.lemmas.Iterator.{first_from_Range}
 use Rattle.cells.specs.laws.Shape.{shape-sized}
-use Rattle.claims.specs.laws.Run.{none_more, run-untrusted, run-broken, run_none}
+use Rattle.runs.specs.declared.Runs.{Runs}
+use Rattle.claims.specs.AtRun.{AnswersEvent}
+use Rattle.claims.specs.laws.Run.{none-to, run-untrusted, run-broken, run_none}
 use Rattle.claims.proofs.broken_in_run.Goals as goal
+use Rattle.claims.proofs.broken_in_run.Goals.{After-find}
 
 pub all_trusted-requires : goal.all_trusted-requires
 all_trusted-requires c =
     let given = c.requires.0.1 in
     (shape-sized given.shape, (c.requires.0.0, given.runs, given.good, omega (arith, c.requires.1.1)))
 
-pub loop-j-init : goal.loop-j-init
-loop-j-init c = (omega arith, λ sc d run p at trusts i l. absurd (omega arith))
+pub returns-then-not-all_trusted : goal.returns-then-not-all_trusted
+returns-then-not-all_trusted c sc d run p at same made =
+    run-untrusted at (sym c.if-not-all_trusted.true ∙ c.all_trusted.ensures sc run same at.runs at.good at.is_run)
 
-pub claims_derivable-requires : goal.claims_derivable-requires
-claims_derivable-requires c =
-    let given = c.requires.0.1 in
-    ((c.requires.0.0, (given.runs, (given.good, omega (arith, c.requires.1.1)))), c.requires.1.0)
+-- the first of so many events that is a broken claim, or that none is
+abbrev First : List ℕ → Runs → List Bool → ℕ → ℕ → Option ℕ → Type 0
+First file r marks k done o =
+    MatchOption o ((i : ℕ) → 0 ≤ i → i < done → AnswersEvent file r marks k i false)
+    (λ j. (0 ≤ j) × (j < done) × AnswersEvent file r marks k j true × ((i : ℕ) → 0 ≤ i → i < j → AnswersEvent file r marks k i false))
 
-pub returns-then-claims_derivable : goal.returns-then-claims_derivable
-returns-then-claims_derivable c sc d run p at same made =
-    run-broken at (sym c.if-all_trusted.true ∙ c.all_trusted.ensures sc run same at.runs at.good at.is_run) c.loop-j.j c.loop-j.invariant.1 made c.loop-j-test.true
-    (rw c.if-claims_derivable.true at c.claims_derivable.ensures)
+-- what is found among the events that the run has made
+found : (c : After-find) → First c.args.file.now c.args.r c.args.marks.now c.args.k c.args.done c.find.result
+found c =
+    let answers = λ (j : ℕ) (b : Bool). AnswersEvent c.args.file.now c.args.r c.args.marks.now c.args.k j b in
+    first_from_Range _ _ _ c.find.result (λ j. answers j true) (λ j. answers j false) c.find.ensures.ran (λ x q k. search (rules, tests)) (λ x q k. (search (rules, tests), search (rules, tests)))
 
-pub loop-j-preserved : goal.loop-j-preserved
-loop-j-preserved c =
-    (omega arith, none_more c.args.file.now c.args.r c.args.marks.now c.args.k c.loop-j.j c.loop-j.invariant.1 (rw c.if-claims_derivable.false at c.claims_derivable.ensures))
+pub returns-in-Some : goal.returns-in-Some
+returns-in-Some c sc d run p at same made =
+    let here : First c.args.file.now c.args.r c.args.marks.now c.args.k c.args.done (Some c.in-Some.event) = rw c.in-Some.is at (found (goal.at.returns-in-Some c).After-find) in
+    run-broken at (sym c.if-not-all_trusted.false ∙ c.all_trusted.ensures sc run same at.runs at.good at.is_run) c.in-Some.event
+    (none-to _ _ _ _ _ (λ i l. here.3 i (omega arith) l)) made here.1 here.2
 
-pub returns-after-loop-j : goal.returns-after-loop-j
-returns-after-loop-j c sc d run p at same made =
-    run_none at (sym c.if-all_trusted.true ∙ c.all_trusted.ensures sc run same at.runs at.good at.is_run) c.loop-j.j c.loop-j.invariant.1 made c.loop-j-test.false
-
-pub returns-else-all_trusted : goal.returns-else-all_trusted
-returns-else-all_trusted c sc d run p at same made =
-    run-untrusted at (sym c.if-all_trusted.false ∙ c.all_trusted.ensures sc run same at.runs at.good at.is_run)
+pub returns-in-None : goal.returns-in-None
+returns-in-None c sc d run p at same made =
+    let none : First c.args.file.now c.args.r c.args.marks.now c.args.k c.args.done None = rw c.in-None.is at (found (goal.at.returns-in-None c).After-find) in
+    run_none at (sym c.if-not-all_trusted.false ∙ c.all_trusted.ensures sc run same at.runs at.good at.is_run) c.args.done
+    (none-to _ _ _ _ _ (λ i l. none i (omega arith) l)) made (omega arith)

@@ -1,6 +1,6 @@
 -- The first broken claim of a run: its events are looked at in order, if its agents are all trusted. Assumes nothing.
 use Prim.Native.Nat.{ℕ, suc, ◌+◌, ◌<◌, ◌≤◌}
-use Rattle.std.proofs.Common.{add-one, arith, eq-or-lt_of_le, ⊎_elim}
+use Rattle.std.proofs.Common.{add-one, arith}
 use Rattle.std.specs.Prelude.{◌≡◌, Bool, true, false, ◌&&◌, List, map, None, Some}
 use Rattle.std.proofs.Math.Path.{refl}
 use Rattle.std.proofs.Math.Option.{none}
@@ -22,11 +22,9 @@ use Rattle.claims.specs.laws.Event.{and_then-none}
 abbrev pub NoneTo : List ℕ → Runs → List Bool → ℕ → ℕ → Type 0
 NoneTo file r marks k j = (sc : Scenario) (d : State) (run : Run) (p : Progress) → AtRun file r sc d marks k run p → true ≡ all_trusted sc.rows run → (i : ℕ) → i < j → event_breaks sc d k run p i ≡ none
 
--- one more that is none
-pub none_more : (file : List ℕ) (r : Runs) (marks : List Bool) (k j : ℕ) → NoneTo file r marks k j → AnswersEvent file r marks k j false → NoneTo file r marks k (j + 1)
-none_more file r marks k j before here sc d run p at trusts i l =
-    let m : i ≤ j = omega arith in
-    ⊎_elim (λ (e : i ≡ j). rw e (here sc d run p at trusts)) (before sc d run p at trusts i) (eq-or-lt_of_le m)
+-- the first j events, each answered as none
+pub none-to : (file : List ℕ) (r : Runs) (marks : List Bool) (k j : ℕ) → ((i : ℕ) → i < j → AnswersEvent file r marks k i false) → NoneTo file r marks k j
+none-to file r marks k j each sc d run p at trusts i l = each i l sc d run p at trusts
 
 module _ {file : List ℕ} {r : Runs} {sc : Scenario} {d : State} {marks : List Bool} {k : ℕ} {run : Run} {p : Progress} (at : AtRun file r sc d marks k run p) where
   -- the first broken claim of the run is the first of its events'

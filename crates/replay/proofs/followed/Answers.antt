@@ -1,11 +1,10 @@
 -- `followed` follows a trace through an accepted file. Assumes nothing.
 use native.Mathlib.Omega.{arith}
-use borrow.Author.Tests.{not-true, not-false}
 use Prim.Native.Nat.{ℕ, ◌+◌, ◌-◌, ◌<◌, ◌≤◌}
 use mathlib.Core.List.{List}
 use mathlib.Core.Path.{◌≡◌, refl, sym, ap, ◌∙◌}
 use lib.ListN.{length}
-use Rattle.std.specs.Prelude.{true, take, drop}
+use Rattle.std.specs.Prelude.{Some, take, drop}
 use Rattle.semantics.specs.Scenario.{Scenario, term_part}
 use Rattle.semantics.specs.State.{State}
 use Rattle.answers.specs.Answers.{Accepts, scenario_in, replayed_as}
@@ -28,12 +27,12 @@ given p runs bytes = given-layout _ _ p.is_opened p.layout runs bytes
 -- an allowed step: it has two bytes at least, it ends inside the trace, and the trace is followed past it
 taken : {file : List ℕ} {n : ℕ} {t : List ℕ} {r : Runs} → Given file t n r (scenario_in file) → {trace : List ℕ} {at : ℕ} {s : CodeState} → FollowedSteps (scenario_in file) trace at s
     → at < length trace → {p : Stepped}
-    → ((sc : Scenario) (d : State) → Given file t n r sc → IsState sc d s → StepDone sc d (take (length trace - at) (drop at trace)) p) → p.allowed ≡ true
+    → ((sc : Scenario) (d : State) → Given file t n r sc → IsState sc d s → StepDone sc d (take (length trace - at) (drop at trace)) (Some p))
     → (2 ≤ p.length) × (at + p.length ≤ length trace) × FollowedSteps (scenario_in file) trace (at + p.length) p.state
-taken g f more step allowed =
+taken g f more step =
     let done = step _ f.d g f.is_state in
-    let w = follow-size f more refl done allowed in
-    (w.0, w.1, follow-on f more refl done allowed)
+    let w = follow-size f more refl done refl in
+    (w.0, w.1, follow-on f more refl done refl)
 
 pub block_of-t-requires : goal.block_of-t-requires
 block_of-t-requires c = (opened-framed _ _ c.requires.is_opened, omega arith)
@@ -48,29 +47,29 @@ pub loop-at-init : goal.loop-at-init
 loop-at-init c =
     (omega arith, follow-start _ _ (c.initial-s.ensures _ (given c.requires c.runs_of-r.ensures c.block_of-t.ensures) (opened-knowledge _ _ c.requires.is_opened c.block_of.ensures)))
 
-pub step-stepped-requires : goal.step-stepped-requires
-step-stepped-requires c =
+pub step-requires : goal.step-requires
+step-requires c =
     let f = c.loop-at.invariant.1 in
     (_, f.d, given c.requires c.runs_of-r.ensures c.block_of-t.ensures, f.is_state)
 
-pub returns-then-not-stepped : goal.returns-then-not-stepped
-returns-then-not-stepped c =
+pub returns-in_default : goal.returns-in_default
+returns-in_default c =
     let f = c.loop-at.invariant.1 in
-    ap replayed_as (sym (follow-refused f c.loop-at-test.true refl (c.step-stepped.ensures _ f.d (given c.requires c.runs_of-r.ensures c.block_of-t.ensures) f.is_state) (not-true _ c.if-not-stepped.true)))
+    ap replayed_as (sym (follow-refused f c.loop-at-test.true refl (c.step.ensures _ f.d (given c.requires c.runs_of-r.ensures c.block_of-t.ensures) f.is_state) c.in_default.is))
 
 pub overflow_add-at : goal.overflow_add-at
 overflow_add-at c =
-    let w = taken (given c.requires c.runs_of-r.ensures c.block_of-t.ensures) c.loop-at.invariant.1 c.loop-at-test.true c.step-stepped.ensures (not-false _ c.if-not-stepped.false) in
+    let w = taken (given c.requires c.runs_of-r.ensures c.block_of-t.ensures) c.loop-at.invariant.1 c.loop-at-test.true c.in-Some.ensures in
     record { fits = omega (arith, w.1) }
 
 pub loop-at-smaller : goal.loop-at-smaller
 loop-at-smaller c =
-    let w = taken (given c.requires c.runs_of-r.ensures c.block_of-t.ensures) c.loop-at.invariant.1 c.loop-at-test.true c.step-stepped.ensures (not-false _ c.if-not-stepped.false) in
+    let w = taken (given c.requires c.runs_of-r.ensures c.block_of-t.ensures) c.loop-at.invariant.1 c.loop-at-test.true c.in-Some.ensures in
     omega (arith, w.0, w.1)
 
 pub loop-at-preserved : goal.loop-at-preserved
 loop-at-preserved c =
-    let w = taken (given c.requires c.runs_of-r.ensures c.block_of-t.ensures) c.loop-at.invariant.1 c.loop-at-test.true c.step-stepped.ensures (not-false _ c.if-not-stepped.false) in
+    let w = taken (given c.requires c.runs_of-r.ensures c.block_of-t.ensures) c.loop-at.invariant.1 c.loop-at-test.true c.in-Some.ensures in
     (w.1, w.2)
 
 pub broken-requires : goal.broken-requires

@@ -1,6 +1,6 @@
 -- A trace followed step by step: what is left of it, its end, and a step that is refused. Assumes nothing.
-use Rattle.std.specs.Prelude.{ℕ, zero, suc, ◌+◌, ◌*◌, ◌-◌, ◌<◌, ◌≤◌, ◌≡◌, Bool, true, false, List, [], ◌∷◌, leb, length, take, drop, Err, None, Ok, Some}
-use Rattle.std.proofs.Common.{arith, sym, ◌∙◌, true≢false, take_all, drop-drop, leb-true}
+use Rattle.std.specs.Prelude.{ℕ, zero, suc, ◌+◌, ◌*◌, ◌-◌, ◌<◌, ◌≤◌, ◌≡◌, Bool, true, false, List, [], ◌∷◌, leb, length, take, drop, Option as Answered, Some, None, Err, Ok}
+use Rattle.std.proofs.Common.{arith, sym, subst, ◌∙◌, take_all, drop-drop, leb-true}
 use Rattle.std.proofs.Math.Path.{refl, ap}
 use Rattle.std.proofs.Math.Option.{Option, none, some, some-injective, none-ne-some}
 use Rattle.std.proofs.Math.ListN.{length-drop}
@@ -21,6 +21,7 @@ use Rattle.state.specs.State.{IsState}
 use Rattle.state.specs.declared.State.{State as CodeState}
 use Rattle.replay_steps.specs.declared.Stepped.{Stepped}
 use Rattle.replay_steps.specs.Steps.{step_after, StepDone, is_step, no_step}
+use Rattle.replay_steps.specs.laws.Steps.{clash}
 use Rattle.replay.specs.Replay.{followed_of}
 
 -- nothing is left
@@ -101,7 +102,7 @@ module _ {sc : Scenario} {trace : List ℕ} {at : ℕ} {s : CodeState} (f : Foll
   unfolding followed_of
   follow-end l = ap (λ (o : Answer State). ◌>>=◌ o (λ d. accepted (broken sc d))) (f.left ∙ at-end f.fuel sc at f.d (drop at trace) (omega (arith, length-drop at trace)))
 
-  module _ (more : at < length trace) {part : List ℕ} (is_part : part ≡ take (length trace - at) (drop at trace)) {p : Stepped} (done : StepDone sc f.d part p) where
+  module _ (more : at < length trace) {part : List ℕ} (is_part : part ≡ take (length trace - at) (drop at trace)) {o : Answered Stepped} (done : StepDone sc f.d part o) where
     rest : part ≡ drop at trace
     rest = is_part ∙ take_all (length trace - at) (drop at trace) (omega (arith, length-drop at trace))
 
@@ -113,36 +114,41 @@ module _ {sc : Scenario} {trace : List ℕ} {at : ℕ} {s : CodeState} (f : Foll
         ∙ ap (λ (bytes : List ℕ). onward (f.fuel - 1) sc at (drop at trace) (step_after sc f.d (first_step bytes))) (sym rest)
 
     -- at a step that is not allowed
-    pub follow-refused : p.allowed ≡ false → followed_of sc trace ≡ refuse 12 at
+    pub follow-refused : o ≡ None → followed_of sc trace ≡ refuse 12 at
     unfolding followed_of
     follow-refused h = go done
       where
-        go : StepDone sc f.d part p → followed_of sc trace ≡ refuse 12 at
-        go (is_step e g st) = absurd (true≢false (sym e ∙ h))
+        go : StepDone sc f.d part o → followed_of sc trace ≡ refuse 12 at
+        go (is_step e g st) = clash e h
         go (no_step e g) = ap (λ (o : Answer State). ◌>>=◌ o (λ d. accepted (broken sc d))) (onward-from ∙ ap (onward (f.fuel - 1) sc at (drop at trace)) g)
 
     -- past one that is
-    pub follow-size : p.allowed ≡ true → (2 ≤ p.length) × (at + p.length ≤ length trace)
-    follow-size h = go done
-      where
-        go : StepDone sc f.d part p → (2 ≤ p.length) × (at + p.length ≤ length trace)
-        go (no_step e g) = absurd (true≢false (sym h ∙ e))
-        go (is_step {d'} e g st) = let w = taken-size sc f.d d' part p.length g in (w.0, omega (arith, w.1, ap length rest, length-drop at trace))
+    module _ {p : Stepped} (h : o ≡ Some p) where
+      pub follow-size : (2 ≤ p.length) × (at + p.length ≤ length trace)
+      follow-size = go done
+        where
+          go : StepDone sc f.d part o → (2 ≤ p.length) × (at + p.length ≤ length trace)
+          go (no_step e g) = clash h e
+          go (is_step {done = q} {d' = d'} e g st) =
+              let same : q ≡ p = cc in
+              let w = taken-size sc f.d d' part q.length g in
+              subst (λ (x : Stepped). (2 ≤ x.length) × (at + x.length ≤ length trace)) same (w.0, omega (arith, w.1, ap length rest, length-drop at trace))
 
-    pub follow-on : p.allowed ≡ true → FollowedSteps sc trace (at + p.length) p.state
-    follow-on h = go done
-      where
-        go : StepDone sc f.d part p → FollowedSteps sc trace (at + p.length) p.state
-        go (no_step e g) = absurd (true≢false (sym h ∙ e))
-        go (is_step {d'} e g st) =
-            let w = taken-size sc f.d d' part p.length g in
-            record {
-              d = d';
-              fuel = f.fuel - 1;
-              is_state = st;
-              enough = omega (arith, w.0, f.enough);
-              left = onward-from ∙ ap (onward (f.fuel - 1) sc at (drop at trace)) g ∙ ap (replayed_from (f.fuel - 1) sc (at + p.length) d') (drop-drop p.length at trace);
-            }
+      pub follow-on : FollowedSteps sc trace (at + p.length) p.state
+      follow-on = go done
+        where
+          go : StepDone sc f.d part o → FollowedSteps sc trace (at + p.length) p.state
+          go (no_step e g) = clash h e
+          go (is_step {done = q} {d' = d'} e g st) =
+              let same : q ≡ p = cc in
+              let w = taken-size sc f.d d' part q.length g in
+              subst (λ (x : Stepped). FollowedSteps sc trace (at + x.length) x.state) same (record {
+                d = d';
+                fuel = f.fuel - 1;
+                is_state = st;
+                enough = omega (arith, w.0, f.enough);
+                left = onward-from ∙ ap (onward (f.fuel - 1) sc at (drop at trace)) g ∙ ap (replayed_from (f.fuel - 1) sc (at + q.length) d') (drop-drop q.length at trace);
+              })
 
 -- an accepted file: the trace is followed
 module _ (file trace : List ℕ) where

@@ -9,5 +9,5 @@ returns-then-e-eq1 c sc d a next = c.chosen.ensures _ sc d _ a next refl refl c.
 pub returns-then-values-lt2 : goal.returns-then-values-lt2
 returns-then-values-lt2 c sc d a next = none-suit next c.if-e-eq1.false c.args.values.now c.if-values-lt2.true
 
-pub returns : goal.returns
-returns c sc d a next = some-suit-not next c.if-e-eq1.false c.args.values.now _ c.if-values-lt2.false
+pub returns-else-values-lt2 : goal.returns-else-values-lt2
+returns-else-values-lt2 c sc d a next = some-suit-not next c.if-e-eq1.false c.args.values.now c.if-values-lt2.false

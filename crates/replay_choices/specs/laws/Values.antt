@@ -1,6 +1,6 @@
 -- New values in a trace, taken one after the other: whether they suit a read, and the names with them. Assumes nothing.
 use Rattle.std.specs.Prelude.{ℕ, suc, ◌+◌, ◌<◌, ◌≤◌, ◌≡◌, refl, Bool, true, false, List, [], ◌∷◌, ◌++◌, T, length, get_or, drop, set}
-use Rattle.std.proofs.Common.{add-one, arith, sym, ap, ◌∙◌, subst, true≢false, append_assoc, append-nil, length-drop, drop-cons}
+use Rattle.std.proofs.Common.{add-one, arith, sym, ap, ◌∙◌, subst, true≢false, append_assoc, append-nil, length-drop, drop-cons, Some, None}
 use Rattle.std.proofs.Math.Option.{some, some-injective}
 use Rattle.semantics.specs.Term.{Atom}
 use Rattle.semantics.specs.Table.{Row, variable_atom}
@@ -82,23 +82,23 @@ module _ {t : List ℕ} {runs k : ℕ} {e : RunEvent} {sc : Scenario} {d : State
     left = unset_from sc.rows a.progress.values a.event.row from
 
     -- no variable is left
-    pub part-suits : left ≡ [] → length bytes ≤ i + 1 → Suited sc d a (values_in bytes) (record { suits = true; names = names })
+    pub part-suits : left ≡ [] → length bytes ≤ i + 1 → Suited sc d a (values_in bytes) (Some names)
     part-suits none l =
         let ended = values-end bytes i l in
         let taken : part.taken ≡ values_in bytes = sym (part.all ∙ ap (λ (vs : List Value). part.taken ++ vs) ended ∙ append-nil part.taken) in
         is_suited refl (part.same ∙ (λ j. suits sc.rows (length sc.runs) (none j) (ended j)) ∙ suits-none sc.rows (length sc.runs))
         (subst (λ (vs : List Value). Sets sc d a vs names) taken (setting-all sc next.good d k a next.is_active s.names from part.xs part.taken names part.setting none))
 
-    pub part-long : left ≡ [] → i + 1 < length bytes → Suited sc d a (values_in bytes) (record { suits = false; names = names })
+    pub part-long : left ≡ [] → i + 1 < length bytes → Suited sc d a (values_in bytes) None
     part-long none l = not_suited refl (part.same ∙ (λ j. suits sc.rows (length sc.runs) (none j) (values-next bytes i l j)) ∙ suits-long sc.rows (length sc.runs) _ _)
 
     -- another variable
     module _ {y : Atom} {rest : List Atom} (more : left ≡ y ∷ rest) where
-      pub part-short : length bytes ≤ i + 1 → Suited sc d a (values_in bytes) (record { suits = false; names = names })
+      pub part-short : length bytes ≤ i + 1 → Suited sc d a (values_in bytes) None
       part-short l = not_suited refl (part.same ∙ (λ j. suits sc.rows (length sc.runs) (more j) (values-end bytes i l j)) ∙ suits-short sc.rows (length sc.runs) y rest)
 
       pub part-not : i + 1 < length bytes → is_value_of (record { row = get_or bytes i 0; run = get_or bytes (i + 1) 0 }) (candidates sc.rows (length sc.runs) y) ≡ false
-          → Suited sc d a (values_in bytes) (record { suits = false; names = names })
+          → Suited sc d a (values_in bytes) None
       part-not l not = not_suited refl (part.same ∙ (λ j. suits sc.rows (length sc.runs) (more j) (values-next bytes i l j)) ∙ suits-not sc.rows (length sc.runs) y rest _ _ not)
 
     pub part-more : (x : ℕ) (y : Atom) → x < length sc.rows → from ≤ x → atom_at sc.rows x ≡ some y → T (variable_atom y) → get_or s.names (cell_of x (suc k)) absent ≡ absent
@@ -142,13 +142,13 @@ part-carry {sc} {d} {a} {before} {bytes} x k i r w names more e f g part =
 
 -- an event that is no read sets nothing
 module _ {t : List ℕ} {runs k : ℕ} {e : RunEvent} {sc : Scenario} {d : State} {s : CodeState} {a : Active} (next : NextMove t runs k e sc d s a) (kind : e.kind ≡ 1 → ⊥) (bytes : List ℕ) where
-  pub none-suit : length bytes < 2 → Suited sc d a (values_in bytes) (record { suits = true; names = s.names })
+  pub none-suit : length bytes < 2 → Suited sc d a (values_in bytes) (Some s.names)
   none-suit l =
       let ended : values_in bytes ≡ [] = values-end bytes 0 (omega arith) in
       is_suited refl ((λ j. suits sc.rows (length sc.runs) (nothing-set next kind j) (ended j)) ∙ suits-none sc.rows (length sc.runs)) (subst (λ (vs : List Value). Sets sc d a vs s.names) (sym ended) (none-set next))
 
-  pub some-suit-not : (names : List ℕ) → 2 ≤ length bytes → Suited sc d a (values_in bytes) (record { suits = false; names = names })
-  some-suit-not names l = not_suited refl ((λ j. suits sc.rows (length sc.runs) (nothing-set next kind j) (values-next bytes 0 (omega arith) j)) ∙ suits-long sc.rows (length sc.runs) _ _)
+  pub some-suit-not : 2 ≤ length bytes → Suited sc d a (values_in bytes) None
+  some-suit-not l = not_suited refl ((λ j. suits sc.rows (length sc.runs) (nothing-set next kind j) (values-next bytes 0 (omega arith) j)) ∙ suits-long sc.rows (length sc.runs) _ _)
 
   pub only_none : (vs : List Value) → suits sc.rows (length sc.runs) (to_set sc a) vs ≡ true → vs ≡ []
   only_none vs h = go vs (sym (ap (λ (l : List Atom). suits sc.rows (length sc.runs) l vs) (nothing-set next kind)) ∙ h)

@@ -21,7 +21,7 @@ use Rattle.runs.specs.Runs.{EventRead, ReadsEvent}
 use Rattle.moves.specs.Moves.{AtEvent}
 use Rattle.moves.specs.laws.Allowed.{told-some, told_none}
 use Rattle.replay_choices.specs.Choices.{Suited}
-use Rattle.replay_choices.specs.declared.Choice.{Choice}
+use Rattle.std.proofs.Common.{Some}
 use Rattle.replay_steps.specs.Steps.{Worked}
 use Rattle.replay_steps.specs.laws.Steps.{refuses-short, refuses-cut, refuses-inactive, refuses-unsuited, suited-sets, step-refused, step-performed, suited-none, worked-ready}
 use Rattle.replay_steps.proofs.step.Goals as goal
@@ -52,41 +52,41 @@ module _ {file t : List ℕ} {n : ℕ} {r : Runs} {sc : Scenario} {d : definitio
   is-active = ap (active sc d) (sym (run-number nonzero)) ∙ coming.1.is_active
 
   -- the event with values that suit, and classes and marks that were worked on for it
-  abbrev at-event : (values : List ℕ) (choice : Choice) → Suited sc d coming.0 (values_in values) choice → choice.suits ≡ true → length s.done ≡ 4
-      → (classes : List ℕ) (marks : List Bool) → Worked (rows_of t) r.count (u - 1 + 1) e.kind choice.names s.classes s.marks classes marks → AtEvent t n r.count (u - 1) e classes marks
-  at-event values choice suited suits size classes marks worked = record {
+  abbrev at-event : (values : List ℕ) {names : List ℕ} → Suited sc d coming.0 (values_in values) (Some names) → length s.done ≡ 4
+      → (classes : List ℕ) (marks : List Bool) → Worked (rows_of t) r.count (u - 1 + 1) e.kind names s.classes s.marks classes marks → AtEvent t n r.count (u - 1) e classes marks
+  at-event values {names} suited size classes marks worked = record {
     sc = sc;
     d = d;
     s = s;
     a = coming.0;
     vs = values_in values;
-    names = choice.names;
+    names = names;
     shape = given.shape;
     due = due;
     next = next;
     size = size;
-    ready = worked-ready next given.shape due _ _ (suited-sets suited suits).1 (suited-none next values (suited-sets suited suits).0) worked;
+    ready = worked-ready next given.shape due _ _ (suited-sets suited refl).1 (suited-none next values (suited-sets suited refl).0) worked;
   }
 
 pub returns-then-trace-lt2 : goal.returns-then-trace-lt2
 returns-then-trace-lt2 c sc d given state =
-    refuses-short sc d _ _ c.if-trace-lt2.true
+    refuses-short sc d _ c.if-trace-lt2.true
 
 pub returns-then-trace-end : goal.returns-then-trace-end
 returns-then-trace-end c sc d given state =
-    refuses-cut sc d _ _ c.if-trace-lt2.false c.wide.ensures.0 refl c.if-trace-end.true
+    refuses-cut sc d _ c.if-trace-lt2.false c.wide.ensures.0 refl c.if-trace-end.true
 
 pub returns-then-u-eq0 : goal.returns-then-u-eq0
 returns-then-u-eq0 c sc d given state =
-    refuses-inactive sc d _ _ c.if-trace-lt2.false c.wide.ensures.0 refl c.if-trace-end.false c.wide-u.ensures.0 (ap (active sc d) c.if-u-eq0.true ∙ active-zero sc d)
+    refuses-inactive sc d _ c.if-trace-lt2.false c.wide.ensures.0 refl c.if-trace-end.false c.wide-u.ensures.0 (ap (active sc d) c.if-u-eq0.true ∙ active-zero sc d)
 
 pub returns-then-r-u : goal.returns-then-r-u
 returns-then-r-u c sc d given state =
-    refuses-inactive sc d _ _ c.if-trace-lt2.false c.wide.ensures.0 refl c.if-trace-end.false c.wide-u.ensures.0 (active-high sc d _ (omega (arith, c.if-r-u.true, given.runs.count)))
+    refuses-inactive sc d _ c.if-trace-lt2.false c.wide.ensures.0 refl c.if-trace-end.false c.wide-u.ensures.0 (active-high sc d _ (omega (arith, c.if-r-u.true, given.runs.count)))
 
 pub returns-then-r-k : goal.returns-then-r-k
 returns-then-r-k c sc d given state =
-    refuses-inactive sc d _ _ c.if-trace-lt2.false c.wide.ensures.0 refl c.if-trace-end.false c.wide-u.ensures.0
+    refuses-inactive sc d _ c.if-trace-lt2.false c.wide.ensures.0 refl c.if-trace-end.false c.wide-u.ensures.0
     (ap (active sc d) (sym (run-number c.if-u-eq0.false)) ∙ run-ended given state _ (run-low c.if-u-eq0.false c.if-r-u.false) c.if-r-k.true)
 
 pub event_of-e-requires : goal.event_of-e-requires
@@ -94,8 +94,8 @@ event_of-e-requires c =
     let given = c.requires.2 in
     (c.requires.0, given.runs, given.good, run-low c.if-u-eq0.false c.if-r-u.false, c.if-r-k.false)
 
-pub valued-choice-requires : goal.valued-choice-requires
-valued-choice-requires c =
+pub valued-requires : goal.valued-requires
+valued-requires c =
     let of = due c.requires.2 c.requires.3 c.if-u-eq0.false c.if-r-u.false c.if-r-k.false c.event_of-e.ensures in
     (c.requires.2.shape, (of.is_run, of.term))
 
@@ -106,7 +106,7 @@ slice_bounds-worked-end c =
 pub worked-more-requires : goal.worked-more-requires
 worked-more-requires c =
     let low = run-low c.if-u-eq0.false c.if-r-u.false in
-    let names : length c.valued-choice.result.names ≡ 480 = search (rules, c.valued-choice.type_inv) in
+    let names : length c.in_ok-names.names ≡ 480 = search rules in
     (c.requires.2.shape, (omega (arith, low), (c.requires.3.arrays.classed.size, names)))
 
 pub is_allowed-requires : goal.is_allowed-requires
@@ -128,23 +128,23 @@ advance-done-requires c =
     let low : c.wide-u.result - 1 < 4 = omega (arith, given.runs.few, run-low c.if-u-eq0.false c.if-r-u.false) in
     (low, omega (arith, c.if-r-k.false, given.runs.small (c.wide-u.result - 1) low))
 
-pub returns-then-is_allowed : goal.returns-then-is_allowed
-returns-then-is_allowed c sc d given state =
-    let values : List ℕ = take (2 + 2 * c.wide.result - 2) (drop 2 c.args.trace.now) in
-    let suited = c.valued-choice.ensures sc d (coming given state c.if-u-eq0.false c.if-r-u.false c.if-r-k.false c.event_of-e.ensures).0 (next given state c.if-u-eq0.false c.if-r-u.false c.if-r-k.false c.event_of-e.ensures) in
-    let m = at-event given state c.if-u-eq0.false c.if-r-u.false c.if-r-k.false c.event_of-e.ensures values c.valued-choice.result suited c.if-choice.true (search rules) c.worked-more.new.classes c.worked-more.result c.worked-more.ensures in
-    let w = told-some (c.is_allowed.ensures _ _ _ m) c.if-is_allowed.true in
-    step-performed sc d c.args.trace.now c.args.s c.if-trace-lt2.false c.wide.ensures.0 refl c.if-trace-end.false c.wide-u.ensures.0 (is-active given state c.if-u-eq0.false c.if-r-u.false c.if-r-k.false c.event_of-e.ensures) values refl c.valued-choice.result suited c.if-choice.true w.1 (rw (c.after.ensures, c.advance-done.ensures) (c.perform-after.ensures m w.0 w.1))
-
-pub returns-then-choice : goal.returns-then-choice
-returns-then-choice c sc d given state =
-    let values : List ℕ = take (2 + 2 * c.wide.result - 2) (drop 2 c.args.trace.now) in
-    let suited = c.valued-choice.ensures sc d (coming given state c.if-u-eq0.false c.if-r-u.false c.if-r-k.false c.event_of-e.ensures).0 (next given state c.if-u-eq0.false c.if-r-u.false c.if-r-k.false c.event_of-e.ensures) in
-    let m = at-event given state c.if-u-eq0.false c.if-r-u.false c.if-r-k.false c.event_of-e.ensures values c.valued-choice.result suited c.if-choice.true (search rules) c.worked-more.new.classes c.worked-more.result c.worked-more.ensures in
-    step-refused sc d c.args.trace.now c.args.s c.if-trace-lt2.false c.wide.ensures.0 refl c.if-trace-end.false c.wide-u.ensures.0 (is-active given state c.if-u-eq0.false c.if-r-u.false c.if-r-k.false c.event_of-e.ensures) values refl c.valued-choice.result suited c.if-choice.true (told_none (c.is_allowed.ensures _ _ _ m) c.if-is_allowed.false)
-
 pub returns : goal.returns
 returns c sc d given state =
     let values : List ℕ = take (2 + 2 * c.wide.result - 2) (drop 2 c.args.trace.now) in
-    let suited = c.valued-choice.ensures sc d (coming given state c.if-u-eq0.false c.if-r-u.false c.if-r-k.false c.event_of-e.ensures).0 (next given state c.if-u-eq0.false c.if-r-u.false c.if-r-k.false c.event_of-e.ensures) in
-    refuses-unsuited sc d c.args.trace.now c.args.s c.if-trace-lt2.false c.wide.ensures.0 refl c.if-trace-end.false c.wide-u.ensures.0 (is-active given state c.if-u-eq0.false c.if-r-u.false c.if-r-k.false c.event_of-e.ensures) values refl c.valued-choice.result suited c.if-choice.false
+    let suited = c.in_ok-names.ensures sc d (coming given state c.if-u-eq0.false c.if-r-u.false c.if-r-k.false c.event_of-e.ensures).0 (next given state c.if-u-eq0.false c.if-r-u.false c.if-r-k.false c.event_of-e.ensures) in
+    let m = at-event given state c.if-u-eq0.false c.if-r-u.false c.if-r-k.false c.event_of-e.ensures values suited (search rules) c.worked-more.new.classes c.worked-more.result c.worked-more.ensures in
+    let w = told-some (c.is_allowed.ensures _ _ _ m) c.if-not-is_allowed.false in
+    step-performed sc d c.args.trace.now c.if-trace-lt2.false c.wide.ensures.0 refl c.if-trace-end.false c.wide-u.ensures.0 (is-active given state c.if-u-eq0.false c.if-r-u.false c.if-r-k.false c.event_of-e.ensures) values refl suited refl w.1 (rw (c.after.ensures, c.advance-done.ensures) (c.perform-after.ensures m w.0 w.1))
+
+pub returns-then-not-is_allowed : goal.returns-then-not-is_allowed
+returns-then-not-is_allowed c sc d given state =
+    let values : List ℕ = take (2 + 2 * c.wide.result - 2) (drop 2 c.args.trace.now) in
+    let suited = c.in_ok-names.ensures sc d (coming given state c.if-u-eq0.false c.if-r-u.false c.if-r-k.false c.event_of-e.ensures).0 (next given state c.if-u-eq0.false c.if-r-u.false c.if-r-k.false c.event_of-e.ensures) in
+    let m = at-event given state c.if-u-eq0.false c.if-r-u.false c.if-r-k.false c.event_of-e.ensures values suited (search rules) c.worked-more.new.classes c.worked-more.result c.worked-more.ensures in
+    step-refused sc d c.args.trace.now c.if-trace-lt2.false c.wide.ensures.0 refl c.if-trace-end.false c.wide-u.ensures.0 (is-active given state c.if-u-eq0.false c.if-r-u.false c.if-r-k.false c.event_of-e.ensures) values refl suited refl (told_none (c.is_allowed.ensures _ _ _ m) c.if-not-is_allowed.true)
+
+pub returns-in_err-names : goal.returns-in_err-names
+returns-in_err-names c sc d given state =
+    let values : List ℕ = take (2 + 2 * c.wide.result - 2) (drop 2 c.args.trace.now) in
+    let suited = c.in_err-names.ensures sc d (coming given state c.if-u-eq0.false c.if-r-u.false c.if-r-k.false c.event_of-e.ensures).0 (next given state c.if-u-eq0.false c.if-r-u.false c.if-r-k.false c.event_of-e.ensures) in
+    rw c.from_residual.ensures (refuses-unsuited sc d c.args.trace.now c.if-trace-lt2.false c.wide.ensures.0 refl c.if-trace-end.false c.wide-u.ensures.0 (is-active given state c.if-u-eq0.false c.if-r-u.false c.if-r-k.false c.event_of-e.ensures) values refl suited refl)

@@ -1,6 +1,6 @@
 -- One step of a trace: its bytes, and the state after it. Assumes nothing.
-use Rattle.std.specs.Prelude.{ℕ, ◌+◌, ◌*◌, ◌-◌, ◌<◌, ◌≤◌, ◌≡◌, refl, Bool, true, false, List, [], ◌∷◌, length, get_or, take, drop}
-use Rattle.std.proofs.Common.{arith, sym, ap, ◌∙◌, true≢false, le-leb}
+use Rattle.std.specs.Prelude.{ℕ, ◌+◌, ◌*◌, ◌-◌, ◌<◌, ◌≤◌, ◌≡◌, refl, Bool, true, false, List, [], ◌∷◌, length, get_or, take, drop, Option as Answered, Some, None}
+use Rattle.std.proofs.Common.{arith, sym, ap, subst, ◌∙◌, true≢false, le-leb}
 use Rattle.std.proofs.Math.Option.{Option, none, some, some-injective, none-ne-some}
 use Rattle.std.proofs.lemmas.Bool.{lt-leb}
 use Rattle.semantics.specs.Basic.{and_then}
@@ -13,7 +13,6 @@ use Rattle.state.specs.declared.State.{State as CodeState}
 use Rattle.rows.specs.Rows.{rows_of, Shape}
 use Rattle.state.specs.State.{Due, IsState, NextMove, Sets, Ready}
 use Rattle.state.specs.laws.Ready.{grown-ready, kept-ready}
-use Rattle.replay_choices.specs.declared.Choice.{Choice}
 use Rattle.replay_choices.specs.Choices.{Suited, is_suited, not_suited}
 use Rattle.replay_choices.specs.laws.Values.{only_none}
 use Rattle.replay_steps.specs.Steps.{step_after, StepDone, is_step, no_step, Worked, for_read, for_other}
@@ -65,15 +64,19 @@ after-suited sc d m a e h = by-active sc d m a e ∙ by-test (suits sc.rows (len
     by-test true q = refl
     by-test false q = absurd (true≢false (sym q))
 
--- values that suit are set in the names
-pub suited-sets : {sc : Scenario} {d : State} {a : Active} {vs : List Value} {choice : Choice} → Suited sc d a vs choice → choice.suits ≡ true
-    → (suits sc.rows (length sc.runs) (to_set sc a) vs ≡ true) × Sets sc d a vs choice.names
-suited-sets (is_suited e f g) h = (f, g)
-suited-sets (not_suited e f) h = absurd (true≢false (sym h ∙ e))
+-- one answer is no other
+pub clash : {A : Type 0} {x : A} {o : Answered A} {B : Type 0} → o ≡ Some x → o ≡ None → B
+clash {A} {x} {o} e f = let z : ◌≡◌ {A = ℕ} 0 1 = cc in absurd (omega arith)
 
-module _ (sc : Scenario) (d : State) (bytes : List ℕ) (s : CodeState) where
+-- values that suit are set in the names
+pub suited-sets : {sc : Scenario} {d : State} {a : Active} {vs : List Value} {chosen : Answered (List ℕ)} {names : List ℕ} → Suited sc d a vs chosen → chosen ≡ Some names
+    → (suits sc.rows (length sc.runs) (to_set sc a) vs ≡ true) × Sets sc d a vs names
+suited-sets {sc} {d} {a} {vs} {chosen} {names} (is_suited {names = names'} e f g) h = let same : names' ≡ names = cc in (f, subst (λ (l : List ℕ). Sets sc d a vs l) same g)
+suited-sets (not_suited e f) h = clash h e
+
+module _ (sc : Scenario) (d : State) (bytes : List ℕ) where
   abbrev pub Refuses : Type 0
-  Refuses = StepDone sc d bytes (record { allowed = false; length = 0; state = s })
+  Refuses = StepDone sc d bytes None
 
   pub refuses-short : length bytes < 2 → Refuses
   refuses-short l = no_step refl (ap (step_after sc d) (first_short bytes l))
@@ -109,28 +112,28 @@ module _ (sc : Scenario) (d : State) (bytes : List ℕ) (s : CodeState) where
       pub refuses-inactive : active sc d u ≡ none → Refuses
       refuses-inactive e = no_step refl (not_after (after_none sc d move (ap (active sc d) (sym run) ∙ e)))
 
-      module _ {a : Active} (is_active : active sc d u ≡ some a) (values : List ℕ) (part : values ≡ take (end - 2) (drop 2 bytes)) (choice : Choice) (suited : Suited sc d a (values_in values) choice) where
+      module _ {a : Active} (is_active : active sc d u ≡ some a) (values : List ℕ) (part : values ≡ take (end - 2) (drop 2 bytes)) {chosen : Answered (List ℕ)} (suited : Suited sc d a (values_in values) chosen) where
         same-values : values_in values ≡ move.values
         same-values = let size : end - 2 ≡ 2 * get_or bytes 1 0 = omega arith in ap values_in (part ∙ ap (λ (m : ℕ). take m (drop 2 bytes)) size)
 
         active-here : active sc d move.run ≡ some a
         active-here = ap (active sc d) (sym run) ∙ is_active
 
-        pub refuses-unsuited : choice.suits ≡ false → Refuses
+        pub refuses-unsuited : chosen ≡ None → Refuses
         refuses-unsuited h = go suited
           where
-            go : Suited sc d a (values_in values) choice → Refuses
-            go (is_suited e f g) = absurd (true≢false (sym e ∙ h))
+            go : Suited sc d a (values_in values) chosen → Refuses
+            go (is_suited e f g) = clash e h
             go (not_suited e f) = no_step refl (not_after (after-unsuited sc d move a active-here (ap (suits sc.rows (length sc.runs) (to_set sc a)) (sym same-values) ∙ f)))
 
-        module _ (h : choice.suits ≡ true) where
+        module _ {names : List ℕ} (h : chosen ≡ Some names) where
           is-performed : after sc d move ≡ performed sc d a (values_in values)
           is-performed = after-suited sc d move a active-here (ap (suits sc.rows (length sc.runs) (to_set sc a)) (sym same-values) ∙ (suited-sets suited h).0) ∙ ap (performed sc d a) (sym same-values)
 
           pub step-refused : performed sc d a (values_in values) ≡ none → Refuses
           step-refused e = no_step refl (not_after (is-performed ∙ e))
 
-          pub step-performed : {d' : State} → performed sc d a (values_in values) ≡ some d' → {s' : CodeState} → IsState sc d' s' → StepDone sc d bytes (record { allowed = true; length = end; state = s' })
+          pub step-performed : {d' : State} → performed sc d a (values_in values) ≡ some d' → {s' : CodeState} → IsState sc d' s' → StepDone sc d bytes (Some (record { length = end; state = s' }))
           step-performed e state = is_step refl (is-after (is-performed ∙ e)) state
 
 -- values that suit an event that is no read are none

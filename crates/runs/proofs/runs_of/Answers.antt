@@ -1,4 +1,4 @@
--- `runs::runs_of` meets its contract. The loop's invariant: the runs below k are found, and run k begins at the offset. The measure is how many runs are left. Assumes nothing.
+-- `runs::runs_of` meets its contract. The loop's invariant: the runs below k are found, and run k begins at the offset. Assumes nothing.
 use native.Mathlib.Omega.{arith}
 use mathlib.Core.Path.{ap}
 use Rattle.answers.specs.Answers.{scenario_in}
@@ -12,13 +12,12 @@ use Rattle.runs.proofs.runs_of.Goals as goal
 some-run : (c : In-loop-k) → SomeRun c.args.file.now c.loop-k.start
 some-run c =
     let e = c.requires.is_opened in
-    (scenario_in c.args.file.now, c.loop-k.k, found-run c.args.file.now _ e (c.loop-k.invariant.3 _ e) c.loop-k-test.true)
+    (scenario_in c.args.file.now, c.loop-k.k, found-run c.args.file.now _ e (c.loop-k.invariant.2 _ e) c.loop-k-test.true)
 
 pub loop-k-init : goal.loop-k-init
 loop-k-init c =
     let file = c.args.file.now in
     let p = c.requires in (
-      omega arith,
       omega (arith, few-runs file _ p.is_opened, ap (λ (l : Layout). l.runs.count) p.layout),
       omega (arith, few-roles file _ p.is_opened, ap (λ (l : Layout). l.roles.count) p.layout),
       λ sc e. found_none file sc e (scenario_in file, p.is_opened, p.layout),
@@ -33,9 +32,9 @@ overflow_add-start-in-loop-k c =
 
 pub loop-k-preserved : goal.loop-k-preserved
 loop-k-preserved c =
-    (omega arith, omega arith, omega arith, λ sc e. found-more c.args.file.now sc e (c.loop-k.invariant.3 sc e) c.loop-k-test.true c.events_from-found.ensures)
+    (omega arith, omega arith, λ sc e. found-more c.args.file.now sc e (c.loop-k.invariant.2 sc e) c.loop-k-test.true c.events_from-found.ensures)
 
 pub returns : goal.returns
 returns c =
     let e = c.requires.is_opened in
-    found_all c.args.file.now _ e (c.loop-k.invariant.3 _ e) c.loop-k-test.false
+    found_all c.args.file.now _ e (c.loop-k.invariant.2 _ e) c.loop-k-test.false

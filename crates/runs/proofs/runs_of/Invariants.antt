@@ -1,5 +1,5 @@
--- `runs::runs_of` meets its contract. The loop's invariant: the runs below k are found, and run k begins at the offset. The measure is how many runs are left. Assumes nothing.
-use Prim.Native.Nat.{◌-◌, ◌≤◌}
+-- `runs::runs_of` meets its contract. The loop's invariant: the runs below k are found, and run k begins at the offset. Assumes nothing.
+use Prim.Native.Nat.{◌≤◌}
 use mathlib.Core.Path.{◌≡◌}
 use Rattle.semantics.specs.Answer.{accepted}
 use Rattle.semantics.specs.Scenario.{Scenario, opened}
@@ -8,7 +8,4 @@ use Rattle.runs.proofs.runs_of.Given as goal
 
 abbrev pub invariant-loop-k : goal.invariant-loop-k
 invariant-loop-k l =
-    (l.k ≤ l.count) × (l.count ≤ 4) × (l.roles ≤ 4) × ((sc : Scenario) → opened l.file ≡ accepted sc → FoundTo l.file sc l.count l.roles l.k l.start l.starts l.firsts l.events)
-
-abbrev pub decreases-loop-k : goal.decreases-loop-k
-decreases-loop-k l = l.count - l.k
+    (l.count ≤ 4) × (l.roles ≤ 4) × ((sc : Scenario) → opened l.file ≡ accepted sc → FoundTo l.file sc l.count l.roles l.k l.start l.starts l.firsts l.events)

@@ -1,25 +1,15 @@
--- `runs::trusted_from` meets its contract. The loop's invariant: all agents are trusted exactly if those from agent i on are. The measure is how many agents are left. Assumes nothing.
-use native.Mathlib.Omega.{arith}
-use mathlib.Core.Path.{refl, sym, ◌∙◌}
-use Rattle.runs.specs.laws.Trusted.{pass-bad, pass-more, pass_all}
-use Rattle.runs.proofs.trusted_from.Invariants.{trusted}
+-- `runs::trusted_from` meets its contract: the agents stand behind the record's first byte. Assumes nothing.
+use Rattle.std.proofs.Common.{ℕ, ◌≡◌, ◌+◌, get_or, length, arith, refl, rules, tests, ◌∙◌}
+use Rattle.std.proofs.lemmas.Iterator.{YieldsList-from_range}
+use Rattle.std.proofs.lemmas.Iterator.Search.{all_from_yields_List}
+use Rattle.semantics.specs.Runs.{atom_at, is_trusted}
+use Rattle.rows.specs.Rows.{rows_of}
+use Rattle.runs.specs.laws.Trusted.{every-counted}
 use Rattle.runs.proofs.trusted_from.Goals as goal
 
-pub loop-i-init : goal.loop-i-init
-loop-i-init c = (omega arith, λ agents at. refl)
-
-pub returns-then-not-is_trusted : goal.returns-then-not-is_trusted
-returns-then-not-is_trusted c =
-    pass-bad (trusted c.args.t.now) c.args.file.now c.args.start c.args.roles c.loop-i.i c.loop-i.invariant.1 c.agent_of.ensures.0 c.loop-i-test.true
-    (sym c.if-not-is_trusted.true ∙ c.is_trusted.ensures)
-
-pub loop-i-preserved : goal.loop-i-preserved
-loop-i-preserved c = (
-  omega arith,
-  pass-more (trusted c.args.t.now) c.args.file.now c.args.start c.args.roles c.loop-i.i c.loop-i.invariant.1 c.agent_of.ensures.0 c.loop-i-test.true
-      (sym c.if-not-is_trusted.false ∙ c.is_trusted.ensures),
-)
-
 pub returns : goal.returns
-returns c =
-    pass_all (trusted c.args.t.now) c.args.file.now c.args.start c.args.roles c.loop-i.i c.loop-i.invariant.1 c.loop-i-test.false
+returns c agents at =
+    let agent = λ (i : ℕ). get_or c.args.file.now (c.args.start + 1 + i) 0 in
+    let trusted = λ (a : ℕ). is_trusted (atom_at (rows_of c.args.t.now) a) in
+    all_from_yields_List (λ i. trusted (agent i)) _ _ _ c.all.ensures.ran (YieldsList-from_range 0 c.args.roles (length agents) refl (omega (arith, at.count))) (λ x b q k. search (rules, tests))
+    ∙ every-counted trusted agent agents 0 (λ i j l e. let same : j ≡ i = omega arith in rw same (at.each i (omega (arith, at.count))))

@@ -1,7 +1,8 @@
 -- Whether the agents of a run are all trusted. Assumes nothing.
-use Rattle.std.specs.Prelude.{ℕ, zero, suc, ◌+◌, ◌<◌, ◌≤◌, ◌≡◌, Bool, true, false, ◌&&◌, List, [], ◌∷◌, length, get_or, drop}
-use Rattle.std.proofs.Common.{arith, add-one, sym, ap, ◌∙◌, drop_of_length-le}
-use Rattle.std.proofs.Math.Option.{some, none-ne-some, some-injective}
+use Rattle.std.specs.Prelude.{ℕ, suc, ◌+◌, ◌<◌, ◌≡◌, refl, Bool, List, [], ◌∷◌, length, get_or}
+use Rattle.std.specs.List.{list_all, range_with_len}
+use Rattle.std.proofs.Common.{arith, sym, ◌∙◌}
+use Rattle.std.proofs.Math.Option.{some, some-injective}
 use Rattle.std.proofs.Math.ListN.{get_elem?}
 use Rattle.semantics.specs.Basic.{every}
 use Rattle.semantics.specs.Runs.{Run, atom_at, is_trusted, all_trusted}
@@ -12,29 +13,12 @@ use Rattle.rows.specs.Rows.{rows_of}
 use Rattle.runs.specs.Runs.{RunsAt, AgentsAt}
 use Rattle.runs.specs.declared.Runs.{Runs}
 
--- a test of all elements from one on is that of the element and of those behind it
-every-from : {A : Type 0} (p : A → Bool) (xs : List A) (i : ℕ) {x : A} → get_elem? xs i ≡ some x → every p (drop i xs) ≡ (p x && every p (drop (suc i) xs))
-every-from p [] i {x} e = absurd (none-ne-some x e)
-every-from p (y ∷ xs) zero {x} e = rw (some-injective y x e)
-every-from p (y ∷ xs) (suc i) {x} e = every-from p xs i e
-
-module _ (p : ℕ → Bool) (file : List ℕ) (start roles i : ℕ) where
-  -- all agents pass a test exactly if those from one on do
-  abbrev pub PassFrom : Type 0
-  PassFrom = (agents : List ℕ) → AgentsAt file start roles agents → every p agents ≡ every p (drop i agents)
-
-module _ (p : ℕ → Bool) (file : List ℕ) (start roles i : ℕ) (from : PassFrom p file start roles i) {a : ℕ} (is_agent : a ≡ get_or file (start + 1 + i) 0) where
-  -- one that fails decides
-  pub pass-bad : i < roles → false ≡ p a → (agents : List ℕ) → AgentsAt file start roles agents → false ≡ every p agents
-  pass-bad l e agents at = sym (from agents at ∙ every-from p agents i (at.each i l ∙ ap some (sym is_agent)) ∙ rw (sym e))
-
-  -- one that passes is passed
-  pub pass-more : i < roles → true ≡ p a → PassFrom p file start roles (i + 1)
-  pass-more l e agents at = rw (add-one i) (from agents at ∙ every-from p agents i (at.each i l ∙ ap some (sym is_agent)) ∙ rw (sym e))
-
--- with all passed all pass
-pub pass_all : (p : ℕ → Bool) (file : List ℕ) (start roles i : ℕ) → PassFrom p file start roles i → roles ≤ i → (agents : List ℕ) → AgentsAt file start roles agents → true ≡ every p agents
-pass_all p file start roles i from l agents at = sym (from agents at ∙ rw (drop_of_length-le agents {i = i} (omega (arith, at.count))))
+-- a test of the numbers counted is that of the elements that stand there
+pub every-counted : (p : ℕ → Bool) (f : ℕ → ℕ) (xs : List ℕ) (s : ℕ) → ((i j : ℕ) → i < length xs → j ≡ s + i → get_elem? xs i ≡ some (f j)) → list_all (λ i. p (f i)) (range_with_len s (length xs)) ≡ every p xs
+every-counted p f [] s h = refl
+every-counted p f (x ∷ xs) s h =
+    let here : f s ≡ x = sym (some-injective x (f s) (h 0 s (omega arith) (omega arith))) in
+    rw (here, every-counted p f xs (s + 1) (λ i j l e. h (suc i) j (omega arith) (omega arith))) refl
 
 module _ (file : List ℕ) (r : Runs) (k : ℕ) where
   -- the agents of run k

@@ -14,9 +14,9 @@ pub loop-i-preserved : goal.loop-i-preserved
 loop-i-preserved c =
     let low = c.loop-i-test.true in
     let name : get_or c.args.names.now c.cell.result 0 ≡ name_of c.args.variables.now c.args.names.now c.args.k c.loop-i.i = ap (λ (m : ℕ). get_or c.args.names.now m 0) c.cell.ensures.0 in
-    (omega (arith, low), written-more _ c.loop-i.invariant.1 (omega (arith, low, c.requires.0, c.requires.1.1.0)) name)
+    (written-more _ c.loop-i.invariant (omega (arith, low, c.requires.0, c.requires.1.1.0)) name)
 
 pub returns : goal.returns
 returns c =
-    let end : c.loop-i.i ≡ 8 = omega (arith, c.loop-i.invariant.0, c.loop-i-test.false) in
-    rw end at c.loop-i.invariant.1
+    let end : c.loop-i.i ≡ 8 = omega (arith, c.loop-i-test.false) in
+    rw end at c.loop-i.invariant

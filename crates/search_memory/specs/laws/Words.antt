@@ -1,6 +1,7 @@
 -- Arrays of zeros, numbers that differ, and words written one after the other. Assumes nothing.
-use Rattle.std.specs.Prelude.{ℕ, zero, suc, ◌+◌, ◌<◌, ◌≡◌, refl, List, ◌⊎◌, length, get_or, set, replicate}
-use Rattle.std.proofs.Common.{arith, below_more, ap, ◌∙◌, inl, inr, length-set, get_or-set_same, get_or-set_other}
+use Rattle.std.specs.Prelude.{ℕ, zero, suc, ◌+◌, ◌<◌, ◌≡◌, refl, List, ◌⊎◌, length, get_or, set, take, drop, replicate}
+use Rattle.std.proofs.Common.{arith, below_more, sym, ap, ◌∙◌, inl, inr, length-set, get_or-set_same, get_or-set_other}
+use Rattle.std.proofs.lemmas.List.{get_or-drop, get_or-take}
 use Rattle.std.proofs.Math.Logic.{⊎_map}
 use Rattle.search_memory.specs.Memory.{Written}
 
@@ -29,3 +30,7 @@ written-more {before} {after} {at} {count} {word} v w l e = record {
   below = λ j h. get_or-set_other after (at + count) j v 0 (λ p. omega arith) ∙ w.below j h;
   behind = λ j h. get_or-set_other after (at + count) j v 0 (λ p. omega arith) ∙ w.behind j (omega arith);
 }
+
+-- words that are the same, read in a part of others
+pub part-same : (words part : List ℕ) (at n : ℕ) → take n (drop at words) ≡ part → (j : ℕ) → j < n → get_or words (at + j) 0 ≡ get_or part j 0
+part-same words part at n e j l = sym (get_or-drop at words j 0) ∙ sym (get_or-take n (drop at words) j 0 l) ∙ ap (λ (xs : List ℕ). get_or xs j 0) e

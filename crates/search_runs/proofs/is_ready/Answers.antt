@@ -1,17 +1,10 @@
 -- `is_ready` tells whether a run's next event is a send or claim, by its kind. Assumes nothing.
-use native.Mathlib.Omega.{arith}
-use Rattle.search_runs.specs.laws.Runs.{ready-ended, ready_read, ready-other}
+use Rattle.std.proofs.lemmas.Bool.{le-ltb}
+use Rattle.search_runs.specs.laws.Runs.{ready-ended, ready-told}
 use Rattle.search_runs.proofs.is_ready.Goals as goal
 
-pub returns-then-events-k : goal.returns-then-events-k
-returns-then-events-k c = ready-ended c.requires.1 c.if-events-k.true
+pub returns-then-j-r : goal.returns-then-j-r
+returns-then-j-r c = ready-told c.requires.1 c.if-j-r.true c.event_of.ensures
 
-pub returns-then-event-eq-READ : goal.returns-then-event-eq-READ
-returns-then-event-eq-READ c =
-    let e = c.event_of-event in
-    ready_read c.requires.1 (omega (arith, c.if-events-k.false)) {e = e.result} e.ensures c.if-event-eq-READ.true
-
-pub returns : goal.returns
-returns c =
-    let e = c.event_of-event in
-    ready-other c.requires.1 (omega (arith, c.if-events-k.false)) {e = e.result} e.ensures c.if-event-eq-READ.false
+pub returns-else-j-r : goal.returns-else-j-r
+returns-else-j-r c = rw (le-ltb _ _ c.if-j-r.false) (ready-ended c.requires.1 c.if-j-r.false)

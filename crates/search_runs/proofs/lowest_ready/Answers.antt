@@ -1,19 +1,21 @@
--- `lowest_ready` finds the lowest run whose next event is a send or claim. The loop's invariant: none of the runs passed has such an event. The measure is how many runs are left. Assumes nothing.
-use native.Mathlib.Omega.{arith}
-use Rattle.search_runs.specs.laws.Runs.{none_more, lowest-here, lowest-none}
+-- `lowest_ready` finds the lowest run whose next event is a send or claim. Assumes nothing.
+use Rattle.std.proofs.Common.{ℕ, ◌≤◌, ◌<◌, List, true, false, arith, rules, tests, Option, Some, None, MatchOption}
+use Rattle.std.proofs.lemmas.Iterator.{first_from_Range}
+use Rattle.runs.specs.declared.Runs.{Runs}
+use Rattle.search_runs.specs.Runs.{TellsReady, NoneReady, LowestReady}
+use Rattle.search_runs.specs.laws.Runs.{UnreadyTo, lowest-here, lowest-none}
 use Rattle.search_runs.proofs.lowest_ready.Goals as goal
 
-pub loop-k-init : goal.loop-k-init
-loop-k-init c = (omega arith, λ i l. absurd (omega arith))
-
-pub is_ready-requires : goal.is_ready-requires
-is_ready-requires c = (c.requires, c.loop-k-test.true)
-
-pub returns-then-is_ready : goal.returns-then-is_ready
-returns-then-is_ready c = lowest-here c.loop-k.invariant.1 c.loop-k-test.true (rw c.if-is_ready.true at c.is_ready.ensures)
-
-pub loop-k-preserved : goal.loop-k-preserved
-loop-k-preserved c = (omega (arith, c.loop-k-test.true), none_more c.loop-k.invariant.1 (rw c.if-is_ready.false at c.is_ready.ensures))
+-- what is found among all runs
+lowest : (file : List ℕ) (r : Runs) (done : List ℕ) (o : Option ℕ)
+    → MatchOption o (UnreadyTo file r done r.count) (λ k. (0 ≤ k) × (k < r.count) × TellsReady file r done k true × UnreadyTo file r done k)
+    → MatchOption o (NoneReady file r done) (LowestReady file r done)
+lowest file r done None unready = lowest-none unready (omega arith)
+lowest file r done (Some k) found = lowest-here found.3 found.1 found.2
 
 pub returns : goal.returns
-returns c = lowest-none c.loop-k.invariant.1 (omega (arith, c.loop-k-test.false))
+returns c =
+    let file = c.args.file.now in
+    lowest file c.args.r c.args.done c.find.result
+    (first_from_Range _ _ _ c.find.result (λ k. TellsReady file c.args.r c.args.done k true) (λ k. TellsReady file c.args.r c.args.done k false) c.find.ensures.ran
+    (λ x q k. search (rules, tests)) (λ x q k. (search (rules, tests), search (rules, tests))))

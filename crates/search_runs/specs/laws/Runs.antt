@@ -1,9 +1,9 @@
 -- Which runs send or claim next, and the runs that a list goes on with. Assumes nothing.
-use Rattle.std.specs.Prelude.{ℕ, zero, suc, ◌+◌, ◌-◌, ◌<◌, ◌≤◌, ◌≡◌, Bool, true, false, length}
+use Rattle.std.specs.Prelude.{ℕ, zero, suc, ◌+◌, ◌-◌, ◌<◌, ◌≤◌, ◌≡◌, Bool, true, false, not, eqb, length}
 use native.Mathlib.Omega.{arith}
-use Rattle.std.proofs.Math.Decide.{ℕ_discrete}
 use Rattle.std.proofs.Math.Path.{refl, ap}
-use Rattle.std.proofs.Common.{◌∙◌}
+use Rattle.std.proofs.Common.{◌∙◌, eqb-true}
+use Rattle.std.proofs.lemmas.Bool.{eqb-false}
 use mathlib.Core.List.{List}
 use Rattle.std.proofs.Math.Option.{Option, none, some, none-ne-some}
 use Rattle.std.proofs.Math.ListN.{get_or, get_elem?}
@@ -18,7 +18,7 @@ use Rattle.runs.specs.declared.RunEvent.{RunEvent}
 use Rattle.runs.specs.Runs.{ReadsEvent}
 use Rattle.state.specs.laws.Active.{run-ended, run-coming}
 use Rattle.search_runs.specs.declared.Listing.TheVariants.{Full, Short}
-use Rattle.search_runs.specs.Runs.{Standing, TellsReady, LowestReady, GoesOn}
+use Rattle.search_runs.specs.Runs.{Standing, TellsReady, NoneReady, LowestReady, GoesOn}
 
 -- an event by its kind byte: a read is byte 1, and nothing else is
 byte_one : (b : ℕ) (kind : EventKind) → get_elem? event_kinds b ≡ some kind → b ≡ 1 → send_or_claim kind ≡ false
@@ -33,6 +33,10 @@ byte-other (suc zero) read h n = absurd (n refl)
 byte-other (suc (suc zero)) read h n = cc
 byte-other (suc (suc (suc b))) read h n = absurd (none-ne-some read h)
 byte-other b (claim k) h n = refl
+
+byte_told : (b : ℕ) (kind : EventKind) → get_elem? event_kinds b ≡ some kind → (c : Bool) → eqb b 1 ≡ c → send_or_claim kind ≡ not c
+byte_told b kind h true q = byte_one b kind h (eqb-true b 1 q)
+byte_told b kind h false q = byte-other b kind h (eqb-false b 1 q)
 
 module _ {file : List ℕ} {r : Runs} {done : List ℕ} {k : ℕ} (low : k < r.count) where
   -- a run that has made all its events
@@ -51,39 +55,29 @@ module _ {file : List ℕ} {r : Runs} {done : List ℕ} {k : ℕ} (low : k < r.c
         let seen = reads sc w.0.run w.0.event at.given.runs at.given.good w.1.of_run there in
         rw (w.1.is_active, kinds w.0.event.kind seen.kind) refl
 
-    pub ready_read : e.kind ≡ 1 → TellsReady file r done k false
-    ready_read one = by_kind false (λ kind h. byte_one e.kind kind h one)
-
-    pub ready-other : (e.kind ≡ 1 → ⊥) → TellsReady file r done k true
-    ready-other other = by_kind true (λ kind h. byte-other e.kind kind h other)
+    pub ready-told : TellsReady file r done k (not (eqb e.kind 1))
+    ready-told = by_kind (not (eqb e.kind 1)) (λ kind h. byte_told e.kind kind h (eqb e.kind 1) refl)
 
 -- none of the first k runs sends or claims next
-abbrev pub NoneReady : List ℕ → Runs → List ℕ → ℕ → Type 0
-NoneReady file r done k = (i : ℕ) → i < k → TellsReady file r done i false
+abbrev pub UnreadyTo : List ℕ → Runs → List ℕ → ℕ → Type 0
+UnreadyTo file r done k = (i : ℕ) → 0 ≤ i → i < k → TellsReady file r done i false
 
-module _ {file : List ℕ} {r : Runs} {done : List ℕ} {k : ℕ} (before : NoneReady file r done k) where
-  -- one more
-  pub none_more : TellsReady file r done k false → NoneReady file r done (k + 1)
-  none_more here i l = elim (ℕ_discrete i k) [ yes e ↦ rw e here | no n ↦ before i (omega arith) ]
-
+module _ {file : List ℕ} {r : Runs} {done : List ℕ} {k : ℕ} (before : UnreadyTo file r done k) where
   -- none of the numbers from 1 up to k is ready
   below_none : (sc : Scenario) (d : State) → Standing file r done sc d → (u : ℕ) → 1 ≤ u → u < suc k → ready_at sc d u ≡ none
   below_none sc d at zero l h = absurd (omega arith)
-  below_none sc d at (suc i) l h = before i (omega arith) sc d at
+  below_none sc d at (suc i) l h = before i (omega arith) (omega arith) sc d at
 
   -- the next is the lowest
   pub lowest-here : k < r.count → TellsReady file r done k true → LowestReady file r done k
   lowest-here low here = record {
-    ready = λ l sc d at. first_found (ready_at sc d) 1 (length sc.runs) (suc k) (omega arith) (omega (arith, at.given.runs.count)) (below_none sc d at) (here sc d at);
-    unready = λ l. absurd (omega arith);
+    below = low;
+    ready = λ sc d at. first_found (ready_at sc d) 1 (length sc.runs) (suc k) (omega arith) (omega (arith, at.given.runs.count)) (below_none sc d at) (here sc d at);
   }
 
   -- and with all passed there is none
-  pub lowest-none : r.count ≤ k → LowestReady file r done k
-  lowest-none all = record {
-    ready = λ l. absurd (omega arith);
-    unready = λ l sc d at. first-none (ready_at sc d) 1 (length sc.runs) (λ u f h. below_none sc d at u f (omega (arith, at.given.runs.count)));
-  }
+  pub lowest-none : r.count ≤ k → NoneReady file r done
+  lowest-none all sc d at = first-none (ready_at sc d) 1 (length sc.runs) (λ u f h. below_none sc d at u f (omega (arith, at.given.runs.count)))
 
 module _ {file : List ℕ} {r : Runs} {done : List ℕ} where
   all-runs : (sc : Scenario) (d : State) → Standing file r done sc d → run_numbers sc ≡ numbers_from 1 (r.count - 0)
@@ -95,14 +89,14 @@ module _ {file : List ℕ} {r : Runs} {done : List ℕ} where
   goes-full = record { within = omega arith; runs = all-runs }
 
   -- and so does the short one where none sends or claims
-  pub goes-all : {k : ℕ} → LowestReady file r done k → r.count ≤ k → GoesOn file r done Short (record { from = 0; end = r.count })
+  pub goes-all : NoneReady file r done → GoesOn file r done Short (record { from = 0; end = r.count })
   unfolding runs_in
-  goes-all lowest l = record { within = omega arith; runs = λ sc d at. ap (λ (o : Option ℕ). alone_or o (run_numbers sc)) (lowest.unready l sc d at) ∙ all-runs sc d at }
+  goes-all unready = record { within = omega arith; runs = λ sc d at. ap (λ (o : Option ℕ). alone_or o (run_numbers sc)) (unready sc d at) ∙ all-runs sc d at }
 
   -- else with the lowest that does
-  pub goes_one : {k : ℕ} → LowestReady file r done k → k < r.count → GoesOn file r done Short (record { from = k; end = k + 1 })
+  pub goes_one : {k : ℕ} → LowestReady file r done k → GoesOn file r done Short (record { from = k; end = k + 1 })
   unfolding runs_in
-  goes_one {k} lowest l = record {
-    within = omega arith;
-    runs = λ sc d at. let one : 1 ≡ k + 1 - k = omega arith in ap (λ (o : Option ℕ). alone_or o (run_numbers sc)) (lowest.ready l sc d at) ∙ ap (numbers_from (suc k)) one;
+  goes_one {k} lowest = record {
+    within = omega (arith, lowest.below);
+    runs = λ sc d at. let one : 1 ≡ k + 1 - k = omega arith in ap (λ (o : Option ℕ). alone_or o (run_numbers sc)) (lowest.ready sc d at) ∙ ap (numbers_from (suc k)) one;
   }

@@ -66,12 +66,6 @@ walk-returns-then-not-is_clean t c = record {
   remembers = c.walk_run-found.ensures.remembers;
 }
 
-pub walk-overflow_add-k : goal.walk-overflow_add-k
-walk-overflow_add-k t c = omega (arith, c.loop-k-test.true, c.loop-k.invariant.2, c.requires.some_state.here.reached.given.runs.few)
-
-pub walk-loop-k-smaller : goal.walk-loop-k-smaller
-walk-loop-k-smaller t c = omega (arith, c.loop-k-test.true)
-
 pub walk-loop-k-preserved : goal.walk-loop-k-preserved
 walk-loop-k-preserved t c =
     let l = c.loop-k in
@@ -107,14 +101,14 @@ walk_after-key_of-key-requires t c =
     let m = c.requires.some_step.of in
     (m.chosen.ready.sets.size, (c.requires.room.remembers.rows.low, ((λ j l. omega (arith, of-move.next_low m c.advance-next.ensures j l)), c.requires.room.moves)))
 
-pub walk_after-look_up-known-requires : goal.walk_after-look_up-known-requires
-walk_after-look_up-known-requires t c = c.requires.room.remembers.size
+pub walk_after-look_up-requires : goal.walk_after-look_up-requires
+walk_after-look_up-requires t c = c.requires.room.remembers.size
 
-pub walk_after-returns-then-known-gt0 : goal.walk_after-returns-then-known-gt0
-walk_after-returns-then-known-gt0 t c =
+pub walk_after-returns-in-Some : goal.walk_after-returns-in-Some
+walk_after-returns-in-Some t c =
     let many : length c.args.course.done ≡ 4 = search (rules, c.well_formed) in
     record {
-      finds_step = λ m. known.known-finds c.args.reach m many c.advance-next.ensures c.requires.room.remembers c.key_of-key.ensures c.look_up-known.ensures c.if-known-gt0.true c.known.ensures c.args.trace.now;
+      finds_step = λ m. known.known-finds c.args.reach m many c.advance-next.ensures c.requires.room.remembers c.key_of-key.ensures c.in-Some.ensures.1 c.in-Some.ensures.0 c.known.ensures c.args.trace.now;
       remembers = c.requires.room.remembers;
     }
 
@@ -256,21 +250,21 @@ walk_values-returns-then-not-may_be_read t c = record {
   remembers = c.requires.room.remembers;
 }
 
-pub walk_values-loop-y-init : goal.walk_values-loop-y-init
-walk_values-loop-y-init t c = (refl, omega arith, omega arith, (λ m unset more. of_values.tried-none unset c.args.reach m more), c.requires.room.remembers)
+pub walk_values-loop-value-init : goal.walk_values-loop-value-init
+walk_values-loop-value-init t c = (refl, omega arith, omega arith, (λ m unset more. of_values.tried-none unset c.args.reach m more), c.requires.room.remembers)
 
-pub walk_values-next_value-next-requires : goal.walk_values-next_value-next-requires
-walk_values-next_value-next-requires t c =
+pub walk_values-next_value-requires : goal.walk_values-next_value-requires
+walk_values-next_value-requires t c =
     let m = c.requires.some_choice in
-    (m.read.move.clear.here.reached.given.shape, (of_values.row_low c.next_unset-x.ensures c.args.reach m c.if-x-plan.false, c.loop-y.invariant.2))
+    (m.read.move.clear.here.reached.given.shape, (of_values.row_low c.next_unset-x.ensures c.args.reach m c.if-x-plan.false, c.loop-value.invariant.2))
 
-pub walk_values-returns-in-None : goal.walk_values-returns-in-None
-walk_values-returns-in-None t c = record {
-  finds_choice = λ m. let l = c.loop-y in
+pub walk_values-returns : goal.walk_values-returns
+walk_values-returns t c = record {
+  finds_choice = λ m. let l = c.loop-value in
       let unset = c.next_unset-x.ensures in
       let more = c.if-x-plan.false in
-      rw (← l.invariant.0) (of_values.tried-end unset c.args.reach m more c.next_value-next.ensures c.in-None.is (l.invariant.3 m unset more) l.trace);
-  remembers = c.loop-y.invariant.4;
+      rw (← l.invariant.0) (of_values.tried-end unset c.args.reach m more c.next_value.ensures c.in_default.is (l.invariant.3 m unset more) l.trace);
+  remembers = c.loop-value.invariant.4;
 }
 
 pub walk_values-overflow_add-choice : goal.walk_values-overflow_add-choice
@@ -281,7 +275,7 @@ walk_values-tried-more_marks-requires t c =
     let m = c.requires.some_choice in
     let unset = c.next_unset-x.ensures in
     let more = c.if-x-plan.false in
-    let low = of_values.value-within unset c.args.reach m more c.next_value-next.ensures c.in-Value.is in
+    let low = of_values.value-within unset c.args.reach m more c.next_value.ensures c.in-Some.is in
     let shape = m.read.move.clear.here.reached.given.shape in
     record {
       shape = (shape, (omega (arith, m.read.move.due.is_run), (omega (arith, of_values.row_low unset c.args.reach m more, shape.few), (omega (arith, low.0, shape.few), low.1))));
@@ -290,14 +284,14 @@ walk_values-tried-more_marks-requires t c =
     }
 
 pub walk_values-overflow_sub-reach : goal.walk_values-overflow_sub-reach
-walk_values-overflow_sub-reach t c = omega (arith, c.loop-y.invariant.1)
+walk_values-overflow_sub-reach t c = omega (arith, c.loop-value.invariant.1)
 
 pub walk_values-with_value-requires : goal.walk_values-with_value-requires
 walk_values-with_value-requires t c =
     let m = c.requires.some_choice in
     let unset = c.next_unset-x.ensures in
     let more = c.if-x-plan.false in
-    let low = of_values.value-within unset c.args.reach m more c.next_value-next.ensures c.in-Value.is in
+    let low = of_values.value-within unset c.args.reach m more c.next_value.ensures c.in-Some.is in
     (of_values.few-chosen unset c.args.reach m more, (omega (arith, low.0, m.read.move.clear.here.reached.given.shape.few), omega (arith, low.1)))
 
 pub walk_values-overflow_add-x : goal.walk_values-overflow_add-x
@@ -308,59 +302,59 @@ walk_values-overflow_add-x t c =
 pub walk_values-walk_values-found-requires : goal.walk_values-walk_values-found-requires
 walk_values-walk_values-found-requires t c =
     let m = c.requires.some_choice in
-    let l = c.loop-y in
+    let l = c.loop-value in
     let unset = c.next_unset-x.ensures in
     let more = c.if-x-plan.false in (
       omega (arith, of_values.row_low unset c.args.reach m more, of_values.row_from unset c.args.reach m more),
-      (of_values.grown unset c.args.reach m more c.next_value-next.ensures c.in-Value.is (l.invariant.3 m unset more) c.tried-more_marks.result c.tried-more_marks.ensures.names_after c.tried-more_marks.ensures.refilled c.tried-more_marks.ensures.settled c.with_value.ensures, room-on c.requires.room l.invariant.0 l.invariant.4 _ (omega arith) (omega arith)),
+      (of_values.grown unset c.args.reach m more c.next_value.ensures c.in-Some.is (l.invariant.3 m unset more) c.tried-more_marks.result c.tried-more_marks.ensures.names_after c.tried-more_marks.ensures.refilled c.tried-more_marks.ensures.settled c.with_value.ensures, room-on c.requires.room l.invariant.0 l.invariant.4 _ (omega arith) (omega arith)),
     )
 
 pub walk_values-behind-total-requires : goal.walk_values-behind-total-requires
 walk_values-behind-total-requires t c =
     let m = c.requires.some_choice in
-    let l = c.loop-y in
+    let l = c.loop-value in
     let unset = c.next_unset-x.ensures in
     let more = c.if-x-plan.false in
-    let size = of_values.tried-size unset c.args.reach m more c.next_value-next.ensures c.in-Value.is (l.invariant.3 m unset more) c.tried-more_marks.result c.tried-more_marks.ensures.names_after c.tried-more_marks.ensures.refilled c.tried-more_marks.ensures.settled c.with_value.ensures c.walk_values-found.ensures.finds_choice refl in
+    let size = of_values.tried-size unset c.args.reach m more c.next_value.ensures c.in-Some.is (l.invariant.3 m unset more) c.tried-more_marks.result c.tried-more_marks.ensures.names_after c.tried-more_marks.ensures.refilled c.tried-more_marks.ensures.settled c.with_value.ensures c.walk_values-found.ensures.finds_choice refl in
     (omega (arith, l.invariant.1, c.requires.room.budget), omega (arith, size, c.requires.room.budget))
 
 pub walk_values-returns-then-not-is_clean : goal.walk_values-returns-then-not-is_clean
 walk_values-returns-then-not-is_clean t c = record {
-  finds_choice = λ m. let l = c.loop-y in
+  finds_choice = λ m. let l = c.loop-value in
       let unset = c.next_unset-x.ensures in
       let more = c.if-x-plan.false in
-      rw (← l.invariant.0) (of_values.tried-stops unset c.args.reach m more c.next_value-next.ensures c.in-Value.is (l.invariant.3 m unset more) c.tried-more_marks.result c.tried-more_marks.ensures.names_after c.tried-more_marks.ensures.refilled c.tried-more_marks.ensures.settled c.with_value.ensures c.walk_values-found.ensures.finds_choice c.behind-total.ensures (sym c.is_clean.ensures ∙ c.if-not-is_clean.true));
+      rw (← l.invariant.0) (of_values.tried-stops unset c.args.reach m more c.next_value.ensures c.in-Some.is (l.invariant.3 m unset more) c.tried-more_marks.result c.tried-more_marks.ensures.names_after c.tried-more_marks.ensures.refilled c.tried-more_marks.ensures.settled c.with_value.ensures c.walk_values-found.ensures.finds_choice c.behind-total.ensures (sym c.is_clean.ensures ∙ c.if-not-is_clean.true));
   remembers = c.walk_values-found.ensures.remembers;
 }
 
 pub walk_values-overflow_add-run : goal.walk_values-overflow_add-run
 walk_values-overflow_add-run t c =
-    record { fits = omega (arith, (of_values.value-within c.next_unset-x.ensures c.args.reach c.requires.some_choice c.if-x-plan.false c.next_value-next.ensures c.in-Value.is).1) }
+    record { fits = omega (arith, (of_values.value-within c.next_unset-x.ensures c.args.reach c.requires.some_choice c.if-x-plan.false c.next_value.ensures c.in-Some.is).1) }
 
-pub walk_values-loop-y-smaller : goal.walk_values-loop-y-smaller
-walk_values-loop-y-smaller t c =
+pub walk_values-loop-value-smaller : goal.walk_values-loop-value-smaller
+walk_values-loop-value-smaller t c =
     let m = c.requires.some_choice in
     let unset = c.next_unset-x.ensures in
     let more = c.if-x-plan.false in
-    let low = of_values.value-within unset c.args.reach m more c.next_value-next.ensures c.in-Value.is in
-    value-falls c.args.plan.rows _ _ _ _ (of_values.value-later unset c.args.reach m more c.next_value-next.ensures c.in-Value.is) low.0 low.1
+    let low = of_values.value-within unset c.args.reach m more c.next_value.ensures c.in-Some.is in
+    value-falls c.args.plan.rows _ _ _ _ (of_values.value-later unset c.args.reach m more c.next_value.ensures c.in-Some.is) low.0 low.1
 
-pub walk_values-loop-y-preserved : goal.walk_values-loop-y-preserved
-walk_values-loop-y-preserved t c =
-    let l = c.loop-y in
+pub walk_values-loop-value-preserved : goal.walk_values-loop-value-preserved
+walk_values-loop-value-preserved t c =
+    let l = c.loop-value in
     let m = c.requires.some_choice in
     let unset = c.next_unset-x.ensures in
     let more = c.if-x-plan.false in
-    let value = c.next_value-next.ensures in
+    let value = c.next_value.ensures in
     let put = c.tried-more_marks.ensures.names_after in
     let refilled = c.tried-more_marks.ensures.refilled in
     let settled = c.tried-more_marks.ensures.settled in
     let told = c.walk_values-found.ensures.finds_choice in
     let clean = sym c.is_clean.ensures ∙ c.if-not-is_clean.false in
-    let first = of_values.tried-on unset c.args.reach m more value c.in-Value.is (l.invariant.3 m unset more) c.tried-more_marks.result put refilled settled c.with_value.ensures told c.behind-total.ensures clean in (
+    let first = of_values.tried-on unset c.args.reach m more value c.in-Some.is (l.invariant.3 m unset more) c.tried-more_marks.result put refilled settled c.with_value.ensures told c.behind-total.ensures clean in (
       first.1 ∙ l.invariant.0,
       omega (arith, first.2, c.count_of-count.ensures),
-      omega (arith, (of_values.value-within unset c.args.reach m more value c.in-Value.is).0),
-      (λ m unset more. rw c.count_of-count.ensures (of_values.tried-on unset c.args.reach m more value c.in-Value.is (l.invariant.3 m unset more) c.tried-more_marks.result put refilled settled c.with_value.ensures told c.behind-total.ensures clean).0),
+      omega (arith, (of_values.value-within unset c.args.reach m more value c.in-Some.is).0),
+      (λ m unset more. rw c.count_of-count.ensures (of_values.tried-on unset c.args.reach m more value c.in-Some.is (l.invariant.3 m unset more) c.tried-more_marks.result put refilled settled c.with_value.ensures told c.behind-total.ensures clean).0),
       c.walk_values-found.ensures.remembers,
     )

@@ -28,18 +28,15 @@ decreases-walk_values l = l.reach.depth * 400 + 3 + 2 * (l.plan.rows - l.choice.
 
 abbrev pub invariant-walk-loop-k : goal.invariant-walk-loop-k
 invariant-walk-loop-k l =
-    (l.trace ≡ l.initial.trace) × (l.count ≤ l.reach.left) × (l.end ≤ l.plan.runs.count) × (0 < l.reach.depth)
-    × ((m : SomeState l.file l.t l.plan (state_of l.course l.names l.classes l.marks) l.reach.at) → (broken m.sc m.d ≡ none) × Passed m.sc l.reach.left (entries_from l.plan l.reach.depth m.sc m.d) (runs_from l.plan m.sc (l.reach.depth - 1) m.d l.end l.k) l.count)
+    (l.trace ≡ l.initial.trace) × (l.count ≤ l.reach.left) × (l.k-end ≤ l.plan.runs.count) × (0 < l.reach.depth)
+    × ((m : SomeState l.file l.t l.plan (state_of l.course l.names l.classes l.marks) l.reach.at) → (broken m.sc m.d ≡ none) × Passed m.sc l.reach.left (entries_from l.plan l.reach.depth m.sc m.d) (runs_from l.plan m.sc (l.reach.depth - 1) m.d l.k-end l.k) l.count)
     × Remembers l.file l.t l.plan l.memory
 
-abbrev pub decreases-walk-loop-k : goal.decreases-walk-loop-k
-decreases-walk-loop-k l = l.end - l.k
-
-abbrev pub invariant-walk_values-loop-y : goal.invariant-walk_values-loop-y
-invariant-walk_values-loop-y l =
+abbrev pub invariant-walk_values-loop-value : goal.invariant-walk_values-loop-value
+invariant-walk_values-loop-value l =
     (l.trace ≡ l.initial.trace) × (l.count ≤ l.reach.left) × (l.row ≤ l.plan.rows)
     × ((m : SomeChoice l.file l.t l.plan l.course l.own l.names l.classes l.marks l.reach.at l.choice) (unset : of_values.NextFor l.t l.own l.choice l.x) (more : l.x ≡ l.plan.rows → ⊥) → of_values.Tried unset l.reach m more l.row l.run l.count)
     × Remembers l.file l.t l.plan l.memory
 
-abbrev pub decreases-walk_values-loop-y : goal.decreases-walk_values-loop-y
-decreases-walk_values-loop-y l = (l.plan.rows - l.row) * 6 + (6 - l.run)
+abbrev pub decreases-walk_values-loop-value : goal.decreases-walk_values-loop-value
+decreases-walk_values-loop-value l = (l.plan.rows - l.row) * 6 + (6 - l.run)

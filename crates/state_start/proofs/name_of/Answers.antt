@@ -1,4 +1,5 @@
 -- `name_of` gives an atom's row its name. Assumes nothing.
+use Rattle.std.proofs.Common.{rules, tests, ◌∙◌}
 use Rattle.state_start.specs.laws.Names.{name-itself, name-without-run, name-agent, name-no-agent, name-local, name-none}
 use Rattle.state_start.proofs.name_of.Goals as goal
 
@@ -10,15 +11,16 @@ pub returns-then-u-eq0 : goal.returns-then-u-eq0
 returns-then-u-eq0 c =
     name-without-run c.args.t.now c.args.n c.requires.0 c.args.r c.requires.1.0 c.args.u c.args.agents.now c.kind_of-kind.ensures.0 c.if-kind-lt-ROLE.false c.if-u-eq0.true
 
-pub returns-then-i-agents : goal.returns-then-i-agents
-returns-then-i-agents c =
+pub returns-in-Some : goal.returns-in-Some
+returns-in-Some c =
     let kind = c.kind_of-kind.ensures.0 in
-    let left = c.left_of-i.ensures.0 in
-    name-agent c.args.t.now c.args.n c.requires.0 c.args.r c.requires.1.0 c.args.u c.args.agents.now c.if-u-eq0.false c.requires.1.1.1 kind c.if-kind-eq-ROLE.true left c.if-i-agents.true c.wide.ensures.0
+    let left = c.left_of.ensures.0 in
+    let h = c.in-Some.ensures.lookup in
+    name-agent c.args.t.now c.args.n c.requires.0 c.args.r c.requires.1.0 c.args.u c.args.agents.now c.if-u-eq0.false c.requires.1.1.1 kind c.if-kind-eq-ROLE.true left h.3.0 (c.from.ensures ∙ h.3.1 0)
 
-pub returns-then-kind-eq-ROLE : goal.returns-then-kind-eq-ROLE
-returns-then-kind-eq-ROLE c =
-    name-no-agent c.args.t.now c.args.n c.requires.0 c.args.r c.requires.1.0 c.args.u c.args.agents.now c.if-u-eq0.false c.kind_of-kind.ensures.0 c.if-kind-eq-ROLE.true c.left_of-i.ensures.0 c.if-i-agents.false
+pub returns-in-None : goal.returns-in-None
+returns-in-None c =
+    name-no-agent c.args.t.now c.args.n c.requires.0 c.args.r c.requires.1.0 c.args.u c.args.agents.now c.if-u-eq0.false c.kind_of-kind.ensures.0 c.if-kind-eq-ROLE.true c.left_of.ensures.0 (search (rules, tests))
 
 pub returns-then-kind-eq-LOCAL : goal.returns-then-kind-eq-LOCAL
 returns-then-kind-eq-LOCAL c =

@@ -4,23 +4,23 @@ use Rattle.role_level.specs.laws.Loops.{at_mem}
 use Rattle.state_start.specs.laws.Start.{listed_more, listed-all}
 use Rattle.state_start.proofs.start_marks.Goals as goal
 
-pub loop-i-init : goal.loop-i-init
-loop-i-init c = (omega arith, c.intruder_marks-marks.ensures)
+pub loop-r-init : goal.loop-r-init
+loop-r-init c = c.intruder_marks-marks.ensures
 
-pub bounds-marks-wide : goal.bounds-marks-wide
-bounds-marks-wide c =
-    let l = c.requires.1 _ (at_mem c.args.list.now c.loop-i.i c.loop-i-test.true) in
+pub bounds-marks-from : goal.bounds-marks-from
+bounds-marks-from c =
+    let l = c.requires.1 _ (at_mem c.args.list.now c.loop-r.r-index c.loop-r-test.true) in
     let few = c.requires.0.few in
-    let size = c.loop-i.invariant.1.size in
-    omega (arith, l, c.wide.ensures.0, few, size)
+    let size = c.loop-r.invariant.size in
+    omega (arith, l, c.from.ensures, few, size)
 
-pub loop-i-preserved : goal.loop-i-preserved
-loop-i-preserved c =
-    let i = c.loop-i.i in
-    let low = c.loop-i-test.true in
+pub loop-r-preserved : goal.loop-r-preserved
+loop-r-preserved c =
+    let i = c.loop-r.r-index in
+    let low = c.loop-r-test.true in
     let l = c.requires.1 _ (at_mem c.args.list.now i low) in
-    (omega arith, listed_more c.args.t.now c.args.n c.args.list.now i c.loop-i.marks c.wide.ensures.0 low (omega (arith, l, c.wide.ensures.0)) c.requires.0.few c.loop-i.invariant.1)
+    listed_more c.args.t.now c.args.n c.args.list.now i c.loop-r.marks c.from.ensures low (omega (arith, l, c.from.ensures)) c.requires.0.few c.loop-r.invariant
 
 pub returns : goal.returns
 returns c =
-    listed-all c.args.t.now c.args.n c.args.list.now c.loop-i.i c.loop-i.marks c.loop-i-test.false c.loop-i.invariant.1
+    listed-all c.args.t.now c.args.n c.args.list.now c.loop-r.r-index c.loop-r.marks c.loop-r-test.false c.loop-r.invariant

@@ -9,31 +9,31 @@ use Rattle.state.specs.laws.Start.{Begun, given-none, given-agents, given-more, 
 use Rattle.state.proofs.State.initial.Goals as goal
 
 pub loop-u-init : goal.loop-u-init
-loop-u-init c = (omega arith, refl, λ sc given. given-none given)
+loop-u-init c = (refl, λ sc given. given-none given)
 
 pub agents_of-agents-requires : goal.agents_of-agents-requires
 agents_of-agents-requires c =
     let given = c.requires.1.0 in
-    (c.requires.0, (given.runs, (c.loop-u-test.true, given.size)))
+    (c.requires.0, (given.runs, (omega arith, given.size)))
 
-pub entered-more-requires : goal.entered-more-requires
-entered-more-requires c =
+pub entered-names-requires : goal.entered-names-requires
+entered-names-requires c =
     let given = c.requires.1.0 in
     (shape-sized given.shape, (omega (arith, given.runs.few, c.loop-u-test.true), given-agents given (c.agents_of-agents.ensures c.requires.0 given.runs given.good)))
 
 pub refill-requires : goal.refill-requires
 refill-requires c =
     let given = c.requires.1.0 in
-    (given.shape, (c.loop-u.invariant.1, (c.entered-more.ensures.size, c.loop-u-test.true)))
+    (given.shape, (c.loop-u.invariant.0, (c.entered-names.ensures.size, omega arith)))
 
 pub loop-u-preserved : goal.loop-u-preserved
 loop-u-preserved c =
     let agents = c.agents_of-agents in
-    let entered = c.entered-more in
+    let entered = c.entered-names in
     let refill = c.refill in
     let begun : (sc : Scenario) (given : Given c.args.file.now c.args.t.now c.args.n c.args.r sc) → Begun given (c.loop-u.u + 1) entered.result refill.new.classes = λ sc given.
-    given-more given c.loop-u.u _ c.loop-u.names entered.result c.loop-u.classes refill.new.classes (c.loop-u.invariant.2 sc given) entered.ensures (agents.ensures sc given.runs given.good) refill.ensures in
-    (omega (arith, c.loop-u-test.true), (begun c.requires.0 c.requires.1.0).classed.size, begun)
+    given-more given c.loop-u.u _ c.loop-u.names entered.result c.loop-u.classes refill.new.classes (c.loop-u.invariant.1 sc given) entered.ensures (agents.ensures sc given.runs given.good) refill.ensures in
+    ((begun c.requires.0 c.requires.1.0).classed.size, begun)
 
 pub start_marks-requires : goal.start_marks-requires
 start_marks-requires c =
@@ -41,8 +41,8 @@ start_marks-requires c =
     (shape-sized given.shape, given-listed given _ c.requires.1.1)
 
 pub settle-marks-requires : goal.settle-marks-requires
-settle-marks-requires c = (c.requires.1.0.shape, c.loop-u.invariant.1)
+settle-marks-requires c = (c.requires.1.0.shape, c.loop-u.invariant.0)
 
 pub returns : goal.returns
 returns c sc given e =
-    given-start given _ e c.loop-u.names c.loop-u.classes c.start_marks.result c.settle-marks.result c.loop-u-test.false (c.loop-u.invariant.2 sc given) c.start_marks.ensures c.settle-marks.ensures
+    given-start given _ e c.loop-u.names c.loop-u.classes c.start_marks.result c.settle-marks.result (omega arith) (c.loop-u.invariant.1 sc given) c.start_marks.ensures c.settle-marks.ensures

@@ -1,5 +1,4 @@
 -- `State::initial` is the state before any move. Assumes nothing.
-use Prim.Native.Nat.{◌+◌, ◌-◌, ◌≤◌}
 use mathlib.Core.Path.{◌≡◌}
 use lib.ListN.{length}
 use Rattle.semantics.specs.Scenario.{Scenario}
@@ -8,7 +7,4 @@ use Rattle.state.specs.laws.Start.{Begun}
 use Rattle.state.proofs.State.initial.Given as goal
 
 abbrev pub invariant-loop-u : goal.invariant-loop-u
-invariant-loop-u l = (l.u ≤ l.runs + 1) × (length l.classes ≡ 480) × ((sc : Scenario) (given : Given l.file l.t l.n l.r sc) → Begun given l.u l.names l.classes)
-
-abbrev pub decreases-loop-u : goal.decreases-loop-u
-decreases-loop-u l = l.runs + 1 - l.u
+invariant-loop-u l = (length l.classes ≡ 480) × ((sc : Scenario) (given : Given l.file l.t l.n l.r sc) → Begun given l.u l.names l.classes)
