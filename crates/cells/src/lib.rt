@@ -1,7 +1,7 @@
 // Cells, each a row in a run, and the look-up of a class by the classes of its parts.
 #![tactic(auto)]
 
-ghost use Rattle.std.specs.Prelude.{◌≡◌, ◌+◌, ◌*◌, ◌<◌, ◌≤◌, length, get_or};
+ghost use Rattle.std.specs.Prelude.{◌≡◌, ℕ, ◌+◌, ◌*◌, ◌<◌, ◌≤◌, length, get_or, MatchOption};
 ghost use Rattle.rows.specs.Rows.{Shape};
 ghost use Rattle.cells.specs.Cells.{cell_of, cell_count, absent, second_of, same_parts, Tells, Matches, Found, FoundInRow};
 
@@ -39,19 +39,17 @@ pub fn second_of(t: &[u8], r: usize) -> usize
     ensures { (result ≡ second_of t.now r) × (result < 256) }
 {
     if rows::kind_of(t, r) < Kind::SHARED_KEY {
-        return rows::left_of(t, r);
+        rows::left_of(t, r)
+    } else {
+        rows::right_of(t, r)
     }
-    rows::right_of(t, r)
 }
 
 // Whether rows of one kind have equal values, by the classes of their parts.
 fn same_parts(a: u16, b: u16, x: u16, y: u16) -> bool
     ensures { result ≡ same_parts a b x y }
 {
-    if a == x {
-        return b == y;
-    }
-    false
+    (a, b) == (x, y)
 }
 
 // Whether row x has a class in run w and its parts have the given classes there.
@@ -76,7 +74,23 @@ fn matches_at(
     same_parts(a, b, first, second)
 }
 
-// The class of row x, if it has the given kind, in a run in which its parts have the given classes, or ABSENT.
+// A run in which row x has a class and its parts have the given classes.
+fn matching_run(
+    t: &[u8],
+    n: usize,
+    runs: usize,
+    classes: &[u16],
+    x: usize,
+    a: u16,
+    b: u16,
+) -> Option<usize>
+    requires { Shape t.now n runs × ((length classes.now ≡ cell_count) × ((x < n) × (8 ≤ get_or t.now (3 * x) 0))) }
+    ensures { MatchOption result ((w : ℕ) → w ≤ runs → Matches t.now classes.now a b x w → ⊥) (λ w. (w ≤ runs) × Matches t.now classes.now a b x w) }
+{
+    (0..=runs).find(|&w| matches_at(t, n, runs, classes, x, a, b, w))
+}
+
+// The class of row x, if it has the given kind, in a run in which its parts have the given classes.
 fn found_in_row(
     t: &[u8],
     n: usize,
@@ -86,35 +100,29 @@ fn found_in_row(
     kind: usize,
     a: u16,
     b: u16,
-) -> u16
+) -> Option<u16>
     requires { Shape t.now n runs × ((length classes.now ≡ cell_count) × ((x < n) × (8 ≤ kind))) }
-    ensures { FoundInRow t.now runs classes.now kind a b x result }
+    ensures { MatchOption result (FoundInRow t.now runs classes.now kind a b x absent) (λ class. (class < absent) × FoundInRow t.now runs classes.now kind a b x class) }
 {
     if rows::kind_of(t, x) != kind {
-        return Cells::ABSENT;
+        return None;
     }
-    let mut w = 0;
-    while w <= runs {
-        if matches_at(t, n, runs, classes, x, a, b, w) {
-            return classes[cell(x, w)];
-        }
-        w += 1;
-    }
-    Cells::ABSENT
+    let w = matching_run(t, n, runs, classes, x, a, b)?;
+    Some(classes[cell(x, w)])
 }
 
-// The class of the cells of a kind, 8 to 12, whose parts have the given classes, or ABSENT.
-pub fn found(t: &[u8], n: usize, runs: usize, classes: &[u16], kind: usize, a: u16, b: u16) -> u16
+// The class of the cells of a kind, 8 to 12, whose parts have the given classes.
+pub fn found(
+    t: &[u8],
+    n: usize,
+    runs: usize,
+    classes: &[u16],
+    kind: usize,
+    a: u16,
+    b: u16,
+) -> Option<u16>
     requires { Shape t.now n runs × ((length classes.now ≡ cell_count) × (8 ≤ kind)) }
-    ensures { Found t.now n runs classes.now kind a b result }
+    ensures { MatchOption result (Found t.now n runs classes.now kind a b absent) (λ class. (class < absent) × Found t.now n runs classes.now kind a b class) }
 {
-    let mut x = 0;
-    while x < n {
-        let class = found_in_row(t, n, runs, classes, x, kind, a, b);
-        if class < Cells::ABSENT {
-            return class;
-        }
-        x += 1;
-    }
-    Cells::ABSENT
+    (0..n).find_map(|x| found_in_row(t, n, runs, classes, x, kind, a, b))
 }

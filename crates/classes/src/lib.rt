@@ -36,11 +36,7 @@ fn class_of(
     if b == Cells::ABSENT {
         return Cells::ABSENT;
     }
-    let class = found(t, n, runs, classes, kind, a, b);
-    if class == Cells::ABSENT {
-        return c as u16;
-    }
-    class
+    found(t, n, runs, classes, kind, a, b).unwrap_or(c as u16)
 }
 
 // Gives row x its class in run u, if it has none yet.
@@ -55,22 +51,12 @@ fn fill_row(classes: &mut [u16], t: &[u8], n: usize, runs: usize, names: &[u16],
     }
 }
 
-// Gives the rows below row r their classes in run u: first those below, then the row itself.
-fn fill(classes: &mut [u16], t: &[u8], n: usize, runs: usize, names: &[u16], u: usize, r: usize)
-    requires { Shape t.now n runs × ((length classes.old ≡ cell_count) × ((length names.now ≡ cell_count) × ((u ≤ runs) × (r ≤ n)))) }
-    ensures { Filled (rows_of t.now) runs u names.now 0 r classes.old classes.new }
-{
-    if r == 0 {
-        return;
-    }
-    fill(&mut classes[..], t, n, runs, names, u, r - 1);
-    fill_row(&mut classes[..], t, n, runs, names, u, r - 1);
-}
-
-// The classes after the names of run u have grown.
+// The classes after the names of run u have grown. Parts are lower rows, so they have their classes first.
 pub fn refill(classes: &mut [u16], t: &[u8], n: usize, runs: usize, names: &[u16], u: usize)
     requires { Shape t.now n runs × ((length classes.old ≡ cell_count) × ((length names.now ≡ cell_count) × (u ≤ runs))) }
     ensures { Refilled (rows_of t.now) runs u names.now classes.old classes.new }
 {
-    fill(&mut classes[..], t, n, runs, names, u, n);
+    for x in 0..n {
+        fill_row(&mut classes[..], t, n, runs, names, u, x);
+    }
 }

@@ -91,6 +91,13 @@ pub data RowGained (bytes : List ℕ) (n runs : ℕ) (classes : List ℕ) (marks
   row_gains : (u : ℕ) → u ≤ runs → GivesAt bytes n runs classes marks x u class → class < absent → (On marks class → ⊥) → RowGained bytes n runs classes marks x class
   row_idles : absent ≤ class → ((u : ℕ) → u ≤ runs → IdleAt bytes n runs classes marks x u) → RowGained bytes n runs classes marks x class
 
+-- and of all rows in all runs
+abbrev pub AllIdle : List ℕ → ℕ → ℕ → List ℕ → List Bool → Type 0
+AllIdle bytes n runs classes marks = (x : ℕ) → x < n → (u : ℕ) → u ≤ runs → IdleAt bytes n runs classes marks x u
+
+abbrev pub SomeGained : List ℕ → ℕ → ℕ → List ℕ → List Bool → ℕ → Type 0
+SomeGained bytes n runs classes marks class = (x : ℕ) × (x < n) × RowGained bytes n runs classes marks x class
+
 -- Marks to which others grow, each new mark given by the marks before it.
 pub data Reaches (bytes : List ℕ) (n runs : ℕ) (classes : List ℕ) (start : List Bool) : List Bool → Type 0 where
   stays : Reaches bytes n runs classes start start
@@ -101,7 +108,7 @@ pub data Reaches (bytes : List ℕ) (n runs : ℕ) (classes : List ℕ) (start :
 -- marks to which nothing can be added
 pub record Finished (bytes : List ℕ) (n runs : ℕ) (classes : List ℕ) (start marks : List Bool) : Type 0 where
   pub reached : Reaches bytes n runs classes start marks
-  pub idle : (x : ℕ) → x < n → (u : ℕ) → u ≤ runs → IdleAt bytes n runs classes marks x u
+  pub idle : AllIdle bytes n runs classes marks
 
 -- how many marks are missing
 unfoldable pub missing : List Bool → ℕ

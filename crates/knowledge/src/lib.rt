@@ -1,11 +1,12 @@
 // Knowledge as marks: one for each row in each run, taken apart and built up until nothing is added.
 #![tactic(auto)]
 
-ghost use Rattle.std.specs.Prelude.{◌≡◌, false, ◌+◌, ◌*◌, ◌<◌, ◌≤◌, length, get_or};
+ghost use Rattle.std.specs.Prelude.{◌≡◌, ◌≢◌, ℕ, false, ◌+◌, ◌*◌, ◌<◌, ◌≤◌, length, get_or, MatchOption};
+ghost use Rattle.std.specs.Option.{unwrap_or};
 ghost use Rattle.rows.specs.Rows.{rows_of, Shape};
-ghost use Rattle.cells.specs.Cells.{cell_count};
+ghost use Rattle.cells.specs.Cells.{cell_count, absent};
 ghost use Rattle.knowledge.specs.Marks.{Settled, LearnsCell, Learnt};
-ghost use Rattle.knowledge.specs.Steps.{class_at, Gathered, Spread, Opening, Gained, GainedAt, RowGained, Reaches, Finished};
+ghost use Rattle.knowledge.specs.Steps.{class_at, Gathered, Spread, InverseKinds, Opening, Gained, GainedAt, RowGained, AllIdle, SomeGained, Reaches, Finished};
 
 use cells::{Cells, cell};
 use rows::Kind;
@@ -23,20 +24,16 @@ fn gathered(start: &[bool], n: usize, runs: usize, classes: &[u16]) -> [bool; Ce
     requires { (length start.now ≡ cell_count) × ((length classes.now ≡ cell_count) × ((n ≤ 96) × (runs ≤ 4))) }
     ensures { Gathered n runs classes.now start.now result }
 {
-    let mut marks = [false; 480];
-    let mut u = 0;
-    while u <= runs {
-        let mut r = 0;
-        while r < n {
+    let mut marks = [false; Cells::COUNT];
+    for u in 0..=runs {
+        for r in 0..n {
             if start[cell(r, u)] {
                 let class = class_at(classes, r, u);
                 if class < Cells::ABSENT {
-                    marks[class as usize] = true;
+                    marks[usize::from(class)] = true;
                 }
             }
-            r += 1;
         }
-        u += 1;
     }
     marks
 }
@@ -46,18 +43,13 @@ fn spread(marks: &[bool], n: usize, runs: usize, classes: &[u16]) -> [bool; Cell
     requires { (length marks.now ≡ cell_count) × ((length classes.now ≡ cell_count) × ((n ≤ 96) × (runs ≤ 4))) }
     ensures { Spread n runs classes.now marks.now result }
 {
-    let mut out = [false; 480];
-    let mut w = 0;
-    while w <= runs {
-        let mut r = 0;
-        while r < n {
-            if is_marked(marks, class_at(classes, r, w)) {
-                let c = cell(r, w);
-                out[c] = true;
+    let mut out = [false; Cells::COUNT];
+    for u in 0..=runs {
+        for r in 0..n {
+            if is_marked(marks, class_at(classes, r, u)) {
+                out[cell(r, u)] = true;
             }
-            r += 1;
         }
-        w += 1;
     }
     out
 }
@@ -67,10 +59,7 @@ fn is_marked(marks: &[bool], class: u16) -> bool
     requires { length marks.now ≡ cell_count }
     ensures { result ≡ get_or marks.now class false }
 {
-    if class < Cells::ABSENT {
-        return marks[class as usize];
-    }
-    false
+    class < Cells::ABSENT && marks[usize::from(class)]
 }
 
 // Marks a pair or an encryption, row x, in each run in which both its parts are marked.
@@ -81,38 +70,27 @@ fn build_row(marks: &mut [bool], t: &[u8], n: usize, runs: usize, classes: &[u16
     if rows::kind_of(t, x) < Kind::PAIR {
         return;
     }
-    let l = rows::left_of(t, x);
-    let s = rows::right_of(t, x);
-    let mut u = 0;
-    while u <= runs {
+    let left = rows::left_of(t, x);
+    let right = rows::right_of(t, x);
+    for u in 0..=runs {
         let class = class_at(classes, x, u);
-        if class < Cells::ABSENT {
-            if is_marked(&marks[..], class_at(classes, l, u)) {
-                if is_marked(&marks[..], class_at(classes, s, u)) {
-                    marks[class as usize] = true;
-                }
-            }
+        if class < Cells::ABSENT
+            && is_marked(&marks[..], class_at(classes, left, u))
+            && is_marked(&marks[..], class_at(classes, right, u))
+        {
+            marks[usize::from(class)] = true;
         }
-        u += 1;
     }
 }
 
-// Marks what can be built among the rows below row r: first those below the last 16 of them, then these in order.
-fn build(marks: &mut [bool], t: &[u8], n: usize, runs: usize, classes: &[u16], r: usize)
-    requires { (length marks.old ≡ cell_count) × (Shape t.now n runs × ((length classes.now ≡ cell_count) × (r ≤ n))) }
-    ensures { Reaches t.now n runs classes.now marks.old marks.new }
+// The kind of the inverse of a public or a secret key; every other term is its own inverse.
+pub fn inverse_kind(kind: usize) -> Option<usize>
+    ensures { MatchOption result ((kind ≢ 8) × (kind ≢ 9)) (λ other. InverseKinds kind other) }
 {
-    if r == 0 {
-        return;
-    }
-    let mut y = 0;
-    if 16 < r {
-        build(&mut marks[..], t, n, runs, classes, r - 16);
-        y = r - 16;
-    }
-    while y < r {
-        build_row(&mut marks[..], t, n, runs, classes, y);
-        y += 1;
+    match kind {
+        Kind::PUBLIC_KEY => Some(Kind::SECRET_KEY),
+        Kind::SECRET_KEY => Some(Kind::PUBLIC_KEY),
+        _ => None,
     }
 }
 
@@ -122,28 +100,22 @@ fn opens(marks: &[bool], t: &[u8], n: usize, runs: usize, classes: &[u16], key: 
     requires { (length marks.now ≡ cell_count) × (Shape t.now n runs × (length classes.now ≡ cell_count)) }
     ensures { Opening t.now n runs classes.now marks.now key result }
 {
-    let x = key as usize % 96;
-    if n <= x {
+    let x = usize::from(key) % 96;
+    let u = usize::from(key) / 96;
+    if n <= x || runs < u {
         return false;
     }
-    let u = key as usize / 96;
-    if runs < u {
-        return false;
-    }
-    let kind = rows::kind_of(t, x);
-    if kind == Kind::PUBLIC_KEY {
-        let a = class_at(classes, rows::left_of(t, x), u);
-        return is_marked(marks, cells::found(t, n, runs, classes, 9, a, a));
-    }
-    if kind == Kind::SECRET_KEY {
-        let a = class_at(classes, rows::left_of(t, x), u);
-        return is_marked(marks, cells::found(t, n, runs, classes, 8, a, a));
-    }
-    is_marked(marks, key)
+    let Some(other) = inverse_kind(rows::kind_of(t, x)) else {
+        return is_marked(marks, key);
+    };
+    let agent = class_at(classes, rows::left_of(t, x), u);
+    cells::found(t, n, runs, classes, other, agent, agent).is_some_and(|class| is_marked(
+        marks, class,
+    ))
 }
 
-// A class that is not marked yet and that a pair or an encryption gives, by the classes of it and its parts, or ABSENT.
-// It gives its parts, and itself where `build` passed it before its parts were marked.
+// What a pair or an encryption gives that is not marked yet, by the classes of it and its parts.
+// It gives its parts, and itself where it was passed in building before its parts were marked.
 fn given(
     marks: &[bool],
     t: &[u8],
@@ -154,66 +126,66 @@ fn given(
     whole: u16,
     left: u16,
     right: u16,
-) -> u16
+) -> Option<u16>
     requires { (length marks.now ≡ cell_count) × (Shape t.now n runs × ((length classes.now ≡ cell_count) × (11 ≤ kind))) }
-    ensures { Gained t.now n runs classes.now marks.now kind whole left right result }
+    ensures { Gained t.now n runs classes.now marks.now kind whole left right (unwrap_or result absent) }
 {
     let has_left = is_marked(marks, left);
-    if is_marked(marks, whole) {
-        if kind == Kind::PAIR {
-            if has_left {
-                if is_marked(marks, right) {
-                    return Cells::ABSENT;
-                }
-                return right;
-            }
-            return left;
-        }
-        if has_left {
-            return Cells::ABSENT;
-        }
-        if opens(marks, t, n, runs, classes, right) {
-            return left;
-        }
-        return Cells::ABSENT;
+    if !is_marked(marks, whole) {
+        (has_left && is_marked(marks, right)).then_some(whole)
+    } else if !has_left {
+        (kind == Kind::PAIR || opens(marks, t, n, runs, classes, right)).then_some(left)
+    } else {
+        (kind == Kind::PAIR && !is_marked(marks, right)).then_some(right)
     }
-    if has_left {
-        if is_marked(marks, right) {
-            return whole;
-        }
-    }
-    Cells::ABSENT
 }
 
-// A class that row x gives in run u and that is not marked yet, or ABSENT.
-fn gain(marks: &[bool], t: &[u8], n: usize, runs: usize, classes: &[u16], x: usize, u: usize) -> u16
+// A class that row x gives in run u and that is not marked yet.
+fn gain(
+    marks: &[bool],
+    t: &[u8],
+    n: usize,
+    runs: usize,
+    classes: &[u16],
+    x: usize,
+    u: usize,
+) -> Option<u16>
     requires { (length marks.now ≡ cell_count) × (Shape t.now n runs × ((length classes.now ≡ cell_count) × ((x < n) × (u ≤ runs)))) }
-    ensures { GainedAt t.now n runs classes.now marks.now x u result }
+    ensures { MatchOption result (GainedAt t.now n runs classes.now marks.now x u absent) (λ class. (class < absent) × GainedAt t.now n runs classes.now marks.now x u class) }
 {
     let kind = rows::kind_of(t, x);
     if kind < Kind::PAIR {
-        return Cells::ABSENT;
+        return None;
     }
     let whole = class_at(classes, x, u);
     let left = class_at(classes, rows::left_of(t, x), u);
     let right = class_at(classes, rows::right_of(t, x), u);
-    given(marks, t, n, runs, classes, kind, whole, left, right)
+    // what is given may have no class
+    given(marks, t, n, runs, classes, kind, whole, left, right).filter(|&class| class
+        < Cells::ABSENT)
 }
 
-// A class that row x gives in some run and that is not marked yet, or ABSENT.
-fn row_gain(marks: &[bool], t: &[u8], n: usize, runs: usize, classes: &[u16], x: usize) -> u16
+// A class that row x gives in some run and that is not marked yet.
+fn row_gain(
+    marks: &[bool],
+    t: &[u8],
+    n: usize,
+    runs: usize,
+    classes: &[u16],
+    x: usize,
+) -> Option<u16>
     requires { (length marks.now ≡ cell_count) × (Shape t.now n runs × ((length classes.now ≡ cell_count) × (x < n))) }
-    ensures { RowGained t.now n runs classes.now marks.now x result }
+    ensures { MatchOption result (RowGained t.now n runs classes.now marks.now x absent) (λ class. (class < absent) × RowGained t.now n runs classes.now marks.now x class) }
 {
-    let mut u = 0;
-    while u <= runs {
-        let class = gain(marks, t, n, runs, classes, x, u);
-        if class < Cells::ABSENT {
-            return class;
-        }
-        u += 1;
-    }
-    Cells::ABSENT
+    (0..=runs).find_map(|u| gain(marks, t, n, runs, classes, x, u))
+}
+
+// A class that some row gives and that is not marked yet.
+fn next_gain(marks: &[bool], t: &[u8], n: usize, runs: usize, classes: &[u16]) -> Option<u16>
+    requires { (length marks.now ≡ cell_count) × (Shape t.now n runs × (length classes.now ≡ cell_count)) }
+    ensures { MatchOption result (AllIdle t.now n runs classes.now marks.now) (λ class. (class < absent) × SomeGained t.now n runs classes.now marks.now class) }
+{
+    (0..n).find_map(|x| row_gain(marks, t, n, runs, classes, x))
 }
 
 // The marks of classes when nothing can be built or taken apart any more.
@@ -228,18 +200,14 @@ fn rounds(
     ensures { Finished t.now n runs classes.now start result }
 {
     let mut marks = start;
-    'rounds: loop {
-        build(&mut marks[..], t, n, runs, classes, n);
-        let mut x = 0;
-        while x < n {
-            let gained = row_gain(&marks[..], t, n, runs, classes, x);
-            if gained < Cells::ABSENT {
-                marks[gained as usize] = true;
-                continue 'rounds;
-            }
-            x += 1;
+    loop {
+        for x in 0..n {
+            build_row(&mut marks[..], t, n, runs, classes, x);
         }
-        break marks;
+        let Some(gained) = next_gain(&marks[..], t, n, runs, classes) else {
+            return marks;
+        };
+        marks[usize::from(gained)] = true;
     }
 }
 

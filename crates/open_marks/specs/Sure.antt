@@ -1,5 +1,5 @@
 -- Readable with whatever is known, if every marked row's term derives from it: what it is to be sure of a row, and what the functions that find such rows answer. Assumes nothing.
-use Rattle.std.specs.Prelude.{ℕ, ◌+◌, ◌*◌, ◌<◌, ◌≡◌, ◌⊎◌, Bool, true, false, List, length, get_or}
+use Rattle.std.specs.Prelude.{Option, Some, ℕ, ◌+◌, ◌*◌, ◌<◌, ◌≡◌, ◌⊎◌, Bool, true, false, List, length, get_or}
 use Rattle.std.proofs.Math.Option.{some}
 use Rattle.semantics.specs.Term.{Term, inverse}
 use Rattle.semantics.specs.Inference.{Derives}
@@ -40,8 +40,8 @@ pub record Shared (n : ℕ) (one other both : List Bool) : Type 0 where
   pub onto : (x : ℕ) → x < n → On one x → On other x → On both x
 
 -- marks of which at most one is new, and that only if it was found
-abbrev pub Added : ℕ → Bool → List Bool → List Bool → Type 0
-Added x found marks more = (y : ℕ) → On more y → On marks y ⊎ ((y ≡ x) × (found ≡ true))
+abbrev pub Added : Option ℕ → List Bool → List Bool → Type 0
+Added found marks more = (y : ℕ) → On more y → On marks y ⊎ (found ≡ Some y)
 
 -- how many notes there are: 96 hints and 128 owners, with room behind them, and 128 slots of 96 rows
 abbrev pub note_count : ℕ

@@ -50,10 +50,10 @@ pub fn is_readable(
         let both = open_marks::shared(&with_second, &with_first, n);
         let c = open_marks::content_of(&with_second, t, n, l);
         let found = is_readable(both, sure, t, n, classes, &mut notes[..], true, c);
-        let more = open_marks::added(sure, c, found);
+        let more = open_marks::added(sure, found.then_some(c));
         let d = open_marks::content_of(&with_first, t, n, s);
         let found_too = is_readable(both, more, t, n, classes, &mut notes[..], true, d);
-        let most = open_marks::added(more, d, found_too);
+        let most = open_marks::added(more, found_too.then_some(d));
         if !is_readable(with_second, most, t, n, classes, &mut notes[..], quick, l) {
             notes[x] = 1;
             return false;

@@ -31,14 +31,13 @@ fn is_well_formed(
     if !open_marks::name_known(&marks, t, n, own) {
         return false;
     }
-    if kind != Event::CLAIM {
-        if !open_marks::name_known(&marks, t, n, peer) {
-            return false;
-        }
+    if kind != Event::CLAIM && !open_marks::name_known(&marks, t, n, peer) {
+        return false;
     }
     if kind == Event::READ {
         let mut notes = [0u8; Notes::COUNT];
-        return open_readable::is_readable(marks, [false; 480], t, n, classes, &mut notes, false, x);
+        let sure = [false; Cells::COUNT];
+        return open_readable::is_readable(marks, sure, t, n, classes, &mut notes, false, x);
     }
     marks[x]
 }
@@ -71,8 +70,7 @@ fn ill_formed_role(s: &[u8], t: &[u8], n: usize, classes: &[u16], own: usize) ->
     let end = 1 + count;
     let mut marks = role_level::marks_of(t, n, classes, &s[1..end]);
     let events = rows::wide(s[end]);
-    let mut j = 0;
-    while j < events {
+    for j in 0..events {
         let at = first + 4 * j;
         let event = rows::wide(s[at]);
         let peer = rows::wide(s[at + 2]);
@@ -80,9 +78,9 @@ fn ill_formed_role(s: &[u8], t: &[u8], n: usize, classes: &[u16], own: usize) ->
         if !is_well_formed(marks, t, n, classes, own, event, peer, x) {
             return Some(at);
         }
+        // stays: a call's result cannot be laid in a local that is lent, as `marks` is above
         let more = event_learned(marks, t, n, classes, event, x);
         marks = more;
-        j += 1;
     }
     None
 }
@@ -95,6 +93,7 @@ pub fn ill_formed(b: &[u8], base: usize, t: &[u8], n: usize) -> Option<usize>
     let classes = role_level::classes_of(t, n);
     let mut i = 0;
     let mut at = 0;
+    // stays: records differ in length, so there is no range to go over
     while at < b.len() {
         let s = &b[at..];
         if let Some(event) = ill_formed_role(s, t, n, &classes, i) {

@@ -9,19 +9,14 @@ ghost use Rattle.cells.specs.Cells.{cell_count};
 ghost use Rattle.role_level.specs.RoleLevel.{listed_terms, RoleClasses, RoleExact, OwnNames, ListedMarks, ListedBelow};
 
 use cells::Cells;
+use std::array;
 
 // The names at role level: each row names itself.
 fn own_names(n: usize) -> [u16; Cells::COUNT]
     requires { n ≤ 96 }
     ensures { OwnNames n result }
 {
-    let mut names = [Cells::ABSENT; Cells::COUNT];
-    let mut r = 0;
-    while r < n {
-        names[r] = r as u16;
-        r += 1;
-    }
-    names
+    array::from_fn(|r| if r < n { r as u16 } else { Cells::ABSENT })
 }
 
 // The marks of the listed rows.
@@ -29,11 +24,9 @@ fn listed_marks(list: &[u8], n: usize) -> [bool; Cells::COUNT]
     requires { (n ≤ 96) × ListedBelow n list.now }
     ensures { ListedMarks n list.now result }
 {
-    let mut marks = [false; 480];
-    let mut i = 0;
-    while i < list.len() {
-        marks[rows::wide(list[i])] = true;
-        i += 1;
+    let mut marks = [false; Cells::COUNT];
+    for &r in list {
+        marks[usize::from(r)] = true;
     }
     marks
 }

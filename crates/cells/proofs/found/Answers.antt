@@ -1,20 +1,12 @@
--- `found` looks for a cell of a kind with given parts, row by row. The loop's invariant: no row passed has one; its measure is how many rows are left. Assumes nothing.
-use native.Mathlib.Omega.{arith}
-use borrow.Author.Rules.{rules}
-use Rattle.cells.specs.laws.Cells.{row-found, row-none, none_found}
+-- `found` looks for a cell of a kind with given parts, row by row. Assumes nothing.
+use Rattle.std.proofs.Common.{rules, tests, ℕ, ◌<◌}
+use Rattle.cells.specs.laws.Cells.{row-found, none_found}
+use Rattle.cells.specs.laws.Ranges.{find_map-range}
+use Rattle.cells.specs.Cells.{absent, FoundInRow}
 use Rattle.cells.proofs.found.Goals as goal
 
-pub loop-x-init : goal.loop-x-init
-loop-x-init c = (omega arith, λ y l. absurd (omega arith))
-
-pub returns-then-class-lt-ABSENT : goal.returns-then-class-lt-ABSENT
-returns-then-class-lt-ABSENT c = row-found c.args.t.now c.args.n c.args.runs c.args.classes.now c.args.kind c.args.a c.args.b c.loop-x-test.true c.found_in_row-class.ensures c.if-class-lt-ABSENT.true
-
-pub loop-x-smaller : goal.loop-x-smaller
-loop-x-smaller c = omega arith
-
-pub loop-x-preserved : goal.loop-x-preserved
-loop-x-preserved c = (omega arith, row-none c.args.t.now c.args.n c.args.runs c.args.classes.now c.args.kind c.args.a c.args.b c.loop-x.invariant.1 c.found_in_row-class.ensures c.if-class-lt-ABSENT.false)
-
 pub returns : goal.returns
-returns c = none_found c.args.t.now c.args.n c.args.runs c.args.classes.now c.args.kind c.args.a c.args.b c.loop-x-test.false c.loop-x.invariant.1
+returns c =
+    let Row : ℕ → ℕ → Type 0 = FoundInRow c.args.t.now c.args.runs c.args.classes.now c.args.kind c.args.a c.args.b in
+    find_map-range _ (λ x class. (class < absent) × Row x class) (λ x. Row x absent) (λ x y q k. search (rules, tests)) (λ x y k. search (rules, tests)) (λ x k. search (rules, tests)) _ c.find_map.ensures.runs
+    (λ none. none_found (λ x l. none x (search rules) l)) (λ class x lo l h. (h.0, row-found l h.1 h.0))

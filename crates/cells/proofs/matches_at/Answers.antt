@@ -1,6 +1,5 @@
 -- `matches_at` tells whether a cell has a class and its parts the given ones. Assumes nothing.
 use native.Mathlib.Omega.{arith}
-use borrow.Author.Rules.{rules}
 use Rattle.cells.specs.laws.Cells.{class-read, no-class, parts-tell, left-small, second-small}
 use Rattle.cells.proofs.matches_at.Goals as goal
 

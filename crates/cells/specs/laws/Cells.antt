@@ -1,8 +1,7 @@
 -- The laws of cells: parts are lower rows, and cells are told apart. Assumes nothing.
 use Rattle.std.specs.Prelude.{ℕ, zero, suc, ◌+◌, ◌*◌, ◌<◌, ◌≤◌, ◌≡◌, refl, ◌↔◌, Bool, true, false, cond, T, ltb, length, get_or}
-use Rattle.std.proofs.Common.{le_of_suc-le-suc, not-suc-le-zero, eq-or-lt_of_le, arith, sym, ⊎_elim, true≢false, lt-ltb, le-ltb, ltb-false}
+use Rattle.std.proofs.Common.{le_of_suc-le-suc, not-suc-le-zero, eq-or-lt_of_le, ⊎_elim, arith, sym, lt-ltb, le-ltb, ltb-false}
 use mathlib.Core.Logic.Iff
-use Rattle.std.proofs.lemmas.Bool.{false≢true}
 use mathlib.Core.List.{List, [], ◌∷◌, Memᴰ}
 use Rattle.std.proofs.Math.Option.{some}
 use Rattle.std.proofs.Math.ListN.{get_elem?}
@@ -87,30 +86,16 @@ module _ (bytes classes : List ℕ) (x a b w : ℕ) where
 pub none_more : (P : ℕ → Type 0) (w : ℕ) → ((v : ℕ) → v < w → P v → ⊥) → (P w → ⊥) → (v : ℕ) → v < w + 1 → P v → ⊥
 none_more P w before now v l = ⊎_elim (λ (e : v ≡ w). rw e now) (λ (k : v < w). before v k) (eq-or-lt_of_le (omega arith))
 
--- what a test tells, once its outcome is known
-pub tells-true : {P : Type 0} {r : Bool} → Tells P r → r ≡ true → P
-tells-true {r = true} h e = h
-tells-true {r = false} h e = absurd (false≢true e)
-
-pub tells-false : {P : Type 0} {r : Bool} → Tells P r → r ≡ false → P → ⊥
-tells-false {r = true} h e = absurd (true≢false e)
-tells-false {r = false} h e = h
-
-module _ (bytes : List ℕ) (n runs : ℕ) (classes : List ℕ) (kind a b : ℕ) where
-  -- no row below a number has the class that is looked for
-  abbrev pub NoneBelow : ℕ → Type 0
-  NoneBelow x = (y : ℕ) → y < x → (w : ℕ) → w ≤ runs → get_or bytes (3 * y) 0 ≡ kind → Matches bytes classes a b y w → ⊥
-
+module _ {bytes : List ℕ} {n runs : ℕ} {classes : List ℕ} {kind a b : ℕ} where
   -- a class that is found in a row is found
   pub row-found : {x class : ℕ} → x < n → FoundInRow bytes runs classes kind a b x class → class < absent → Found bytes n runs classes kind a b class
   row-found {x} l (has_run w k e m c) h = is_found x w l k e m c
   row-found l (has_no_run none c) h = absurd (omega arith)
 
-  -- a row that has none
-  pub row-none : {x class : ℕ} → NoneBelow x → FoundInRow bytes runs classes kind a b x class → absent ≤ class → NoneBelow (x + 1)
-  row-none {x} below (has_run w k e m c) h = absurd (omega (arith, m.there))
-  row-none {x} below (has_no_run none c) h = λ y l. ⊎_elim (λ (e : y ≡ x). rw e none) (λ (k : y < x). below y k) (eq-or-lt_of_le (omega arith))
-
-  -- no row has it
-  pub none_found : {x : ℕ} → n ≤ x → NoneBelow x → Found bytes n runs classes kind a b absent
-  none_found l below = not_found (λ y w k. below y (omega arith) w) refl
+  -- if no row has it, it is not found
+  pub none_found : ((x : ℕ) → x < n → FoundInRow bytes runs classes kind a b x absent) → Found bytes n runs classes kind a b absent
+  none_found none = not_found (λ x w l k e m. row (none x l) w k e m) refl
+    where
+      row : {x : ℕ} → FoundInRow bytes runs classes kind a b x absent → (w : ℕ) → w ≤ runs → get_or bytes (3 * x) 0 ≡ kind → Matches bytes classes a b x w → ⊥
+      row (has_run w k e m c) = absurd (omega (arith, m.there))
+      row (has_no_run none c) = none

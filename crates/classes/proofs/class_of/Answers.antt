@@ -1,6 +1,6 @@
 -- `classes::class_of` meets its contract: each way out is one way for a cell to get its class. Assumes nothing.
 use native.Mathlib.Omega.{arith}
-use Rattle.classes.specs.laws.ClassOf.{first_read, second-read, class-named, class-first, class-second, class-found, class-itself}
+use Rattle.classes.specs.laws.ClassOf.{first_read, second-read, class-named, class-first, class-second, class-looked}
 use Rattle.cells.specs.laws.Cells.{left-small, second-small}
 use Rattle.classes.proofs.class_of.Goals as goal
 
@@ -24,10 +24,8 @@ pub returns-then-b-eq-ABSENT : goal.returns-then-b-eq-ABSENT
 returns-then-b-eq-ABSENT c =
     class-second c.args.t.now c.args.n c.args.runs c.args.names.now c.args.classes.now c.args.u c.args.x c.kind_of-kind.ensures.0 c.if-kind-lt-FIRST_MADE.false (first_read c.args.t.now c.args.classes.now c.args.u c.args.x c.requires.1.0 c.left_of.ensures.0 c.cell.ensures.0 c.cell.ensures.1) (second-read c.args.t.now c.args.classes.now c.args.u c.args.x c.requires.1.0 c.second_of.ensures.0 c.cell-2.ensures.0 c.cell-2.ensures.1) c.if-b-eq-ABSENT.true
 
-pub returns-then-class-eq-ABSENT : goal.returns-then-class-eq-ABSENT
-returns-then-class-eq-ABSENT c =
-    class-itself c.args.t.now c.args.n c.args.runs c.args.names.now c.args.classes.now c.args.u c.args.x c.kind_of-kind.ensures.0 c.if-kind-lt-FIRST_MADE.false (first_read c.args.t.now c.args.classes.now c.args.u c.args.x c.requires.1.0 c.left_of.ensures.0 c.cell.ensures.0 c.cell.ensures.1) (second-read c.args.t.now c.args.classes.now c.args.u c.args.x c.requires.1.0 c.second_of.ensures.0 c.cell-2.ensures.0 c.cell-2.ensures.1) c.if-a-eq-ABSENT.false c.if-b-eq-ABSENT.false c.found-class.ensures c.if-class-eq-ABSENT.true c.cell-c.ensures.0
-
 pub returns : goal.returns
 returns c =
-    class-found c.args.t.now c.args.n c.args.runs c.args.names.now c.args.classes.now c.args.u c.args.x c.kind_of-kind.ensures.0 c.if-kind-lt-FIRST_MADE.false (first_read c.args.t.now c.args.classes.now c.args.u c.args.x c.requires.1.0 c.left_of.ensures.0 c.cell.ensures.0 c.cell.ensures.1) (second-read c.args.t.now c.args.classes.now c.args.u c.args.x c.requires.1.0 c.second_of.ensures.0 c.cell-2.ensures.0 c.cell-2.ensures.1) c.found-class.ensures c.if-class-eq-ABSENT.false
+    let first = first_read c.args.t.now c.args.classes.now c.args.u c.args.x c.requires.1.0 c.left_of.ensures.0 c.cell.ensures.0 c.cell.ensures.1 in
+    let second = second-read c.args.t.now c.args.classes.now c.args.u c.args.x c.requires.1.0 c.second_of.ensures.0 c.cell-2.ensures.0 c.cell-2.ensures.1 in
+    class-looked c.args.t.now c.args.n c.args.runs c.args.names.now c.args.classes.now c.args.u c.args.x c.kind_of-kind.ensures.0 c.if-kind-lt-FIRST_MADE.false first second c.if-a-eq-ABSENT.false c.if-b-eq-ABSENT.false c.found.result c.found.ensures c.cell-c.ensures.0 c.unwrap_or.ensures

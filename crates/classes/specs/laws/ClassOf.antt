@@ -1,6 +1,7 @@
 -- The class of a cell, from what is read of its row and of its parts' classes. Assumes nothing.
-use Rattle.std.specs.Prelude.{ℕ, ◌+◌, ◌*◌, ◌<◌, ◌≤◌, ◌≡◌, refl, List, length, get_or}
-use Rattle.std.proofs.Common.{sym, ap, ◌∙◌}
+use Rattle.std.specs.Prelude.{ℕ, ◌+◌, ◌*◌, ◌<◌, ◌≤◌, ◌≡◌, refl, List, length, get_or, Option, Some, None, MatchOption}
+use Rattle.std.specs.Option.{unwrap_or}
+use Rattle.std.proofs.Common.{sym, ap, ◌∙◌, arith}
 use Rattle.cells.specs.Cells.{cell_of, cell_count, absent, second_of, Found}
 use Rattle.cells.specs.laws.Cells.{class-read}
 use Rattle.classes.specs.Filled.{first_class, second_class, ClassOf, of_atom, no_first, no_second, of_other, of_itself}
@@ -28,11 +29,8 @@ module _ (bytes : List ℕ) (n runs : ℕ) (names classes : List ℕ) (u x : ℕ
       pub class-second : b ≡ absent → ClassOf bytes n runs names classes u x absent
       class-second e = no_second (rw kinds at high) (sym second ∙ e) refl
 
-      -- a cell with such parts is found
-      pub class-found : {f : ℕ} → Found bytes n runs classes kind a b f → (f ≡ absent → ⊥) → ClassOf bytes n runs names classes u x f
-      class-found found h = of_other (rw kinds at high) (rw (kinds, first, second) at found) h
-
-      -- none is found
-      pub class-itself : {f c : ℕ} → (a ≡ absent → ⊥) → (b ≡ absent → ⊥) → Found bytes n runs classes kind a b f → f ≡ absent → c ≡ cell_of x u
-          → ClassOf bytes n runs names classes u x c
-      class-itself h₁ h₂ found e c = of_itself (rw kinds at high) (rw first at h₁) (rw second at h₂) (rw (kinds, first, second, e) at found) c
+      -- a cell with such parts is found, or none is
+      pub class-looked : (a ≡ absent → ⊥) → (b ≡ absent → ⊥) → (o : Option ℕ) → MatchOption o (Found bytes n runs classes kind a b absent) (λ f. (f < absent) × Found bytes n runs classes kind a b f)
+          → {c class : ℕ} → c ≡ cell_of x u → class ≡ unwrap_or o c → ClassOf bytes n runs names classes u x class
+      class-looked h₁ h₂ None found c e = rw e (of_itself (rw kinds at high) (rw first at h₁) (rw second at h₂) (rw (kinds, first, second) at found) c)
+      class-looked h₁ h₂ (Some f) found c e = rw e (of_other (rw kinds at high) (rw (kinds, first, second) at found.1) (λ q. omega (arith, found.0)))

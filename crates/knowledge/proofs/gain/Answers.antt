@@ -1,11 +1,11 @@
 -- `gain` finds a class that a row gives in a run and that is not marked. Assumes nothing.
-use native.Mathlib.Omega.{arith}
-use Rattle.knowledge.specs.laws.Steps.{left_below, parts_below, other-idle, gained-at}
+use Rattle.std.proofs.Common.{arith, rules, tests}
+use Rattle.cells.specs.laws.Ranges.{told}
+use Rattle.knowledge.specs.laws.Steps.{left_below, parts_below, other-idle, gained-at, class-kept}
 use Rattle.knowledge.proofs.gain.Goals as goal
 
 pub returns-then-kind-lt-PAIR : goal.returns-then-kind-lt-PAIR
-returns-then-kind-lt-PAIR c =
-    other-idle c.args.x c.args.u c.kind_of-kind.ensures.0 c.if-kind-lt-PAIR.true
+returns-then-kind-lt-PAIR c = other-idle c.args.x c.args.u c.kind_of-kind.ensures.0 c.if-kind-lt-PAIR.true
 
 pub class_at-left-requires : goal.class_at-left-requires
 class_at-left-requires c =
@@ -17,4 +17,6 @@ class_at-right-requires c =
 
 pub returns : goal.returns
 returns c =
-    gained-at c.args.x c.args.u c.kind_of-kind.ensures.0 c.class_at-whole.ensures c.left_of.ensures.0 c.class_at-left.ensures c.right_of.ensures.0 c.class_at-right.ensures c.given.ensures
+    class-kept c.args.x c.args.u c.given.result c.filter.result
+    (gained-at c.args.x c.args.u c.kind_of-kind.ensures.0 c.class_at-whole.ensures c.left_of.ensures.0 c.class_at-left.ensures c.right_of.ensures.0 c.class_at-right.ensures c.given.ensures)
+    (told c.given.result c.filter.ensures (λ e. e) (λ class k. (k.0, search (rules, tests), k.2)))

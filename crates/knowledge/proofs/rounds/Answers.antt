@@ -1,33 +1,23 @@
--- `rounds` ends with marks to which nothing can be added. The outer invariant: the marks are reached from the start; its measure is how many are missing.
--- The inner invariant: the marks are as after `build`, and the rows passed give nothing new. Assumes nothing.
-use native.Mathlib.Omega.{arith}
-use mathlib.Core.Path.{refl, ◌∙◌}
-use borrow.Author.Rules.{rules}
-use lib.ListN.{length-set}
-use Rattle.knowledge.specs.laws.Steps.{reaches_same, reaches-on, gained-reached, gained-falls, rows_more}
+-- `rounds` ends with marks to which nothing can be added. Assumes nothing.
+use Rattle.std.proofs.Common.{rules}
+use Rattle.knowledge.specs.laws.Steps.{reaches-on, gained-reached, gained-falls}
 use Rattle.knowledge.specs.Steps.{stays}
 use Rattle.knowledge.proofs.rounds.Goals as goal
 
-pub rounds-init : goal.rounds-init
-rounds-init c = (search rules, stays)
-
 pub loop-x-init : goal.loop-x-init
-loop-x-init c = (omega arith, (refl, (c.build.auto.marks ∙ c.rounds.invariant.0, λ y l. absurd (omega arith))))
+loop-x-init c = stays
+
+pub loop-x-2-init : goal.loop-x-2-init
+loop-x-2-init c = stays
+
+pub loop-x-2-preserved : goal.loop-x-2-preserved
+loop-x-2-preserved c = reaches-on c.loop-x-2.invariant c.build_row.ensures
+
+pub returns-in_default : goal.returns-in_default
+returns-in_default c = record { reached = reaches-on c.loop-x.invariant c.loop-x-2.invariant; idle = c.in_default.ensures }
+
+pub loop-x-smaller : goal.loop-x-smaller
+loop-x-smaller c = let h = c.in-Some.ensures in rw c.from.ensures (gained-falls h.1 c.loop-x-2.invariant (search rules) h.0)
 
 pub loop-x-preserved : goal.loop-x-preserved
-loop-x-preserved c = (omega arith, (c.loop-x.invariant.1.0, (c.loop-x.invariant.1.1.0, rows_more c.row_gain-gained.ensures c.loop-x.invariant.1.1.1 (omega (arith, c.if-gained-lt-ABSENT.false)))))
-
-pub rounds-smaller : goal.rounds-smaller
-rounds-smaller c = gained-falls c.row_gain-gained.ensures (reaches_same c.build.ensures c.loop-x.invariant.1.0) c.loop-x.invariant.1.1.0 (omega (arith, c.if-gained-lt-ABSENT.true))
-
-pub rounds-preserved : goal.rounds-preserved
-rounds-preserved c = (
-  simp length-set c.loop-x.invariant.1.1.0,
-  gained-reached c.row_gain-gained.ensures (reaches-on c.rounds.invariant.1 (reaches_same c.build.ensures c.loop-x.invariant.1.0)) (omega (arith, c.loop-x-test.true)) (omega (arith, c.if-gained-lt-ABSENT.true)),
-)
-
-pub returns : goal.returns
-returns c = record {
-  reached = reaches-on c.rounds.invariant.1 (reaches_same c.build.ensures c.loop-x.invariant.1.0);
-  idle = λ x l. c.loop-x.invariant.1.1.1 x (omega (arith, c.loop-x-test.false));
-}
+loop-x-preserved c = let h = c.in-Some.ensures in rw c.from.ensures (gained-reached h.1 (reaches-on c.loop-x.invariant c.loop-x-2.invariant) h.0)

@@ -1,17 +1,13 @@
--- `row_gain` finds a class that a row gives in some run. The loop's invariant: in the runs passed the row gives nothing new. Assumes nothing.
-use native.Mathlib.Omega.{arith}
-use Rattle.knowledge.specs.laws.Steps.{row-gains, idle-more}
-use Rattle.knowledge.specs.Steps.{row_idles}
+-- `row_gain` finds a class that a row gives in some run. Assumes nothing.
+use Rattle.std.proofs.Common.{rules, tests, arith, ℕ, ◌<◌}
+use Rattle.cells.specs.Cells.{absent}
+use Rattle.cells.specs.laws.Ranges.{find_map-range_to}
+use Rattle.knowledge.specs.Steps.{GainedAt}
+use Rattle.knowledge.specs.laws.Steps.{row-gains, row-idles}
 use Rattle.knowledge.proofs.row_gain.Goals as goal
 
-pub loop-u-init : goal.loop-u-init
-loop-u-init c = (omega arith, λ w l. absurd (omega arith))
-
-pub returns-then-class-lt-ABSENT : goal.returns-then-class-lt-ABSENT
-returns-then-class-lt-ABSENT c = row-gains c.args.x c.loop-u.u c.loop-u-test.true c.gain-class.ensures c.if-class-lt-ABSENT.true
-
-pub loop-u-preserved : goal.loop-u-preserved
-loop-u-preserved c = (omega arith, idle-more c.args.x c.loop-u.u c.loop-u.invariant.1 c.gain-class.ensures c.if-class-lt-ABSENT.false)
-
 pub returns : goal.returns
-returns c = row_idles (omega arith) (λ w l. c.loop-u.invariant.1 w (omega (arith, c.loop-u-test.false)))
+returns c =
+    let At : ℕ → ℕ → Type 0 = GainedAt c.args.t.now c.args.n c.args.runs c.args.classes.now c.args.marks.now c.args.x in
+    find_map-range_to _ (λ u class. (class < absent) × At u class) (λ u. At u absent) (λ x y q k. search (rules, tests)) (λ x y k. search (rules, tests)) (λ x k. search (rules, tests)) _ c.new.ensures.exhausted c.find_map.ensures.runs
+    (λ none. row-idles (λ u l. none u (omega arith) (omega (arith, c.new.ensures.end)))) (λ class u lo hi h. (h.0, row-gains c.args.x u (omega (arith, c.new.ensures.end)) h.1 h.0))

@@ -1,12 +1,14 @@
 -- The laws of steps, as the functions take them: what is read, what is given, and what is reached. Assumes nothing.
-use Rattle.std.specs.Prelude.{ℕ, ◌+◌, ◌/◌, ◌%◌, ◌<◌, ◌≤◌, ◌≡◌, refl, Bool, true, false, List, length, get_or, set}
-use Rattle.std.proofs.Common.{eq-or-lt_of_le, arith, sym, ◌∙◌, inl, inr, ⊎_elim}
+use Rattle.std.specs.Option.{unwrap_or}
+use Rattle.std.specs.Bool.{then_some}
+use Rattle.std.specs.Prelude.{ℕ, Option, Some, None, MatchOption, ltb, ◌<◌, ◌≤◌, ◌≡◌, refl, Bool, true, false, List, length, get_or, set}
+use Rattle.std.proofs.Common.{ltb-true, ltb-false, arith, sym, ◌∙◌, inl, inr}
 use Rattle.std.proofs.Math.Decide.{dec_lt}
 use Rattle.std.proofs.Math.ListN.{get_or-eq_default}
 use Rattle.rows.specs.Rows.{Shape}
 use Rattle.cells.specs.Cells.{cell_of, cell_count, absent, Found}
 use Rattle.cells.specs.laws.Cells.{left-lower, second-lower, second-right}
-use Rattle.knowledge.specs.Steps.{class_at, On, kind_at, left_at, right_at, Inside, InverseKinds, Opening, by_other, by_itself, by_none, Gives, gives_whole, gives_first, gives_second, gives_content, Idle, Gained, gains, idles, IdleAt, GainedAt, RowGained, row_gains, row_idles, Reaches, stays, grows, missing}
+use Rattle.knowledge.specs.Steps.{class_at, On, kind_at, left_at, right_at, Inside, InverseKinds, pk_sk, sk_pk, Opening, by_other, by_itself, Gives, gives_whole, gives_first, gives_second, gives_content, Idle, Gained, gains, idles, IdleAt, GainedAt, RowGained, row_gains, row_idles, AllIdle, SomeGained, Reaches, stays, grows, missing}
 use Rattle.knowledge.specs.laws.Filled.{marked, missing-set, missing-falls}
 
 -- a class that is absent has no mark
@@ -46,28 +48,22 @@ module _ {bytes : List ℕ} {n runs : ℕ} {classes : List ℕ} where
   reaches_whole {marks = marks} {u = u} p i ek k el es ec c ef eb tb eg ed td q =
       rw q (grows p i (gives_whole (omega arith) (marked marks eb tb (rw el at ef)) (marked marks ed td (rw es at eg)) ec) c)
 
-module _ (bytes : List ℕ) (n runs : ℕ) (shape : Shape bytes n runs) (classes : List ℕ) (marks : List Bool) (key : ℕ) where
-  -- a class that is no cell of the table opens nothing
-  pub opening-row : n ≤ key % 96 → Opening bytes n runs classes marks key false
-  opening-row l = by_none (λ x w i e. omega (arith, i.0, shape.few)) refl
+-- both are kinds of keys
+pub inverse-key : {kind other : ℕ} → InverseKinds kind other → (8 ≤ kind) × (8 ≤ other)
+inverse-key pk_sk = (omega arith, omega arith)
+inverse-key sk_pk = (omega arith, omega arith)
 
-  pub opening-run : runs < key / 96 → Opening bytes n runs classes marks key false
-  opening-run l = by_none (λ x w i e. omega (arith, i.0, i.1, shape.few)) refl
+module _ {bytes : List ℕ} {n runs : ℕ} {classes : List ℕ} {marks : List Bool} {key x u : ℕ} (own : key ≡ cell_of x u) (inside : Inside n runs x u) {k : ℕ} (ek : k ≡ kind_at bytes x) where
+  -- a public or secret key opens by the other key of its agent
+  pub opening-other : length marks ≡ cell_count → {other l a : ℕ} {r : Bool} → InverseKinds k other → l ≡ left_at bytes x → a ≡ class_at classes l u
+      → (o : Option ℕ) → MatchOption o (Found bytes n runs classes other a a absent) (λ f. (f < absent) × Found bytes n runs classes other a a f) → MatchOption o (r ≡ false) (λ f. r ≡ get_or marks f false)
+      → Opening bytes n runs classes marks key r
+  opening-other sized p el ea None f er = by_other x u absent own inside p (sym ek) (rw (rw el at ea) at f) (er ∙ off marks sized (omega arith))
+  opening-other sized p el ea (Some found) f er = by_other x u found own inside p (sym ek) (rw (rw el at ea) at f.1) er
 
-  -- the cell that gives a class its number
-  own-cell : key ≡ cell_of (key % 96) (key / 96)
-  own-cell = omega arith
-
-  module _ (row : key % 96 < n) (run : key / 96 ≤ runs) {k : ℕ} (ek : k ≡ kind_at bytes (key % 96)) where
-    -- a public or secret key opens by the other key of its agent
-    pub opening-other : {kind other l a found : ℕ} {r : Bool} → InverseKinds kind other → k ≡ kind → l ≡ left_at bytes (key % 96) → a ≡ class_at classes l (key / 96)
-        → Found bytes n runs classes other a a found → r ≡ get_or marks found false → Opening bytes n runs classes marks key r
-    opening-other {found = found} p e el ea f er =
-        by_other (key % 96) (key / 96) found own-cell (row, run) p (sym ek ∙ e) (rw (rw el at ea) at f) er
-
-    -- every other key opens by itself
-    pub opening-itself : {r : Bool} → (k ≡ 8 → ⊥) → (k ≡ 9 → ⊥) → r ≡ get_or marks key false → Opening bytes n runs classes marks key r
-    opening-itself f g er = by_itself (key % 96) (key / 96) own-cell (row, run) (λ e. f (ek ∙ e)) (λ e. g (ek ∙ e)) er
+  -- every other key opens by itself
+  pub opening-itself : {r : Bool} → (k ≡ 8 → ⊥) → (k ≡ 9 → ⊥) → r ≡ get_or marks key false → Opening bytes n runs classes marks key r
+  opening-itself f g er = by_itself x u own inside (λ e. f (ek ∙ e)) (λ e. g (ek ∙ e)) er
 
 module _ {bytes : List ℕ} {n runs : ℕ} {classes : List ℕ} {marks : List Bool} {kind whole left right : ℕ} where
   -- a class that is given and not marked is gained, unless it is absent
@@ -105,6 +101,11 @@ module _ {bytes : List ℕ} {n runs : ℕ} {classes : List ℕ} {marks : List Bo
   content-shut f o p e =
       idles (omega arith) (record { has_whole = λ h a b c. o; has_first = λ q. absurd (f q); has_second = λ q. absurd (f q); has_content = λ h a c. inr (rw e at p) })
 
+  pub content-either : 11 ≤ kind → (kind ≡ 11 → ⊥) → On marks whole → (On marks left → ⊥) → {b : Bool} → Opening bytes n runs classes marks right b
+      → Gained bytes n runs classes marks kind whole left right (unwrap_or (then_some b left) 480)
+  content-either k f o l {b = true} p = content-left k f o l p refl
+  content-either k f o l {b = false} p = content-shut f o p refl
+
   module _ (f : On marks whole → ⊥) where
     -- one that is not marked gives itself, if its parts are
     pub whole-gained : 11 ≤ kind → On marks left → On marks right → Gained bytes n runs classes marks kind whole left right whole
@@ -125,38 +126,55 @@ module _ {bytes : List ℕ} {n runs : ℕ} {classes : List ℕ} {marks : List Bo
       → s ≡ right_at bytes x → right ≡ class_at classes s u → Gained bytes n runs classes marks k whole left right class → GainedAt bytes n runs classes marks x u class
   gained-at ek ew el ef es eg g = rw (ek, ew, rw el at ef, rw es at eg) at g
 
+  -- what is given is gained if it has a class
+  pub class-kept : (o r : Option ℕ) → GainedAt bytes n runs classes marks x u (unwrap_or o 480) → MatchOption o (r ≡ None) (λ class. (b : Bool) × (b ≡ ltb class 480) × (r ≡ then_some b class))
+      → MatchOption r (GainedAt bytes n runs classes marks x u absent) (λ class. (class < absent) × GainedAt bytes n runs classes marks x u class)
+  class-kept None r g e = rw e g
+  class-kept (Some class) r g (b, e, q) = rw q (go b e)
+    where
+      none : GainedAt bytes n runs classes marks x u class → absent ≤ class → GainedAt bytes n runs classes marks x u absent
+      none (gains g b f) l = absurd (omega arith)
+      none (idles a i) l = idles (omega arith) i
+
+      go : (b : Bool) → b ≡ ltb class 480 → MatchOption (then_some b class) (GainedAt bytes n runs classes marks x u absent) (λ class. (class < absent) × GainedAt bytes n runs classes marks x u class)
+      go true e = (ltb-true class 480 (sym e), g)
+      go false e = none g (ltb-false class 480 (sym e))
+
   -- a class that is gained in a run is gained by the row
   pub row-gains : {class : ℕ} → u ≤ runs → GainedAt bytes n runs classes marks x u class → class < absent → RowGained bytes n runs classes marks x class
   row-gains l (gains g b f) h = row_gains u l g b f
   row-gains l (idles a i) h = absurd (omega arith)
 
-  -- one more run in which nothing is gained
-  pub idle-more : {class : ℕ} → ((w : ℕ) → w < u → IdleAt bytes n runs classes marks x w) → GainedAt bytes n runs classes marks x u class → absent ≤ class
-      → (w : ℕ) → w < u + 1 → IdleAt bytes n runs classes marks x w
-  idle-more below (gains g b f) h = absurd (omega arith)
-  idle-more below (idles a i) h = λ w l. ⊎_elim (λ (e : w ≡ u). rw e i) (λ (k : w < u). below w k) (eq-or-lt_of_le (omega arith))
+module _ {bytes : List ℕ} {n runs : ℕ} {classes : List ℕ} {marks : List Bool} where
+  -- where nothing is gained in any run, the row gains nothing
+  pub row-idles : {x : ℕ} → ((u : ℕ) → u ≤ runs → GainedAt bytes n runs classes marks x u absent) → RowGained bytes n runs classes marks x absent
+  row-idles {x} none = row_idles (omega arith) (λ u l. idle u (none u l))
+    where
+      idle : (u : ℕ) → GainedAt bytes n runs classes marks x u absent → IdleAt bytes n runs classes marks x u
+      idle u (gains g b f) = absurd (omega arith)
+      idle u (idles a i) = i
 
-module _ {bytes : List ℕ} {n runs : ℕ} {classes : List ℕ} {marks : List Bool} {x class : ℕ} (g : RowGained bytes n runs classes marks x class) where
+  -- and where no row gains anything, all are idle
+  pub rows-idle : ((x : ℕ) → x < n → RowGained bytes n runs classes marks x absent) → AllIdle bytes n runs classes marks
+  rows-idle none x l = idle (none x l)
+    where
+      idle : {x : ℕ} → RowGained bytes n runs classes marks x absent → (u : ℕ) → u ≤ runs → IdleAt bytes n runs classes marks x u
+      idle (row_gains u k g b f) = absurd (omega arith)
+      idle (row_idles a i) = i
+
+module _ {bytes : List ℕ} {n runs : ℕ} {classes : List ℕ} {marks : List Bool} {class : ℕ} where
   -- a class that a row gains is reached, and fewer are missing
-  pub gained-reached : {start : List Bool} → Reaches bytes n runs classes start marks → x < n → class < absent → Reaches bytes n runs classes start (set marks class true)
-  gained-reached {start} r l b = go g
+  pub gained-reached : {start : List Bool} → SomeGained bytes n runs classes marks class → Reaches bytes n runs classes start marks → class < absent → Reaches bytes n runs classes start (set marks class true)
+  gained-reached {start} (x, l, g) r b = go g
     where
       go : RowGained bytes n runs classes marks x class → Reaches bytes n runs classes start (set marks class true)
       go (row_gains u k h c f) = grows r (l, k) h c
       go (row_idles a i) = absurd (omega arith)
 
-  pub gained-falls : {before : List Bool} → Reaches bytes n runs classes before marks → length marks ≡ cell_count → class < absent → missing (set marks class true) < missing before
-  gained-falls {before} r sized b = go g
+  pub gained-falls : {before : List Bool} → SomeGained bytes n runs classes marks class → Reaches bytes n runs classes before marks → length marks ≡ cell_count → class < absent
+      → missing (set marks class true) < missing before
+  gained-falls {before} (x, l, g) r sized b = go g
     where
       go : RowGained bytes n runs classes marks x class → missing (set marks class true) < missing before
       go (row_gains u k h c f) = omega (arith, missing-falls marks class (omega arith) f, reaches-missing r)
       go (row_idles a i) = absurd (omega arith)
-
-  -- one more row that gains nothing
-  pub rows_more : ((y : ℕ) → y < x → (u : ℕ) → u ≤ runs → IdleAt bytes n runs classes marks y u) → absent ≤ class
-      → (y : ℕ) → y < x + 1 → (u : ℕ) → u ≤ runs → IdleAt bytes n runs classes marks y u
-  rows_more below h y l = go g
-    where
-      go : RowGained bytes n runs classes marks x class → (u : ℕ) → u ≤ runs → IdleAt bytes n runs classes marks y u
-      go (row_gains u k i c f) = absurd (omega arith)
-      go (row_idles a i) = ⊎_elim (λ (e : y ≡ x). rw e i) (λ (k : y < x). below y k) (eq-or-lt_of_le (omega arith))

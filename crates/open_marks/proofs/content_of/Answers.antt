@@ -1,5 +1,5 @@
--- `content_of` finds the row beneath the encryptions of a row. The loop's invariant: the row is not above that row. The measure is the row. Assumes nothing.
-use native.Mathlib.Omega.{arith}
+-- `content_of` finds the row beneath the encryptions of a row. Assumes nothing.
+use Rattle.std.proofs.Common.{arith}
 use Rattle.open_marks.specs.laws.Rows.{parts-lower}
 use Rattle.open_marks.proofs.content_of.Goals as goal
 

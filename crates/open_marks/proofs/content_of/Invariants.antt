@@ -1,5 +1,5 @@
 -- `content_of` finds the row beneath the encryptions of a row. The loop's invariant: the row is not above that row. The measure is the row. Assumes nothing.
-use Prim.Native.Nat.{◌≤◌}
+use Rattle.std.proofs.Common.{◌≤◌}
 use Rattle.open_marks.proofs.content_of.Given as goal
 
 abbrev pub invariant-loop-y : goal.invariant-loop-y

@@ -1,18 +1,12 @@
--- `covers` tells whether the marks of a slot stand. The loop's invariant: those of the rows passed do. The measure is how many are left. Assumes nothing.
-use native.Mathlib.Omega.{arith}
-use mathlib.Core.Logic.{⊎_elim}
-use Rattle.open_marks.specs.laws.Kept.{stands-more}
+-- `covers` tells whether the marks of a slot stand. Assumes nothing.
+use Rattle.std.proofs.Common.{arith, rules, tests, ◌≡◌, true}
+use Rattle.std.proofs.lemmas.Bool.{false≢true}
+use Rattle.cells.specs.laws.Ranges.{all-range}
+use Rattle.knowledge.specs.Steps.{On}
+use Rattle.open_marks.specs.Sure.{note_at, SlotStands}
 use Rattle.open_marks.proofs.covers.Goals as goal
 
-pub loop-x-init : goal.loop-x-init
-loop-x-init c = (omega arith, λ y l. absurd (omega arith))
-
-pub loop-x-preserved : goal.loop-x-preserved
-loop-x-preserved c = (
-  omega arith,
-  stands-more c.args.marks.now c.args.notes.now c.args.slot c.loop-x.x c.loop-x.invariant.1
-      (⊎_elim (λ w m. cc) (λ w m. absurd (w.if-notes-slot-eq1.false m)) c.if-notes-slot-eq1.branch-raw),
-)
-
 pub returns : goal.returns
-returns c = λ e y l. c.loop-x.invariant.1 y (omega (arith, c.loop-x-test.false))
+returns c =
+    all-range _ (λ r. r ≡ true → SlotStands c.args.n c.args.marks.now c.args.notes.now c.args.slot) (λ x. note_at c.args.notes.now c.args.slot x ≡ 1 → On c.args.marks.now x) (λ x. Unit {0}) (λ x y q k. search (rules, tests)) (λ x k. search (rules, tests)) (λ x k. tt) _ c.all.ensures.runs
+    (λ each e x l. each x (omega arith) l) (λ x lo l h e. absurd (false≢true e))

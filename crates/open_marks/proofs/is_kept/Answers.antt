@@ -1,11 +1,11 @@
--- `is_kept` looks for a slot of a row whose marks stand. The measure is how many slots are left. Assumes nothing.
-use mathlib.Core.Path.{sym, ◌∙◌}
-use mathlib.Core.Bool.{false≢true}
+-- `is_kept` looks for a slot of a row whose marks stand. Assumes nothing.
+use Rattle.std.proofs.Common.{rules, tests, ◌≡◌, true}
+use Rattle.std.proofs.lemmas.Bool.{false≢true}
+use Rattle.cells.specs.laws.Ranges.{any-range}
+use Rattle.open_marks.specs.Sure.{owner_of, SlotStands, KeptFor}
 use Rattle.open_marks.proofs.is_kept.Goals as goal
 
-pub returns-then-covers : goal.returns-then-covers
-returns-then-covers c =
-    λ e. (c.loop-slot.slot, c.loop-slot-test.true, sym c.wide.ensures.0 ∙ c.if-wide-x.true, c.covers.ensures c.if-covers.true)
-
 pub returns : goal.returns
-returns c = λ e. absurd (false≢true e)
+returns c =
+    any-range _ (λ r. r ≡ true → KeptFor c.args.n c.args.marks.now c.args.notes.now c.args.x) (λ slot. (owner_of c.args.notes.now slot ≡ c.args.x) × SlotStands c.args.n c.args.marks.now c.args.notes.now slot) (λ slot. Unit {0}) (λ x y q k. search (rules, tests)) (λ slot k. search (rules, tests)) (λ slot k. tt) _ c.any.ensures.runs
+    (λ slot lo l h e. (slot, l, h.0, h.1)) (λ none e. absurd (false≢true e))

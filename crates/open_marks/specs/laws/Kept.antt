@@ -1,12 +1,11 @@
 -- The laws of the notes: marks kept in slots, with which a row was found readable. Assumes nothing.
-use Rattle.std.specs.Prelude.{ℕ, ◌+◌, ◌*◌, ◌<◌, ◌≤◌, ◌≡◌, refl, Bool, List, length, get_or, set, replicate}
+use Rattle.std.specs.Prelude.{ℕ, ◌+◌, ◌*◌, ◌<◌, ◌≤◌, ◌≡◌, Bool, List, length, get_or, set, replicate}
 use Rattle.std.proofs.Math.Decide.{ℕ_discrete}
-use Rattle.std.proofs.Common.{arith, ◌∙◌, eq-or-lt_of_le, ⊎_elim, length-set, get_or-set_same, get_or-set_other}
+use Rattle.std.proofs.Common.{arith, ◌∙◌, length-set, get_or-set_same, get_or-set_other}
 use Rattle.semantics.specs.Table.{Row}
 use Rattle.std.proofs.lemmas.List.{length-replicate, get_or-replicate}
 use Rattle.rows.specs.Rows.{rows_of, Shape}
-use Rattle.knowledge.specs.Steps.{On}
-use Rattle.open_marks.specs.Sure.{note_count, Sure, note_at, owner_of, SlotStands, KeptFor, SlotFilled, KeptIn, Notes}
+use Rattle.open_marks.specs.Sure.{note_count, Sure, owner_of, SlotStands, KeptFor, SlotFilled, KeptIn, Notes}
 use Rattle.open_marks.specs.laws.Rows.{term-below}
 use Rattle.open_marks.specs.laws.Sure.{sure-more}
 
@@ -49,34 +48,6 @@ module _ (bytes : List ℕ) (n : ℕ) (shape : Shape bytes n 0) (notes : List �
       go slot l u marks' stands (no d) =
           let z = stored.owners slot l d in
           rw z (are.kept slot l (λ y. u (z ∙ y)) marks' (λ y b o. stands y b (stored.others slot d y (omega (arith, shape.count, shape.few)) ∙ o)))
-
--- the marks of a slot stand up to a row
-abbrev pub StandsTo : List Bool → List ℕ → ℕ → ℕ → Type 0
-StandsTo marks notes slot x = (y : ℕ) → y < x → note_at notes slot y ≡ 1 → On marks y
-
-pub stands-more : (marks : List Bool) (notes : List ℕ) (slot x : ℕ) → StandsTo marks notes slot x → (note_at notes slot x ≡ 1 → On marks x) → StandsTo marks notes slot (x + 1)
-stands-more marks notes slot x to f y l = ⊎_elim (λ (q : y ≡ x). rw q f) (λ (m : y < x). to y m) (eq-or-lt_of_le (omega arith))
-
--- at first a slot has none of the marks
-pub filled-start : (marks : List Bool) (slot : ℕ) (notes : List ℕ) → SlotFilled 0 marks slot notes notes
-filled-start marks slot notes = record { size = refl; filled = λ y l. absurd (omega arith); others = λ other d y l. refl; front = λ i l. refl }
-
--- then one after the other
-pub filled_more : (marks : List Bool) (slot x : ℕ) (notes after : List ℕ) (b : ℕ) → x < 96 → 256 + slot * 96 + x < length after → (On marks x → b ≡ 1)
-    → SlotFilled x marks slot notes after → SlotFilled (x + 1) marks slot notes (set after (256 + slot * 96 + x) b)
-filled_more marks slot x notes after b l k f to = record {
-  size = length-set after (256 + slot * 96 + x) b ∙ to.size;
-  filled = λ y m. ⊎_elim
-      (λ (q : y ≡ x). rw q (λ o. get_or-set_same after (256 + slot * 96 + x) b 0 k ∙ f o))
-      (λ (h : y < x) o. get_or-set_other after (256 + slot * 96 + x) (256 + slot * 96 + y) b 0 (λ e. omega arith) ∙ to.filled y h o)
-      (eq-or-lt_of_le (omega arith));
-  others = λ other d y h. get_or-set_other after (256 + slot * 96 + x) (256 + other * 96 + y) b 0 (λ e. d (omega arith)) ∙ to.others other d y h;
-  front = λ i h. get_or-set_other after (256 + slot * 96 + x) i b 0 (λ e. omega arith) ∙ to.front i h;
-}
-
--- and so up to each row
-pub filled-less : (n : ℕ) (marks : List Bool) (slot x : ℕ) (notes after : List ℕ) → n ≤ x → SlotFilled x marks slot notes after → SlotFilled n marks slot notes after
-filled-less n marks slot x notes after l to = record { size = to.size; filled = λ y m. to.filled y (omega arith); others = to.others; front = to.front }
 
 -- marks kept in a slot that is made a row's
 pub stored : (n : ℕ) (marks : List Bool) (x slot next : ℕ) (notes after : List ℕ) → slot < 128 → length notes ≡ note_count → SlotFilled n marks slot notes after

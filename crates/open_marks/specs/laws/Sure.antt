@@ -1,6 +1,6 @@
 -- The laws of sure rows: readable wherever marks hold, by a row's kind; marks that gain a row; and what an answer says. Assumes nothing.
-use Rattle.std.specs.Prelude.{ℕ, zero, suc, ◌+◌, ◌<◌, ◌≤◌, ◌≡◌, refl, Bool, true, false, cond, length, get_or, set, replicate}
-use Rattle.std.proofs.Common.{eq-or-lt_of_le, zero-add, arith, sym, ◌∙◌, inl, inr, ⊎_elim, true≢false, get_or-set_same, get_or-set_other}
+use Rattle.std.specs.Prelude.{Option, Some, ℕ, zero, suc, ◌+◌, ◌<◌, ◌≤◌, ◌≡◌, refl, Bool, true, false, cond, length, get_or, set, replicate}
+use Rattle.std.proofs.Common.{eq-or-lt_of_le, zero-add, arith, sym, ◌∙◌, ⊎_elim, true≢false, get_or-set_same, get_or-set_other}
 use Rattle.std.proofs.lemmas.Bool.{false≢true}
 use mathlib.Core.List.Memᴰ
 use mathlib.Core.List.Memᴰ.{head as here}
@@ -175,8 +175,8 @@ module _ (rows : List Row) (marks sure : List Bool) (are : SureRows rows marks s
   rows-sure more f x o = sure-more rows marks more f x (are x o)
 
   -- and one more, if it was found
-  pub rows-added : (more : List Bool) (c : ℕ) (found : Bool) → Added c found sure more → (found ≡ true → Sure rows marks c) → SureRows rows marks more
-  rows-added more c found a f y o = ⊎_elim (are y) (λ w. rw w.0 (f w.1)) (a y o)
+  pub rows-added : (more : List Bool) (found : Option ℕ) → Added found sure more → ((c : ℕ) → found ≡ Some c → Sure rows marks c) → SureRows rows marks more
+  rows-added more found a f y o = ⊎_elim (are y) (f y) (a y o)
 
 module _ (bytes : List ℕ) (n : ℕ) (shape : Shape bytes n 0) (marks : List Bool) {s l : ℕ} (one other both : List Bool) (gains : Gains (rows_of bytes) s marks one)
     (gains' : Gains (rows_of bytes) l marks other) (common : Shared n one other both) where
@@ -216,10 +216,3 @@ shared-more one other both x v l is are = record {
 
 pub shared-less : (n x : ℕ) (one other both : List Bool) → n ≤ x → Shared x one other both → Shared n one other both
 shared-less n x one other both l are = record { from = are.from; onto = λ y h. are.onto y (omega arith) }
-
--- one mark more that was found, or none
-pub added-found : (marks : List Bool) (x : ℕ) (found : Bool) → found ≡ true → Added x found marks (set marks x true)
-added-found marks x found e y o = ⊎_elim (λ q. inr (q, e)) inl (set_on marks x y o)
-
-pub added_none : (marks : List Bool) (x : ℕ) (found : Bool) → Added x found marks marks
-added_none marks x found y o = inl o

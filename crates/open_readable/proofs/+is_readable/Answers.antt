@@ -2,9 +2,11 @@
 use Prim.Native.Nat.{ℕ, ◌<◌}
 use native.Mathlib.Omega.{arith}
 use mathlib.Core.Path.{◌≡◌, refl, sym, ◌∙◌}
-use mathlib.Core.Bool.{Bool, true}
+use mathlib.Core.Bool.{Bool, true, false}
 use mathlib.Core.List.{List}
 use borrow.Author.Rules.{rules}
+use Rattle.std.specs.Prelude.{Option, Some, IfSome}
+use Rattle.std.specs.Bool.{then_some}
 use Rattle.rows.specs.Rows.{rows_of, Shape}
 use Rattle.knowledge.specs.Steps.{kind_at, left_at, right_at}
 use Rattle.open_marks.specs.Sure.{Sure, SureRows, Gains, Shared, Added}
@@ -41,22 +43,31 @@ is-encrypted t c = sym c.kind_of-kind.ensures.0 ∙ c.if-kind-eq-ENCRYPTED.true
 low-content : (t : ℕ) (c : After-right_of t) → (left_at c.args.t.now c.args.x < c.args.x) × (right_at c.args.t.now c.args.x < c.args.x)
 low-content t c = parts-lower c.args.t.now c.args.n c.requires.0 c.args.x c.requires.1.1.1.1 c.kind_of-kind.ensures.0 (omega (arith, c.if-kind-eq-ENCRYPTED.true))
 
+-- a row that was tried is one of the 96, and the row of which it was found is sure
+tried-fits : (found : Bool) {c : ℕ} {row : Option ℕ} → row ≡ then_some found c → c < 96 → IfSome row (λ x. x < 96)
+tried-fits true e l = rw e l
+tried-fits false e l = rw e tt
+
+found-sure : (P : ℕ → Type 0) (found : Bool) (c : ℕ) {y : ℕ} → then_some found c ≡ Some y → (found ≡ true → P c) → P y
+found-sure P true c {y} e f = let q : c ≡ y = cc in rw (← q) (f refl)
+found-sure P false c e f = cc
+
 module _ (bytes : List ℕ) {n : ℕ} (shape : Shape bytes n 0) {marks one other both : List Bool} {s l : ℕ} (gains : Gains (rows_of bytes) s marks one) (gains' : Gains (rows_of bytes) l marks other)
     (common : Shared n one other both) (sure : List Bool) (are : SureRows (rows_of bytes) marks sure) where
   -- the rows that were sure are sure with the common marks
   sure-both : SureRows (rows_of bytes) both sure
   sure-both = rows-sure (rows_of bytes) marks sure are both (common-before bytes n shape marks one other both gains gains' common)
 
-  module _ (more : List Bool) {c : ℕ} {found : Bool} (is-added : Added c found sure more) (is-found : found ≡ true → Sure (rows_of bytes) both c) where
+  module _ (more : List Bool) (c : ℕ) {found : Bool} {row : Option ℕ} (row-is : row ≡ then_some found c) (is-added : Added row sure more) (is-found : found ≡ true → Sure (rows_of bytes) both c) where
     -- and so are these with what was found beneath the first part
     sure-more : SureRows (rows_of bytes) both more
-    sure-more = rows-added (rows_of bytes) both sure sure-both more c found is-added is-found
+    sure-more = rows-added (rows_of bytes) both sure sure-both more row is-added (λ y e. found-sure (Sure (rows_of bytes) both) found c (sym row-is ∙ e) is-found)
 
     -- with what was found beneath the second too, they are sure with the marks of either way
-    sure-parts : (most : List Bool) {d : ℕ} {found_too : Bool} → Added d found_too more most → (found_too ≡ true → Sure (rows_of bytes) both d)
+    sure-parts : (most : List Bool) (d : ℕ) {found_too : Bool} {row' : Option ℕ} → row' ≡ then_some found_too d → Added row' more most → (found_too ≡ true → Sure (rows_of bytes) both d)
         → SureRows (rows_of bytes) one most × SureRows (rows_of bytes) other most
-    sure-parts most {d} {found_too} is-added' is-found' =
-        let all = rows-added (rows_of bytes) both more sure-more most d found_too is-added' is-found' in (
+    sure-parts most d {found_too} {row'} row-is' is-added' is-found' =
+        let all = rows-added (rows_of bytes) both more sure-more most row' is-added' (λ y e. found-sure (Sure (rows_of bytes) both) found_too d (sym row-is' ∙ e) is-found') in (
           rows-sure (rows_of bytes) both most all one (common-one bytes n shape marks one other both gains gains' common),
           rows-sure (rows_of bytes) both most all other (common-other bytes n shape marks one other both gains gains' common),
         )
@@ -98,7 +109,7 @@ is_readable-found-requires t c =
 pub added-more-requires : goal.added-more-requires
 added-more-requires t c =
     let low = low-parts t (goal.at.added-more-requires t c).After-right_of-s in
-    omega (arith, c.content_of-c.ensures, low.0, c.requires.1.1.1.1, c.requires.0.few)
+    tried-fits c.is_readable-found.result c.then_some.ensures (omega (arith, c.content_of-c.ensures, low.0, c.requires.1.1.1.1, c.requires.0.few))
 
 pub content_of-d-requires : goal.content_of-d-requires
 content_of-d-requires t c =
@@ -108,18 +119,18 @@ content_of-d-requires t c =
 pub is_readable-found_too-requires : goal.is_readable-found_too-requires
 is_readable-found_too-requires t c =
     let low = low-parts t (goal.at.is_readable-found_too-requires t c).After-right_of-s in
-    let first = sure-more c.args.t.now c.requires.0 c.learned-with_second.ensures.1 c.learned-with_first.ensures.1 c.shared-both.ensures c.args.sure c.requires.1.1.0 c.added-more.result c.added-more.ensures c.is_readable-found.ensures.0.yes in
+    let first = sure-more c.args.t.now c.requires.0 c.learned-with_second.ensures.1 c.learned-with_first.ensures.1 c.shared-both.ensures c.args.sure c.requires.1.1.0 c.added-more.result c.content_of-c.result c.then_some.ensures c.added-more.ensures c.is_readable-found.ensures.0.yes in
     (omega (arith, c.content_of-d.ensures, low.1), (c.requires.0, (c.requires.1.0, (first, (c.is_readable-found.ensures.1, omega (arith, c.content_of-d.ensures, low.1, c.requires.1.1.1.1))))))
 
 pub added-most-requires : goal.added-most-requires
 added-most-requires t c =
     let low = low-parts t (goal.at.added-most-requires t c).After-right_of-s in
-    omega (arith, c.content_of-d.ensures, low.1, c.requires.1.1.1.1, c.requires.0.few)
+    tried-fits c.is_readable-found_too.result c.then_some-then-kind-eq-PAIR.ensures (omega (arith, c.content_of-d.ensures, low.1, c.requires.1.1.1.1, c.requires.0.few))
 
 pub is_readable-requires : goal.is_readable-requires
 is_readable-requires t c =
     let low = low-parts t (goal.at.is_readable-requires t c).After-right_of-s in
-    let parts = sure-parts c.args.t.now c.requires.0 c.learned-with_second.ensures.1 c.learned-with_first.ensures.1 c.shared-both.ensures c.args.sure c.requires.1.1.0 c.added-more.result c.added-more.ensures c.is_readable-found.ensures.0.yes c.added-most.result c.added-most.ensures c.is_readable-found_too.ensures.0.yes in
+    let parts = sure-parts c.args.t.now c.requires.0 c.learned-with_second.ensures.1 c.learned-with_first.ensures.1 c.shared-both.ensures c.args.sure c.requires.1.1.0 c.added-more.result c.content_of-c.result c.then_some.ensures c.added-more.ensures c.is_readable-found.ensures.0.yes c.added-most.result c.content_of-d.result c.then_some-then-kind-eq-PAIR.ensures c.added-most.ensures c.is_readable-found_too.ensures.0.yes in
     (omega (arith, low.0), (c.requires.0, (c.requires.1.0, (parts.0, (c.is_readable-found_too.ensures.1, omega (arith, low.0, c.requires.1.1.1.1))))))
 
 pub returns-then-not-is_readable : goal.returns-then-not-is_readable
@@ -132,7 +143,7 @@ returns-then-not-is_readable t c =
 pub is_readable-requires-then-kind-eq-PAIR : goal.is_readable-requires-then-kind-eq-PAIR
 is_readable-requires-then-kind-eq-PAIR t c =
     let low = low-parts t (goal.at.is_readable-requires-then-kind-eq-PAIR t c).After-right_of-s in
-    let parts = sure-parts c.args.t.now c.requires.0 c.learned-with_second.ensures.1 c.learned-with_first.ensures.1 c.shared-both.ensures c.args.sure c.requires.1.1.0 c.added-more.result c.added-more.ensures c.is_readable-found.ensures.0.yes c.added-most.result c.added-most.ensures c.is_readable-found_too.ensures.0.yes in
+    let parts = sure-parts c.args.t.now c.requires.0 c.learned-with_second.ensures.1 c.learned-with_first.ensures.1 c.shared-both.ensures c.args.sure c.requires.1.1.0 c.added-more.result c.content_of-c.result c.then_some.ensures c.added-more.ensures c.is_readable-found.ensures.0.yes c.added-most.result c.content_of-d.result c.then_some-then-kind-eq-PAIR.ensures c.added-most.ensures c.is_readable-found_too.ensures.0.yes in
     (omega (arith, low.1), (c.requires.0, (c.requires.1.0, (parts.1, (c.is_readable.ensures.1, omega (arith, low.1, c.requires.1.1.1.1))))))
 
 pub returns-then-not-is_readable-2 : goal.returns-then-not-is_readable-2

@@ -7,7 +7,6 @@ use lib.ListN.{length, take, drop}
 use Rattle.semantics.specs.Table.{Row}
 use Rattle.rows.specs.Rows.{rows_of}
 use Rattle.rows.specs.Rows.{Place}
-use Rattle.rows.specs.laws.Places.{none_left}
 use Rattle.records.specs.laws.Records.{rest-whole}
 use Rattle.open_wellformed.specs.WellFormed.{IllRole}
 use Rattle.open_wellformed.specs.laws.IllFormed.{block_start, block_none, block-good, event-near, block-ill, block_more}
@@ -37,7 +36,7 @@ loop-at-preserved c = (
   omega arith,
   (
     omega arith,
-    block_more (rows_of c.args.t.now) c.args.base c.args.b.now c.loop-at.i c.loop-at.at c.loop-at.invariant.1.1 c.loop-at-test.true (found c.args.b.now c.loop-at.at c.ill_formed_role.ensures) (none_left c.ill_formed_role.result c.in_default.not-Some)
+    block_more (rows_of c.args.t.now) c.args.base c.args.b.now c.loop-at.i c.loop-at.at c.loop-at.invariant.1.1 c.loop-at-test.true (found c.args.b.now c.loop-at.at c.ill_formed_role.ensures) c.in_default.is
         (rw rest-whole at c.role_length-at.ensures.0),
   ),
 )

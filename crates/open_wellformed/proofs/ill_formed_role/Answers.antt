@@ -1,5 +1,4 @@
--- `ill_formed_role` finds the first event of a role that is not well formed. The loop's invariant: it is that of the events from event j on, with what is known before it.
--- The measure is how many are left. Assumes nothing.
+-- `ill_formed_role` finds the first event of a role that is not well formed. Assumes nothing.
 use Prim.Native.Nat.{ℕ, ◌+◌, ◌*◌, ◌<◌, ◌≤◌}
 use native.Mathlib.Omega.{arith}
 use mathlib.Core.List.{List}
@@ -36,11 +35,9 @@ marks_of-marks-requires c =
     (c.requires.0, (c.requires.1.0, rw (listed-rows c.args.s.now c.wide-count.result c.wide-count.ensures.0) (λ r m. omega (arith, c.requires.1.1.knows r m, c.requires.0.count))))
 
 pub loop-j-init : goal.loop-j-init
-loop-j-init c = (
-  omega arith,
-  role_start (rows_of c.args.t.now) c.args.own c.args.s.now (2 + c.wide-count.result) c.wide-events.result (first-is c.args.s.now c.wide-count.ensures.0)
-      (count_of c.args.s.now c.wide-count.result c.wide-events.result c.wide-count.ensures.0 c.wide-events.ensures.0) (rw (listed-rows c.args.s.now c.wide-count.result c.wide-count.ensures.0) at c.marks_of-marks.ensures),
-)
+loop-j-init c =
+    role_start (rows_of c.args.t.now) c.args.own c.args.s.now (2 + c.wide-count.result) c.wide-events.result (first-is c.args.s.now c.wide-count.ensures.0)
+    (count_of c.args.s.now c.wide-count.result c.wide-events.result c.wide-count.ensures.0 c.wide-events.ensures.0) (rw (listed-rows c.args.s.now c.wide-count.result c.wide-count.ensures.0) at c.marks_of-marks.ensures)
 
 pub bounds-s-at : goal.bounds-s-at
 bounds-s-at c = omega (arith, whole (goal.at.bounds-s-at c).After-wide-events)
@@ -57,20 +54,18 @@ is_well_formed-requires c = (c.requires.0, (c.requires.1.0, row-below c.args.s.n
 pub returns-then-not-is_well_formed : goal.returns-then-not-is_well_formed
 returns-then-not-is_well_formed c =
     role-ill c.args.t.now c.args.n c.requires.0 c.args.own c.args.s.now (2 + c.wide-count.result) c.wide-events.result (whole (goal.at.returns-then-not-is_well_formed c).After-wide-events)
-    c.loop-j.j c.loop-j.marks c.loop-j.invariant.1 c.loop-j-test.true c.wide-event.ensures.0 c.wide-peer.ensures.0 c.wide-x.ensures.0
+    c.loop-j.j c.loop-j.marks c.loop-j.invariant c.loop-j-test.true c.wide-event.ensures.0 c.wide-peer.ensures.0 c.wide-x.ensures.0
     (is-event (goal.at.returns-then-not-is_well_formed c).In-loop-j) c.is_well_formed.ensures (c.if-not-is_well_formed.true) (omega arith)
 
 pub event_learned-more-requires : goal.event_learned-more-requires
 event_learned-more-requires c = (c.requires.0, (c.requires.1.0, row-below c.args.s.now (2 + c.wide-count.result + 4 * c.loop-j.j) c.requires.0 (is-event (goal.at.event_learned-more-requires c).In-loop-j) c.wide-x.ensures.0))
 
 pub loop-j-preserved : goal.loop-j-preserved
-loop-j-preserved c = (
-  omega (arith, c.loop-j-test.true),
-  role-more c.args.t.now c.args.n c.requires.0 c.args.own c.args.s.now (2 + c.wide-count.result) c.wide-events.result (whole (goal.at.loop-j-preserved c).After-wide-events)
-      c.loop-j.j c.loop-j.marks c.loop-j.invariant.1 c.loop-j-test.true c.wide-event.ensures.0 c.wide-peer.ensures.0 c.wide-x.ensures.0
-      (is-event (goal.at.loop-j-preserved c).In-loop-j) c.is_well_formed.ensures (c.if-not-is_well_formed.false) c.event_learned-more.result c.event_learned-more.ensures,
-)
+loop-j-preserved c =
+    role-more c.args.t.now c.args.n c.requires.0 c.args.own c.args.s.now (2 + c.wide-count.result) c.wide-events.result (whole (goal.at.loop-j-preserved c).After-wide-events)
+    c.loop-j.j c.loop-j.marks c.loop-j.invariant c.loop-j-test.true c.wide-event.ensures.0 c.wide-peer.ensures.0 c.wide-x.ensures.0
+    (is-event (goal.at.loop-j-preserved c).In-loop-j) c.is_well_formed.ensures (c.if-not-is_well_formed.false) c.event_learned-more.result c.event_learned-more.ensures
 
 pub returns : goal.returns
 returns c =
-    role-none (rows_of c.args.t.now) c.args.own c.args.s.now (2 + c.wide-count.result) c.wide-events.result c.loop-j.j c.loop-j.invariant.1 (omega (arith, c.loop-j-test.false))
+    role-none (rows_of c.args.t.now) c.args.own c.args.s.now (2 + c.wide-count.result) c.wide-events.result c.loop-j.j c.loop-j.invariant (omega (arith, c.loop-j-test.false))

@@ -1,11 +1,12 @@
 -- `is_well_formed` tells whether an event is well formed. Assumes nothing.
 use mathlib.Core.Path.{refl}
-use mathlib.Core.Logic.{inl, ⊎_elim}
+use mathlib.Core.Logic.{inl}
 use Rattle.rows.specs.Rows.{rows_of}
 use Rattle.open_wellformed.specs.laws.WellFormed.{own-unknown, peer-unknown, peer-found, was_read, was-other}
 use Rattle.open_marks.specs.laws.Sure.{sure-none, answer-reads}
 use Rattle.open_marks.specs.laws.Kept.{notes-none}
 use Rattle.open_wellformed.proofs.is_well_formed.Goals as goal
+use Rattle.open_wellformed.proofs.is_well_formed.Goals.{else-kind-ne-CLAIM-via-then-kind-ne-CLAIM+else-not-name_known-2 as peer-known, else-kind-ne-CLAIM-via-else-kind-ne-CLAIM as no-peer}
 
 pub returns-then-not-name_known : goal.returns-then-not-name_known
 returns-then-not-name_known c =
@@ -22,11 +23,11 @@ is_readable-requires c =
 pub returns-then-kind-eq-READ : goal.returns-then-kind-eq-READ
 returns-then-kind-eq-READ c =
     was_read c.args.t.now c.args.n c.requires.0 c.args.marks c.args.own c.args.kind c.args.peer c.args.x c.name_known.ensures (c.if-not-name_known.false)
-    (⊎_elim (λ w. peer-found (rows_of c.args.t.now) c.args.marks c.args.kind c.args.peer w.name_known-then-kind-ne-CLAIM.ensures w.if-not-name_known-2.false) (λ w. inl w.if-kind-ne-CLAIM.false) c.if-kind-ne-CLAIM.branch-raw)
+    (elim c.else-kind-ne-CLAIM.branch [ peer-known w ↦ peer-found (rows_of c.args.t.now) c.args.marks c.args.kind c.args.peer w.name_known-then-kind-ne-CLAIM.ensures w.if-not-name_known-2.false | no-peer w ↦ inl w.if-kind-ne-CLAIM.false ])
     c.if-kind-eq-READ.true (answer-reads c.args.t.now c.args.n c.requires.0 c.args.marks c.args.x c.is_readable.result c.is_readable.ensures.0)
 
 pub returns : goal.returns
 returns c =
     was-other c.args.t.now c.args.n c.requires.0 c.args.marks c.args.own c.args.kind c.args.peer c.args.x c.name_known.ensures (c.if-not-name_known.false)
-    (⊎_elim (λ w. peer-found (rows_of c.args.t.now) c.args.marks c.args.kind c.args.peer w.name_known-then-kind-ne-CLAIM.ensures w.if-not-name_known-2.false) (λ w. inl w.if-kind-ne-CLAIM.false) c.if-kind-ne-CLAIM.branch-raw)
+    (elim c.else-kind-ne-CLAIM.branch [ peer-known w ↦ peer-found (rows_of c.args.t.now) c.args.marks c.args.kind c.args.peer w.name_known-then-kind-ne-CLAIM.ensures w.if-not-name_known-2.false | no-peer w ↦ inl w.if-kind-ne-CLAIM.false ])
     c.if-kind-eq-READ.false refl

@@ -1,5 +1,4 @@
 -- `classes_of` gives the classes of the rows with their own names. Assumes nothing.
-use borrow.Author.Rules.{rules}
 use Rattle.role_level.specs.laws.RoleLevel.{role-classes}
 use Rattle.role_level.proofs.classes_of.Goals as goal
 

@@ -1,33 +1,20 @@
--- `listed_marks` marks the listed rows. The loop's invariant: those passed are marked, and no other; its measure is how many are left. Assumes nothing.
-use native.Mathlib.Omega.{arith}
-use borrow.Author.Rules.{rules}
-use Prim.Native.Nat.{ℕ, ◌+◌}
-use mathlib.Core.Path.{refl, sym, subst}
-use mathlib.Core.Bool.{true}
-use lib.ListN.{set, length-set}
-use Rattle.role_level.specs.laws.Loops.{ListedTo, listed-none, listed_more, listed-all, at_mem}
+-- `listed_marks` marks the listed rows. Assumes nothing.
+use Rattle.std.proofs.Common.{arith, refl, length-set}
+use Rattle.role_level.specs.laws.Loops.{listed-none, listed_more, listed-all, at_mem}
 use Rattle.role_level.proofs.listed_marks.Goals as goal
 
-pub loop-i-init : goal.loop-i-init
-loop-i-init c = (omega arith, refl, listed-none c.args.n c.args.list.now c.requires.0)
+pub loop-r-init : goal.loop-r-init
+loop-r-init c = (refl, listed-none c.args.n c.args.list.now c.requires.0)
 
-pub bounds-marks-wide : goal.bounds-marks-wide
-bounds-marks-wide c =
-    let l = c.requires.1 _ (at_mem c.args.list.now c.loop-i.i c.loop-i-test.true) in
-    omega (arith, l, c.wide.ensures.0, c.requires.0)
+pub bounds-marks-from : goal.bounds-marks-from
+bounds-marks-from c = omega (arith, c.requires.1 _ (at_mem c.args.list.now c.loop-r.r-index c.loop-r-test.true), c.from.ensures, c.requires.0)
 
-pub loop-i-smaller : goal.loop-i-smaller
-loop-i-smaller c = omega arith
-
-pub loop-i-preserved : goal.loop-i-preserved
-loop-i-preserved c =
-    let e = c.wide.ensures.0 in
-    let l = c.requires.1 _ (at_mem c.args.list.now c.loop-i.i c.loop-i-test.true) in (
-      omega arith,
-      simp length-set c.loop-i.invariant.1,
-      subst (λ (k : ℕ). ListedTo c.args.n c.args.list.now (c.loop-i.i + 1) (set c.loop-i.marks k true)) (sym e)
-          (listed_more c.args.n c.args.list.now c.loop-i.i c.loop-i.marks c.loop-i-test.true (omega (arith, l, c.requires.0, c.loop-i.invariant.1)) c.loop-i.invariant.2),
+pub loop-r-preserved : goal.loop-r-preserved
+loop-r-preserved c =
+    let low = c.requires.1 _ (at_mem c.args.list.now c.loop-r.r-index c.loop-r-test.true) in (
+      simp length-set c.loop-r.invariant.0,
+      rw c.from.ensures (listed_more c.args.n c.args.list.now c.loop-r.r-index c.loop-r.marks c.loop-r-test.true (omega (arith, low, c.requires.0, c.loop-r.invariant.0)) c.loop-r.invariant.1),
     )
 
 pub returns : goal.returns
-returns c = record { listed = listed-all c.args.n c.args.list.now c.loop-i.i c.loop-i.marks c.loop-i-test.false c.loop-i.invariant.2 }
+returns c = record { listed = listed-all c.args.n c.args.list.now c.loop-r.r-index c.loop-r.marks c.loop-r-test.false c.loop-r.invariant.1 }

@@ -1,5 +1,4 @@
 -- `marks_of` gives the marks of what derives from the listed rows. Assumes nothing.
-use borrow.Author.Rules.{rules}
 use Rattle.rows.specs.Rows.{rows_of}
 use Rattle.role_level.specs.RoleLevel.{role_readings, listed_terms}
 use Rattle.role_level.specs.laws.RoleLevel.{listed-cover}

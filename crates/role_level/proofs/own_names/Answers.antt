@@ -1,19 +1,11 @@
--- `own_names` gives each row its own name. The loop's invariant: the rows passed have theirs; its measure is how many are left. Assumes nothing.
-use native.Mathlib.Omega.{arith}
-use borrow.Author.Rules.{rules}
-use mathlib.Core.Path.{refl}
-use lib.ListN.{length-set}
-use Rattle.role_level.specs.laws.Loops.{own-more}
+-- `own_names` gives each row its own name. Assumes nothing.
+use Rattle.std.proofs.Common.{rules, tests, arith}
+use Rattle.cells.specs.laws.Ranges.{from_fn-at}
+use Rattle.cells.specs.Cells.{absent}
 use Rattle.role_level.proofs.own_names.Goals as goal
 
-pub loop-r-init : goal.loop-r-init
-loop-r-init c = (omega arith, refl, λ r l. absurd (omega arith))
-
-pub loop-r-smaller : goal.loop-r-smaller
-loop-r-smaller c = omega arith
-
-pub loop-r-preserved : goal.loop-r-preserved
-loop-r-preserved c = (omega arith, simp length-set c.loop-r.invariant.1, own-more c.loop-r.names c.loop-r.r (omega arith) c.loop-r.invariant.2)
-
 pub returns : goal.returns
-returns c = record { size = c.loop-r.invariant.1; own = λ r l. c.loop-r.invariant.2 r (omega arith) }
+returns c = record {
+  size = c.from_fn.ensures.items.long;
+  own = λ r l. let h = from_fn-at (λ x y q k. search (rules, tests)) c.from_fn.ensures.items r absent (omega arith) in search (rules, tests);
+}

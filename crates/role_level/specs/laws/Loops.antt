@@ -1,20 +1,11 @@
--- The laws of the loops at role level: names, and marks of listed rows. Assumes nothing.
+-- The laws of the marks of listed rows. Assumes nothing.
 use Rattle.std.specs.Prelude.{ℕ, zero, suc, ◌+◌, ◌<◌, ◌≤◌, ◌≡◌, refl, ◌↔◌, Bool, true, false, length, get_or, take, set, replicate}
-use Rattle.std.proofs.Common.{eq-or-lt_of_le, add-one, arith, sym, ◌∙◌, ⊎_elim, take-suc, take_all, get_or-set_same, get_or-set_other}
+use Rattle.std.proofs.Common.{add-one, arith, sym, ◌∙◌, ⊎_elim, take-suc, take_all, get_or-set_same, get_or-set_other}
 use Rattle.std.proofs.Math.Decide.{ℕ_discrete}
 use Rattle.std.proofs.lemmas.Bool.{false≢true}
 use mathlib.Core.List.Memᴰ
 use mathlib.Core.List.{List, [], ◌∷◌, ◌++◌, Memᴰ}
 use Rattle.std.proofs.lemmas.List.{get_or-replicate}
-use Rattle.cells.specs.Cells.{absent}
-
--- each name below a number is its own
-abbrev pub OwnBelow : ℕ → List ℕ → Type 0
-OwnBelow k names = (r : ℕ) → r < k → get_or names r absent ≡ r
-
-pub own-more : (names : List ℕ) (k : ℕ) → k < length names → OwnBelow k names → OwnBelow (k + 1) (set names k k)
-own-more names k l own r h =
-    ⊎_elim (λ (e : r ≡ k). rw e (get_or-set_same names k k absent l)) (λ (m : r < k). get_or-set_other names k r k absent (λ e. omega arith) ∙ own r m) (eq-or-lt_of_le (omega arith))
 
 -- a mark stands exactly at the rows listed so far
 abbrev pub ListedTo : ℕ → List ℕ → ℕ → List Bool → Type 0

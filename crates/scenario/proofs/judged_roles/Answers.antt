@@ -1,6 +1,5 @@
 -- `judged_roles` is refusal 6, of a record or of a row that names an absent role. Assumes nothing.
 use native.Mathlib.Omega.{arith}
-use Rattle.rows.specs.laws.Places.{none_left}
 use Rattle.scenario.specs.laws.Open.{records-refused, names-judged}
 use Rattle.scenario.specs.laws.Blocks.{rows_in, terms-sized, roles-read, count-read, names-read}
 use Rattle.scenario.proofs.judged_roles.Goals as goal
@@ -23,5 +22,5 @@ returns c =
     let file = c.args.file.now in
     names-judged file (rows_in file)
     (roles-read file c.block_of-terms.ensures c.block_of-roles.ensures c.start_of-base.ensures.0 c.bad_role.ensures)
-    (none_left c.bad_role.result c.in_default.not-Some)
+    c.in_default.is
     (names-read file c.block_of-terms.ensures c.start_of-first.ensures.0 (count-read file c.block_of-roles.ensures c.roles_present-count.ensures) c.absent_role.ensures)
