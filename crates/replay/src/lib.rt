@@ -6,7 +6,7 @@ ghost use Rattle.semantics.specs.Replay.{replayed};
 ghost use Rattle.answers.specs.Answers.{scenario_in, Accepts, replayed_as};
 ghost use Rattle.replay.specs.Replay.{followed_of};
 
-use answers::{Layout, Reason, Refusal};
+use answers::{Claim, Layout, Reason, Refusal};
 use state::State;
 
 // A trace followed through an accepted file: refused with 12 at a step, the claim broken, or none.

@@ -27,10 +27,10 @@ broken_in_run-found-requires c =
     let marked : length c.args.marks ≡ 480 = search rules in
     ((c.requires.0, c.requires.3), (marked, c.loop-k-test.true))
 
-pub returns-in-Broken : goal.returns-in-Broken
-returns-in-Broken c sc d s' given is same own =
+pub returns-in-Some : goal.returns-in-Some
+returns-in-Some c sc d s' given is same own =
     state-broken c.args.file.now c.args.t.now c.args.n c.args.r c.args.marks c.args.done c.loop-k.k c.loop-k.invariant c.loop-k-test.true
-    c.broken_in_run-found.result c.broken_in_run-found.ensures _ c.in-Broken.is sc d (lent given is same own)
+    c.broken_in_run-found.result c.broken_in_run-found.ensures _ c.in-Some.is sc d (lent given is same own)
 
 pub loop-k-preserved : goal.loop-k-preserved
 loop-k-preserved c =
