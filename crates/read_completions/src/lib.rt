@@ -246,7 +246,8 @@ fn is_empty(dom: &Domains, vars: VariableRows) -> bool
     false
 }
 
-// The variable with the smallest domain of those beneath a row that may get more than one class, and of one that is given, if there are two such; or else the given one.
+// The variable with the smallest domain of those beneath a row that may get more than one class, and of one that is given, if there are two such; or else the
+// one that is given.
 fn smallest(
     vars: VariableRows,
     sizes: &[usize; 8],
@@ -347,8 +348,8 @@ pub fn completes(t: &[u8], classes: &[u16], marks: &[bool], scope: Scope, x: usi
     if vars.count < 2 {
         return true;
     }
-    let dom = read_domains::of_variables(t, classes, marks, scope, false, vars);
-    let marked = read_domains::of_variables(t, classes, marks, scope, true, vars);
+    let dom = read_domains::of_variables(t, classes, None, scope, vars);
+    let marked = read_domains::of_variables(t, classes, Some(marks), scope, vars);
     let pattern = Pattern {
         scope,
         row: x,

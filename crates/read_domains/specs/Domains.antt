@@ -1,6 +1,7 @@
 -- Sets of classes, and domains: a set of classes for each of 8 variables. Assumes nothing.
-use Rattle.std.specs.Prelude.{ℕ, ◌<◌, ◌≡◌, Bool, true, List, [], length, get_or}
+use Rattle.std.specs.Prelude.{ℕ, ◌<◌, ◌≡◌, Bool, true, List, [], Option, MatchOption, length, get_or}
 use Rattle.std.proofs.Math.Option.{some}
+use denote.Ref.{Bor}
 use Rattle.semantics.specs.Term.{Atom}
 use Rattle.semantics.specs.Runs.{atom_at}
 use Rattle.semantics.specs.Moves.{candidates}
@@ -17,23 +18,31 @@ use Rattle.variables.specs.Variables.{In}
 abbrev pub InRow : List (List Bool) → ℕ → ℕ → Type 0
 InRow dom i c = In (get_or dom i []) c
 
+-- marks of all cells, if there are any
+abbrev pub Marks : Option (Bor (List Bool)) → Type 0
+Marks marks = MatchOption marks (Unit {0}) (λ m. length m.now ≡ cell_count)
+
+-- a cell counts: where there are marks, it is marked
+abbrev pub Counts : Option (Bor (List Bool)) → ℕ → ℕ → Type 0
+Counts marks y w = MatchOption marks (Unit {0}) (λ m. Marked m.now y w)
+
 -- the table, classes and marks of a scope
-abbrev pub Scoped : List ℕ → List ℕ → List Bool → Scope → Type 0
-Scoped bytes classes marks scope = Shape bytes scope.rows scope.runs × ((length classes ≡ cell_count) × (length marks ≡ cell_count))
+abbrev pub Scoped : List ℕ → List ℕ → Option (Bor (List Bool)) → Scope → Type 0
+Scoped bytes classes marks scope = Shape bytes scope.rows scope.runs × ((length classes ≡ cell_count) × Marks marks)
 
 -- row y with run w is among the values that the variable of row q may take
 abbrev pub Candidate : List ℕ → ℕ → ℕ → ℕ → ℕ → Type 0
 Candidate bytes runs q y w = (a : Atom) × (atom_at (rows_of bytes) q ≡ some a) × (is_value_of (record { row = y; run = w }) (candidates (rows_of bytes) runs a) ≡ true)
 
--- something holds of the class of each value that the variable of row q may take, or of those that are marked
-abbrev pub Listed : List ℕ → ℕ → ℕ → List ℕ → List Bool → Bool → ℕ → (ℕ → Type 0) → Type 0
-Listed bytes n runs classes marks only q P =
-    (y w : ℕ) → Inside n runs y w → Candidate bytes runs q y w → (only ≡ true → Marked marks y w) → class_at classes y w < absent → P (class_at classes y w)
+-- something holds of the class of each value that the variable of row q may take, of those that count
+abbrev pub Listed : List ℕ → ℕ → ℕ → List ℕ → (ℕ → ℕ → Type 0) → ℕ → (ℕ → Type 0) → Type 0
+Listed bytes n runs classes counts q P =
+    (y w : ℕ) → Inside n runs y w → Candidate bytes runs q y w → counts y w → class_at classes y w < absent → P (class_at classes y w)
 
 -- a set with the class of one cell more, if its row and run are such a value
-pub record ListedAt (bytes : List ℕ) (n runs : ℕ) (classes : List ℕ) (marks : List Bool) (only : Bool) (q cell : ℕ) (set more : List Bool) : Type 0 where
+pub record ListedAt (bytes : List ℕ) (n runs : ℕ) (classes : List ℕ) (counts : ℕ → ℕ → Type 0) (q cell : ℕ) (set more : List Bool) : Type 0 where
   pub keeps : (c : ℕ) → In set c → In more c
-  pub adds : (y w : ℕ) → cell_of y w ≡ cell → Inside n runs y w → Candidate bytes runs q y w → (only ≡ true → Marked marks y w) → class_at classes y w < absent → In more (class_at classes y w)
+  pub adds : (y w : ℕ) → cell_of y w ≡ cell → Inside n runs y w → Candidate bytes runs q y w → counts y w → class_at classes y w < absent → In more (class_at classes y w)
 
 -- what is in a domain, and in the set if it is variable i's, stays in it
 abbrev pub Narrows : List (List Bool) → ℕ → List Bool → List (List Bool) → Type 0

@@ -5,7 +5,7 @@ ghost use Rattle.std.specs.Prelude.{◌≡◌, true, List, ℕ, ◌<◌, ◌≤�
 ghost use Rattle.cells.specs.Cells.{cell_count};
 ghost use Rattle.knowledge.specs.Steps.{kind_at};
 ghost use Rattle.variables.specs.Variables.{In, AreVariables};
-ghost use Rattle.read_domains.specs.Domains.{Scoped, InRow, Listed, ListedAt, Narrows, NarrowsTo, Joins, Fit, AtSlot};
+ghost use Rattle.read_domains.specs.Domains.{Marks, Counts, Scoped, InRow, Listed, ListedAt, Narrows, NarrowsTo, Joins, Fit, AtSlot};
 
 use cells::{Cells, Scope};
 use variables::VariableRows;
@@ -16,13 +16,15 @@ pub type ClassSet = [bool; Cells::COUNT];
 // A set of classes for each of 8 variables.
 pub type Domains = [ClassSet; 8];
 
-// Adds the class of cell c to a set, if it is marked where only marked ones count.
-fn add_value(set: &mut ClassSet, classes: &[u16], marks: &[bool], only: bool, c: usize)
-    requires { (length classes.now ≡ cell_count) × ((length marks.now ≡ cell_count) × (c < cell_count)) }
-    ensures { (t : List ℕ) (n runs q : ℕ) → ListedAt t n runs classes.now marks.now only q c set.old set.new }
+// Adds the class of cell c to a set, if the cell counts: any does, or those that are marked.
+fn add_value(set: &mut ClassSet, classes: &[u16], marks: Option<&[bool]>, c: usize)
+    requires { (length classes.now ≡ cell_count) × (Marks marks × (c < cell_count)) }
+    ensures { (t : List ℕ) (n runs q : ℕ) → ListedAt t n runs classes.now (Counts marks.entry) q c set.old set.new }
 {
-    if only && !marks[c] {
-        return;
+    if let Some(marks) = marks {
+        if !marks[c] {
+            return;
+        }
     }
     let class = knowledge::class_at(classes, c % 96, c / 96);
     if class < Cells::ABSENT {
@@ -31,21 +33,14 @@ fn add_value(set: &mut ClassSet, classes: &[u16], marks: &[bool], only: bool, c:
 }
 
 // The classes of the values that the variable of row q may take, or of those that are marked.
-fn values_of(
-    t: &[u8],
-    classes: &[u16],
-    marks: &[bool],
-    scope: Scope,
-    only: bool,
-    q: usize,
-) -> ClassSet
-    requires { Scoped t.now classes.now marks.now scope × ((q < scope.rows) × (kind_at t.now q ≡ 6)) }
-    ensures { Listed t.now scope.rows scope.runs classes.now marks.now only q (In result) }
+fn values_of(t: &[u8], classes: &[u16], marks: Option<&[bool]>, scope: Scope, q: usize) -> ClassSet
+    requires { Scoped t.now classes.now marks scope × ((q < scope.rows) × (kind_at t.now q ≡ 6)) }
+    ensures { Listed t.now scope.rows scope.runs classes.now (Counts marks.entry) q (In result) }
 {
     let mut set = [false; Cells::COUNT];
     for c in 0..Cells::COUNT {
         if variables::may_take(t, scope.rows, scope.runs, q, c % 96, c / 96) {
-            add_value(&mut set, classes, marks, only, c);
+            add_value(&mut set, classes, marks, c);
         }
     }
     set
@@ -79,17 +74,16 @@ pub fn narrow_to(dom: Domains, i: usize, class: usize) -> Domains
 pub fn of_variables(
     t: &[u8],
     classes: &[u16],
-    marks: &[bool],
+    marks: Option<&[bool]>,
     scope: Scope,
-    only: bool,
     vars: VariableRows,
 ) -> Domains
-    requires { Scoped t.now classes.now marks.now scope × AreVariables t.now scope.rows vars }
-    ensures { (i : ℕ) → i < vars.count → Listed t.now scope.rows scope.runs classes.now marks.now only (get_or vars.rows i 0) (InRow result i) }
+    requires { Scoped t.now classes.now marks scope × AreVariables t.now scope.rows vars }
+    ensures { (i : ℕ) → i < vars.count → Listed t.now scope.rows scope.runs classes.now (Counts marks.entry) (get_or vars.rows i 0) (InRow result i) }
 {
     let mut dom = [[true; Cells::COUNT]; 8];
     for i in 0..vars.count {
-        dom[i] = values_of(t, classes, marks, scope, only, vars.rows[i]);
+        dom[i] = values_of(t, classes, marks, scope, vars.rows[i]);
     }
     dom
 }

@@ -23,7 +23,9 @@ pub fn may_be_read(
     requires { Shape t.now n runs × (Due n runs k e.own e.peer e.row × ((length classes.now ≡ cell_count) × (length marks.now ≡ cell_count))) }
     ensures { Tested t.now runs k e classes.now marks.now result }
 {
-    if !marks[e.own] || !marks[e.peer] {
+    let own = marks[e.own];
+    let peer = marks[e.peer];
+    if !own || !peer {
         return false;
     }
     let scope = Scope {

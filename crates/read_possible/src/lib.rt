@@ -24,8 +24,9 @@ fn fits_cell(
     ensures { CanTake t.now scope.rows scope.runs classes.now scope.run marks.now r y w → result ≡ true }
 {
     let c = cell(y, w);
+    let marked = marks[c];
     let class = classes[c];
-    if !marks[c] || usize::from(class) != c {
+    if !marked || usize::from(class) != c {
         return false;
     }
     read_fits::needs_of(t, classes, scope, r, class).is_some()

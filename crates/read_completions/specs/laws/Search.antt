@@ -2,9 +2,9 @@
 use Rattle.std.specs.Prelude.{ℕ, ◌+◌, ◌<◌, ◌≤◌, ◌≡◌, Bool, true, false, List, [], T, get_or}
 use Rattle.std.proofs.Math.Decide.{ℕ_discrete}
 use Rattle.std.proofs.Common.{arith, sym, ◌∙◌, subst, true≢false}
-use Rattle.std.proofs.lemmas.Bool.{false≢true}
 use Rattle.rows.specs.Rows.{rows_of}
 use Rattle.cells.specs.Cells.{cell_count}
+use Rattle.knowledge.specs.Marks.{Marked}
 use Rattle.knowledge.specs.laws.Values.{has-class}
 use Rattle.variables.specs.declared.VariableRows.{VariableRows}
 use Rattle.variables.specs.Variables.{In, Beneath, AreVariables, Unset}
@@ -17,10 +17,14 @@ use Rattle.read_completions.specs.declared.Pattern.{Pattern}
 use Rattle.read_completions.specs.Completions.{NoneEmpty, Scene, TakesCell, Completion, GetsClass, InDomains, GetsDerivable, MarkedDomains, MissesNone, CompletionsKept, Completable, Completes}
 use Rattle.read_completions.specs.laws.Rows.{gets-low, takes-gets, takes-class, takes-marked}
 
--- the domains of the pattern's variables miss no value, or none that is marked
-abbrev AllListed : List ℕ → List ℕ → List Bool → Pattern → Bool → List (List Bool) → Type 0
-AllListed bytes classes marks pattern only dom =
-    (i : ℕ) → i < pattern.vars.count → Listed bytes pattern.scope.rows pattern.scope.runs classes marks only (get_or pattern.vars.rows i 0) (InRow dom i)
+-- the domains of the pattern's variables miss no value that counts
+abbrev AllListed : List ℕ → List ℕ → Pattern → (ℕ → ℕ → Type 0) → List (List Bool) → Type 0
+AllListed bytes classes pattern counts dom =
+    (i : ℕ) → i < pattern.vars.count → Listed bytes pattern.scope.rows pattern.scope.runs classes counts (get_or pattern.vars.rows i 0) (InRow dom i)
+
+-- every value counts
+abbrev Every : ℕ → ℕ → Type 0
+Every y w = Unit {0}
 
 -- tests
 is_true : {b : Bool} → b ≡ true → (b ≡ false → ⊥)
@@ -37,21 +41,21 @@ Tried bytes classes marks pattern dom i c =
     (k : Completion bytes classes marks pattern) → InDomains k dom → GetsDerivable k pattern.row → (e : ℕ) → e < c → GetsClass k i e → ⊥
 
 module _ {bytes classes : List ℕ} {marks : List Bool} {pattern : Pattern} (scene : Scene bytes classes marks pattern) where
-  -- the class that a variable takes is listed
-  listed-class : (only : Bool) (P : ℕ → Type 0) (k : Completion bytes classes marks pattern) {q : ℕ} → Listed bytes pattern.scope.rows pattern.scope.runs classes marks only q P → (takes : TakesCell k.extension q)
-      → (only ≡ true → GetsDerivable k q) → (c : ℕ) → Gets k.extension q c → P c
-  listed-class only P k listed takes derived c g =
+  -- the class that a variable takes is listed, if its value counts
+  listed-class : (counts : ℕ → ℕ → Type 0) (P : ℕ → Type 0) (k : Completion bytes classes marks pattern) {q : ℕ} → Listed bytes pattern.scope.rows pattern.scope.runs classes counts q P → (takes : TakesCell k.extension q)
+      → counts takes.row takes.run → (c : ℕ) → Gets k.extension q c → P c
+  listed-class counts P k listed takes counted c g =
       subst P (sym (takes-class scene k takes g))
-      (listed takes.row takes.run takes.inside takes.may (λ e. takes-marked scene k takes (derived e))
+      (listed takes.row takes.run takes.inside takes.may counted
       (has-class bytes pattern.scope.rows pattern.scope.runs k.extension.shape k.extension.old classes k.extension.right takes.inside takes.has))
 
   -- domains of all values that variables may take miss none
-  pub in-domains-start : (dom : List (List Bool)) → AllListed bytes classes marks pattern false dom → (k : Completion bytes classes marks pattern) → InDomains k dom
-  in-domains-start dom listed k i l c g = listed-class false (InRow dom i) k (listed i l) (k.filled i l) (λ e. absurd (false≢true e)) c g
+  pub in-domains-start : (dom : List (List Bool)) → AllListed bytes classes pattern Every dom → (k : Completion bytes classes marks pattern) → InDomains k dom
+  in-domains-start dom listed k i l c g = listed-class Every (InRow dom i) k (listed i l) (k.filled i l) tt c g
 
   -- and those of marked values miss none of a variable that is derivable
-  pub marked-domains-start : (dom : List (List Bool)) → AllListed bytes classes marks pattern true dom → MarkedDomains bytes classes marks pattern dom
-  marked-domains-start dom listed k i l d c g = listed-class true (InRow dom i) k (listed i l) (k.filled i l) (λ e. d) c g
+  pub marked-domains-start : (dom : List (List Bool)) → AllListed bytes classes pattern (Marked marks) dom → MarkedDomains bytes classes marks pattern dom
+  marked-domains-start dom listed k i l d c g = listed-class (Marked marks) (InRow dom i) k (listed i l) (k.filled i l) (takes-marked scene k (k.filled i l) d) c g
 
   module _ (dom : List (List Bool)) where
     -- one domain is narrowed
@@ -102,7 +106,7 @@ module _ {bytes classes : List ℕ} {marks : List Bool} {pattern : Pattern} (sce
 
 -- the test of the unset variables beneath the pattern
 pub completes-tested : {bytes classes : List ℕ} {marks : List Bool} {pattern : Pattern} {below : List Bool} (dom : List (List Bool)) → Scene bytes classes marks pattern
-    → Beneath (rows_of bytes) pattern.row below → Unset bytes pattern.scope.rows classes pattern.scope.run below pattern.vars → AllListed bytes classes marks pattern false dom
+    → Beneath (rows_of bytes) pattern.row below → Unset bytes pattern.scope.rows classes pattern.scope.run below pattern.vars → AllListed bytes classes pattern Every dom
     → {answer : Bool} → Completable bytes classes marks pattern dom answer → Completes bytes pattern.scope.rows pattern.scope.runs classes marks pattern.scope.run pattern.row answer
 completes-tested {bytes} {classes} {marks} {pattern} {below} dom scene beneath-x unset listed completable s known exact celled filled t h d =
     completable k (in-domains-start scene dom listed k) (t, h, d)

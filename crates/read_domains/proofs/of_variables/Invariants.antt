@@ -1,6 +1,7 @@
 -- `read_domains::of_variables` meets its contract. The loop's invariant: the domains of the variables below i hold their values. Assumes nothing.
+use Rattle.read_domains.specs.Domains.{Counts}
 use Rattle.read_domains.specs.laws.Values.{DomainsTo}
 use Rattle.read_domains.proofs.of_variables.Given as goal
 
 abbrev pub invariant-loop-i : goal.invariant-loop-i
-invariant-loop-i l = DomainsTo l.t l.scope.rows l.scope.runs l.classes l.marks l.only l.vars.rows l.i l.dom
+invariant-loop-i l = DomainsTo l.t l.scope.rows l.scope.runs l.classes (Counts l.marks) l.vars.rows l.i l.dom

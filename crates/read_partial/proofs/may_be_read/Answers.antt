@@ -2,7 +2,7 @@
 use native.Mathlib.Omega.{arith}
 use Rattle.read_partial.specs.laws.Refused.{own-refused, peer-refused, row-refused, values-refused}
 use Rattle.read_partial.proofs.may_be_read.Goals as goal
-use Rattle.read_partial.proofs.may_be_read.Goals.{then-not-marks-e-via-then-not-marks-e, then-not-marks-e-via-else-not-marks-e+then-not-marks-e-2}
+use Rattle.read_partial.proofs.may_be_read.Goals.{then-not-own-via-then-not-own, then-not-own-via-else-not-own+then-not-peer}
 
 pub possible-requires : goal.possible-requires
 possible-requires c =
@@ -20,8 +20,8 @@ pub returns-else-possible : goal.returns-else-possible
 returns-else-possible c sc d s a from xs vs ws names next kind setting arrays takes answer =
     row-refused c.requires.0 c.requires.1.0 from xs vs ws next kind setting arrays c.possible.result c.possible.ensures c.if-possible.false
 
-pub returns-then-not-marks-e : goal.returns-then-not-marks-e
-returns-then-not-marks-e c sc d s a from xs vs ws names next kind setting arrays takes answer = elim c.then-not-marks-e.branch [
-  | then-not-marks-e-via-then-not-marks-e w ↦ own-refused c.requires.0 c.requires.1.0 from xs vs ws next kind setting arrays w.if-not-marks-e.true
-  | then-not-marks-e-via-else-not-marks-e+then-not-marks-e-2 w ↦ peer-refused c.requires.0 c.requires.1.0 from xs vs ws next kind setting arrays w.if-not-marks-e-2.true
+pub returns-then-not-own : goal.returns-then-not-own
+returns-then-not-own c sc d s a from xs vs ws names next kind setting arrays takes answer = elim c.then-not-own.branch [
+  | then-not-own-via-then-not-own w ↦ own-refused c.requires.0 c.requires.1.0 from xs vs ws next kind setting arrays w.if-not-own.true
+  | then-not-own-via-else-not-own+then-not-peer w ↦ peer-refused c.requires.0 c.requires.1.0 from xs vs ws next kind setting arrays w.if-not-peer.true
 ]

@@ -3,13 +3,13 @@ use Rattle.std.proofs.Common.{◌≡◌, true, Option, None, Some, IsSomeAnd, sy
 use Rattle.std.specs.Option.{is_some}
 use Rattle.read_fits.specs.laws.Fits.{take-fits, take-other, take-unmarked}
 use Rattle.read_possible.proofs.fits_cell.Goals as goal
-use Rattle.read_possible.proofs.fits_cell.Goals.{then-not-marks-c-via-then-not-marks-c, then-not-marks-c-via-else-not-marks-c+then-from-c}
+use Rattle.read_possible.proofs.fits_cell.Goals.{then-not-marked-via-then-not-marked, then-not-marked-via-else-not-marked+then-from-c}
 
-pub returns-then-not-marks-c : goal.returns-then-not-marks-c
-returns-then-not-marks-c c = elim c.then-not-marks-c.branch [
-  | then-not-marks-c-via-then-not-marks-c w ↦
-      take-unmarked c.args.t.now c.args.scope.rows c.args.scope.runs c.args.classes.now c.args.marks.now c.args.scope.run c.args.r c.args.y c.args.w c.cell-c.ensures.0 w.if-not-marks-c.true
-  | then-not-marks-c-via-else-not-marks-c+then-from-c w ↦
+pub returns-then-not-marked : goal.returns-then-not-marked
+returns-then-not-marked c = elim c.then-not-marked.branch [
+  | then-not-marked-via-then-not-marked w ↦
+      take-unmarked c.args.t.now c.args.scope.rows c.args.scope.runs c.args.classes.now c.args.marks.now c.args.scope.run c.args.r c.args.y c.args.w c.cell-c.ensures.0 w.if-not-marked.true
+  | then-not-marked-via-else-not-marked+then-from-c w ↦
       take-other c.args.t.now c.args.scope.rows c.args.scope.runs c.args.classes.now c.args.marks.now c.args.scope.run c.args.r c.args.y c.args.w c.cell-c.ensures.0 c.requires.0.0.1.0 c.cell-c.ensures.1 (λ e. w.if-from-c.true (w.from.ensures ∙ e))
 ]
 
