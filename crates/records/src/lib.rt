@@ -42,11 +42,8 @@ pub fn role_length(s: &[u8]) -> usize
     ensures { (result ≡ role_length s.now) × ((2 ≤ result) × (result ≤ 1277)) }
 {
     let knowledge = usize::from(s[0]);
-    let at = 1 + knowledge;
-    if at < s.len() {
-        return 2 + knowledge + 4 * usize::from(s[at]);
-    }
-    2 + knowledge
+    let events = s.get(1 + knowledge).map_or(0, |&count| usize::from(count));
+    2 + knowledge + 4 * events
 }
 
 // How many roles are present: records that begin in the block, of the first four.

@@ -85,10 +85,7 @@ fn with_variable(t: &[u8], i: usize, variables: usize) -> usize
     requires { (3 * i + 2 < length t.now) × (variables ≤ 8) }
     ensures { (get_or t.now (3 * i) 0 ≡ 6 → result ≡ variables + 1) × ((get_or t.now (3 * i) 0 ≡ 6 → ⊥) → result ≡ variables) }
 {
-    if rows::kind_of(t, i) == Kind::VARIABLE {
-        return variables + 1;
-    }
-    variables
+    variables + usize::from(rows::kind_of(t, i) == Kind::VARIABLE)
 }
 
 // The number of the refusal of row i after the rows below it, 4 or 5, if there is one.

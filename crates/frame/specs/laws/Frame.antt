@@ -212,14 +212,6 @@ module _ (file : List ℕ) where
   part-block k h = h ∙ ap (λ (l : List ℕ). (block_from k 0 l).bytes) (part-rest file 5) ∙ block-in-file k file
 
   module _ (f : IsFramed file) where
-    -- in a framed file they are framed
-    pub part-framed : framed 4 (take (length file - 5) (drop 5 file)) ≡ true
-    part-framed = ap (framed 4) (part-rest file 5) ∙ f.blocks
-
-    -- and few
-    pub part-few : length (take (length file - 5) (drop 5 file)) ≤ 4096
-    part-few = omega (arith, ap length (part-rest file 5), length-drop 5 file)
-
     -- where a block begins, within the limit
     pub part-start : (k : ℕ) {r : ℕ} → r ≡ (block_from k 0 (take (length file - 5) (drop 5 file))).start → r ≤ length (take (length file - 5) (drop 5 file))
         → (5 + r ≡ (block k file).start) × (5 + r ≤ 4096)

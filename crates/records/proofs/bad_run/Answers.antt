@@ -20,9 +20,6 @@ judged c = sym (rw rest-whole at (c.good_run.ensures (c.args.base + c.loop-i.i *
 pub loop-i-init : goal.loop-i-init
 loop-i-init c = let z : 0 * (1 + c.args.roles) ≡ 0 = omega arith in rw z (runs-all (rows_of c.args.t.now) c.args.roles c.args.base c.args.b.now)
 
-pub overflow_mul-start : goal.overflow_mul-start
-overflow_mul-start c = record { fits = omega (arith, begins-within (length c.args.b.now) c.args.roles c.loop-i.i (rw c.div_ceil-i-end.ensures at c.loop-i-test.true)) }
-
 pub returns-then-not-good_run : goal.returns-then-not-good_run
 returns-then-not-good_run c =
     sym (ap place_as (c.loop-i.invariant ∙ bad-here (run_length c.args.roles) (run-bytes c.args.roles) c.args.base c.args.b.now (c.loop-i.i * (1 + c.args.roles))

@@ -1,10 +1,10 @@
 -- Role records: their length, which are good, and how many are present. Assumes nothing.
-use Rattle.std.specs.Prelude.{ℕ, zero, suc, ◌+◌, ◌*◌, ◌≤◌, ◌<◌, ◌≡◌, refl, true, false, ◌&&◌, ltb, leb, get_or, take, drop}
+use Rattle.std.specs.Prelude.{ℕ, zero, suc, ◌+◌, ◌*◌, ◌≤◌, ◌<◌, ◌≡◌, refl, true, false, ◌&&◌, ltb, leb, take, drop}
 use native.Mathlib.Omega.{arith}
 use Rattle.std.proofs.Common.{sym, ◌∙◌, take-take, get_or-take, le-leb, lt-ltb, le-ltb}
 use Rattle.std.proofs.Math.Path.{ap}
 use mathlib.Core.List.{List, [], ◌∷◌}
-use Rattle.std.proofs.Math.ListN.{length, get_or-eq_default}
+use Rattle.std.proofs.Math.ListN.{length}
 use Rattle.std.proofs.lemmas.Bool.{lt-leb}
 use Rattle.semantics.specs.Basic.{every}
 use Rattle.semantics.specs.Limits.{most_roles, most_events}
@@ -17,13 +17,6 @@ use Rattle.records.specs.laws.Records.{leb-taken, records_left, left-none, left-
 -- every role record has bytes
 pub role-bytes : (s : List ℕ) → 0 < role_length s
 role-bytes s = omega arith
-
--- the length of a role record by its counts, and where the second is missing
-pub length-counts : (s : List ℕ) (knowledge events : ℕ) → knowledge ≡ get_or s 0 0 → events ≡ get_or s (1 + knowledge) 0 → 2 + knowledge + 4 * events ≡ role_length s
-length-counts s knowledge events e f = rw f (rw e)
-
-pub length-short : (s : List ℕ) (knowledge : ℕ) → knowledge ≡ get_or s 0 0 → length s ≤ 1 + knowledge → 2 + knowledge ≡ role_length s
-length-short s knowledge e h = omega (arith, get_or-eq_default s 0 {n = 1 + get_or s 0 0} (omega arith))
 
 -- a part within the first elements
 take_within : (k j m : ℕ) (s : List ℕ) → j + k ≤ m → take k (drop j (take m s)) ≡ take k (drop j s)

@@ -10,10 +10,6 @@ use Rattle.text.proofs.put_step.Goals as goal
 pub put_values-requires : goal.put_values-requires
 put_values-requires c = omega (arith, c.put_with.ensures.0.size, decimal-few 2 c.args.run (omega (arith, c.requires.0)), c.requires.1)
 
-pub push-requires : goal.push-requires
-push-requires c =
-    omega (arith, c.put_with.ensures.0.size, decimal-few 2 c.args.run (omega (arith, c.requires.0)), c.requires.1, c.put_values.ensures.len_bound)
-
 pub returns : goal.returns
 unfolding step_text
 returns c =

@@ -1,16 +1,11 @@
--- A text that grows: nothing more, one byte more, and one part after the other. Assumes nothing.
-use Rattle.std.specs.Prelude.{ℕ, ◌+◌, ◌-◌, ◌<◌, ◌≤◌, ◌≡◌, List, [], ◌∷◌, ◌++◌, length, take, set}
-use Rattle.std.proofs.Common.{arith, add-one, sym, ap, ◌∙◌, append_assoc, append-nil, length-append, refl, length-take, length-take-le, take-suc-set, take_all}
-use lib.Seq.{take-append-le}
-use borrow.Rule.Slice.PartMut.{put_mid, post_of}
+-- A text that grows: nothing more, and one part after the other. Assumes nothing.
+use Rattle.std.specs.Prelude.{ℕ, ◌+◌, ◌≤◌, ◌≡◌, List, [], ◌++◌, length, take}
+use Rattle.std.proofs.Common.{arith, sym, ap, ◌∙◌, append_assoc, append-nil, length-append, length-take}
 use Rattle.text.specs.declared.Text.{Text}
 use Rattle.text.specs.Text.{HoldsText, Adds}
 
 pub adds_none : (t : Text) → Adds t [] t
 adds_none t = record { size = omega arith; same = sym (append-nil (take t.len t.bytes)) }
-
-pub adds_one : (t : Text) (b : ℕ) → t.len < length t.bytes → Adds t (b ∷ []) (record { bytes = set t.bytes t.len b; len = t.len + 1 })
-adds_one t b l = record { size = omega arith; same = ap (λ (m : ℕ). take m (set t.bytes t.len b)) (add-one t.len) ∙ take-suc-set t.bytes t.len b l }
 
 pub adds_on : {t m r : Text} {xs ys : List ℕ} → Adds t xs m → Adds m ys r → Adds t (xs ++ ys) r
 adds_on {t} {m} {r} {xs} {ys} a b = record {
@@ -35,15 +30,3 @@ holds_fits {t} h = omega (arith, h.size, ap length h.same, length-take t.len t.b
 
 pub holds-count : {t : Text} {bytes : List ℕ} → HoldsText t bytes → t.len ≡ length (take t.len t.bytes)
 holds-count h = h.size ∙ sym (ap length h.same)
-
--- a word, copied behind the text
-pub adds_word : (t : Text) (word : List ℕ) {copied : List ℕ} → t.len + length word ≤ length t.bytes → copied ≡ word
-    → Adds t word (record { bytes = put_mid t.len (t.len + length word - t.len) t.bytes copied; len = t.len + length word })
-adds_word t word l e = record {
-  size = refl;
-  same =
-      let text = take t.len t.bytes ++ word in
-      let after = post_of t.len (t.len + length word - t.len) t.bytes in
-      let size : length text ≡ t.len + length word = omega (arith, length-append (take t.len t.bytes) word, length-take-le t.len t.bytes (omega arith)) in
-      rw (e, ← append_assoc) (take-append-le (t.len + length word) text after (omega arith) ∙ take_all (t.len + length word) text (omega arith));
-}
