@@ -109,9 +109,8 @@ fn opens(marks: &[bool], t: &[u8], n: usize, runs: usize, classes: &[u16], key: 
         return is_marked(marks, key);
     };
     let agent = class_at(classes, rows::left_of(t, x), u);
-    cells::found(t, n, runs, classes, other, agent, agent).is_some_and(|class| is_marked(
-        marks, class,
-    ))
+    let inverse = cells::found(t, n, runs, classes, other, agent, agent);
+    inverse.is_some_and(|class| is_marked(marks, class))
 }
 
 // What a pair or an encryption gives that is not marked yet, by the classes of it and its parts.
@@ -161,8 +160,8 @@ fn gain(
     let left = class_at(classes, rows::left_of(t, x), u);
     let right = class_at(classes, rows::right_of(t, x), u);
     // what is given may have no class
-    given(marks, t, n, runs, classes, kind, whole, left, right).filter(|&class| class
-        < Cells::ABSENT)
+    let class = given(marks, t, n, runs, classes, kind, whole, left, right);
+    class.filter(|&class| class < Cells::ABSENT)
 }
 
 // A class that row x gives in some run and that is not marked yet.
@@ -229,7 +228,7 @@ pub fn settle(
 
 // The marks when the value of row r in run u is known too.
 pub fn learn(
-    marks: [bool; Cells::COUNT],
+    mut marks: [bool; Cells::COUNT],
     t: &[u8],
     n: usize,
     runs: usize,
@@ -245,7 +244,6 @@ pub fn learn(
     if marks[c] {
         return marks;
     }
-    let mut more = marks;
-    more[c] = true;
-    settle(more, t, n, runs, classes)
+    marks[c] = true;
+    settle(marks, t, n, runs, classes)
 }

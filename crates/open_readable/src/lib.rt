@@ -26,10 +26,7 @@ pub fn is_readable(
     requires { Shape t.now n 0 × (RoleClasses (rows_of t.now) classes.now × (SureRows (rows_of t.now) marks sure × (Notes (rows_of t.now) notes.old × (x < n)))) }
     ensures { Answers (rows_of t.now) marks x quick result × Notes (rows_of t.now) notes.new }
 {
-    if marks[x] {
-        return true;
-    }
-    if sure[x] {
+    if marks[x] || sure[x] {
         return true;
     }
     let kind = rows::kind_of(t, x);

@@ -17,6 +17,6 @@ class_at-right-requires c =
 
 pub returns : goal.returns
 returns c =
-    class-kept c.args.x c.args.u c.given.result c.filter.result
-    (gained-at c.args.x c.args.u c.kind_of-kind.ensures.0 c.class_at-whole.ensures c.left_of.ensures.0 c.class_at-left.ensures c.right_of.ensures.0 c.class_at-right.ensures c.given.ensures)
-    (told c.given.result c.filter.ensures (λ e. e) (λ class k. (k.0, search (rules, tests), k.2)))
+    class-kept c.args.x c.args.u c.given-class.result c.filter.result
+    (gained-at c.args.x c.args.u c.kind_of-kind.ensures.0 c.class_at-whole.ensures c.left_of.ensures.0 c.class_at-left.ensures c.right_of.ensures.0 c.class_at-right.ensures c.given-class.ensures)
+    (told c.given-class.result c.filter.ensures (λ e. e) (λ class k. (k.0, search (rules, tests), k.2)))

@@ -15,6 +15,7 @@ use Rattle.open_marks.specs.laws.Readable.{unreadable, unreadable-first, readabl
 use Rattle.open_marks.specs.laws.Sure.{sure-readable, sure-marked, sure-variable, sure-pair, sure-content, answer-yes, answer-no, rows-sure, rows-added, common-before, common-one, common-other}
 use Rattle.open_marks.specs.laws.Kept.{notes-hinted, kept-sure, notes-kept}
 use Rattle.open_readable.proofs.+is_readable.Goals.{After-is_kept, After-right_of, After-right_of-s}
+use Rattle.open_readable.proofs.+is_readable.Goals.{then-marks-x-via-then-marks-x as is-marked, then-marks-x-via-else-marks-x+then-sure-x as is-sure}
 use Rattle.open_readable.proofs.+is_readable.Goals as goal
 
 -- a row of a table is less than 96
@@ -74,7 +75,11 @@ module _ (bytes : List ℕ) {n : ℕ} (shape : Shape bytes n 0) {marks one other
 
 pub returns-then-marks-x : goal.returns-then-marks-x
 returns-then-marks-x t c =
-    (answer-yes c.args.t.now c.args.n c.requires.0 c.args.marks c.args.x c.args.quick (sure-marked c.args.t.now c.args.n c.requires.0 c.args.marks c.args.x c.if-marks-x.true), c.requires.1.1.1.0)
+    let sure : Sure (rows_of c.args.t.now) c.args.marks c.args.x = elim c.then-marks-x.branch [
+      | is-marked w ↦ sure-marked c.args.t.now c.args.n c.requires.0 c.args.marks c.args.x w.if-marks-x.true
+      | is-sure w ↦ c.requires.1.1.0 c.args.x w.if-sure-x.true
+    ] in
+    (answer-yes c.args.t.now c.args.n c.requires.0 c.args.marks c.args.x c.args.quick sure, c.requires.1.1.1.0)
 
 pub returns-then-kind-eq-VARIABLE : goal.returns-then-kind-eq-VARIABLE
 returns-then-kind-eq-VARIABLE t c =

@@ -3,15 +3,6 @@ use Rattle.scenario.specs.laws.Open.{records-refused, names-judged}
 use Rattle.scenario.specs.laws.Blocks.{rows_in, roles-read, count-read, names-read}
 use Rattle.scenario.proofs.judged_roles.Goals as goal
 
-<<<<<<< /tmp/p/m2/crates/scenario/proofs/judged_roles/Answers.antt
-pub bad_role-requires : goal.bad_role-requires
-bad_role-requires c = (terms-sized c.args.file.now c.block_of-terms.ensures c.requires.1, omega arith)
-
-pub absent_role-requires : goal.absent_role-requires
-absent_role-requires c = (terms-sized c.args.file.now c.block_of-terms.ensures c.requires.1, omega arith)
-
-=======
->>>>>>> /tmp/p/mg-theirs/crates/scenario/proofs/judged_roles/Answers.antt
 pub returns-in-Some : goal.returns-in-Some
 returns-in-Some c =
     let file = c.args.file.now in

@@ -12,12 +12,6 @@ bad_run-requires c =
     let file = c.args.file.now in
     (terms-sized file c.block_of-terms.ensures c.requires.1.0, (omega arith, count-few file (count-read file c.block_of.ensures c.roles_present-roles.ensures)))
 
-<<<<<<< /tmp/p/m2/crates/scenario/proofs/judged_runs/Answers.antt
-pub bad_knowledge-requires : goal.bad_knowledge-requires
-bad_knowledge-requires c = (terms-sized c.args.file.now c.block_of-terms.ensures c.requires.1.0, omega arith)
-
-=======
->>>>>>> /tmp/p/mg-theirs/crates/scenario/proofs/judged_runs/Answers.antt
 pub parts_of-requires : goal.parts_of-requires
 parts_of-requires c =
     (c.requires.0, (c.requires.1.0, (count-read c.args.file.now c.block_of.ensures c.roles_present-roles.ensures, c.requires.1.1)))

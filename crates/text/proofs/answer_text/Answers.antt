@@ -1,5 +1,4 @@
 -- `answer_text` is the text of Search's answer. Assumes nothing.
-<<<<<<< /tmp/p/m2/crates/text/proofs/answer_text/Answers.antt
 use Rattle.std.proofs.Common.{sym, ◌∙◌}
 use Rattle.text.specs.laws.Adds.{holds_as}
 use Rattle.text.specs.laws.Verdict.{text-refused}
@@ -10,13 +9,6 @@ found_text-requires c =
     let shown = c.requires.1 in
     (c.requires.0, record { is_answer = sym c.in-Ok.is ∙ shown.is_answer; buffer = shown.buffer; is_written = shown.is_written; small = shown.small; known = shown.known })
 
-=======
-use mathlib.Core.Path.{sym, ◌∙◌}
-use Rattle.text.specs.laws.Adds.{adds_on, adds-all, holds_as}
-use Rattle.text.specs.laws.Verdict.{text-refused, text-held, text-stopped, text-broken}
-use Rattle.text.proofs.answer_text.Goals as goal
-
->>>>>>> /tmp/p/mg-theirs/crates/text/proofs/answer_text/Answers.antt
 pub returns-in-Err : goal.returns-in-Err
 returns-in-Err c a shown = holds_as (text-refused a shown.known (sym c.in-Err.is ∙ shown.is_answer)) c.refused.ensures
 
