@@ -83,13 +83,22 @@ pub fn check(file: &[u8]) -> Result<(), Refusal>
     ensures { result ≡ checked_as (framing_of file.now) }
 {
     if let Some(place) = unversioned(file) {
-        return Err(Refusal { reason: Reason::Version, place });
+        return Err(Refusal {
+            reason: Reason::Version,
+            place,
+        });
     }
     if let Some(place) = too_long(file) {
-        return Err(Refusal { reason: Reason::Size, place });
+        return Err(Refusal {
+            reason: Reason::Size,
+            place,
+        });
     }
     if let Some(place) = misframed(file) {
-        return Err(Refusal { reason: Reason::Framing, place });
+        return Err(Refusal {
+            reason: Reason::Framing,
+            place,
+        });
     }
     Ok(())
 }

@@ -99,7 +99,11 @@ fn row_refusal(t: &[u8], i: usize, variables: usize) -> Option<Reason>
     if !fits_row(t, i) {
         return Some(Reason::Row);
     }
-    if repeats(t, i) { Some(Reason::RepeatedRow) } else { None }
+    if repeats(t, i) {
+        Some(Reason::RepeatedRow)
+    } else {
+        None
+    }
 }
 
 // The rows of a table that begins at a place: how many there are, or the first refusal.

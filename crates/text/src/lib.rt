@@ -123,7 +123,10 @@ fn put_steps(t: Text, trace: &[u8]) -> Text
 fn refused(r: Refusal) -> Text
     ensures { HoldsText result (refused_text (number_of r.reason) r.place) }
 {
-    put_line(put(put_with(empty(), b"REFUSED ", r.reason.number()), b" "), r.place)
+    put_line(
+        put(put_with(empty(), b"REFUSED ", r.reason.number()), b" "),
+        r.place,
+    )
 }
 
 // The text of a break, with its trace.

@@ -33,8 +33,8 @@ pub derived-known : (table list : List ℕ) (target : ℕ) → Numbered (derived
 derived-known table list target = ⊎_elim
     (λ w. accepted-known w.0 w.1)
     (λ w. ⊎_elim
-        (λ u. ⊎_elim (λ e. refused-known w.0 w.1 w.2 (omega (arith, e)) (omega (arith, e))) (λ e. refused-known w.0 w.1 w.2 (omega (arith, e)) (omega (arith, e))) u.0)
-        (λ u. refused-known w.0 w.1 w.2 (omega (arith, u.0)) (omega (arith, u.0))) w.3)
+    (λ u. ⊎_elim (λ e. refused-known w.0 w.1 w.2 (omega (arith, e)) (omega (arith, e))) (λ e. refused-known w.0 w.1 w.2 (omega (arith, e)) (omega (arith, e))) u.0)
+    (λ u. refused-known w.0 w.1 w.2 (omega (arith, u.0)) (omega (arith, u.0))) w.3)
     (derive-total table list target)
 
 pub replayed-known : (file trace : List ℕ) → Numbered (replayed file trace)
