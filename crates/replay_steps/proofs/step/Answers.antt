@@ -4,13 +4,13 @@ use borrow.Author.Rules.{rules}
 use Prim.Native.Nat.{ℕ, suc, ◌+◌, ◌*◌, ◌-◌, ◌<◌, ◌≤◌}
 use mathlib.Core.Path.{◌≡◌, refl, sym, ap, ◌∙◌}
 use mathlib.Core.Option.{some}
-use mathlib.Core.Bool.{Bool, true}
+use mathlib.Core.Bool.{Bool}
 use mathlib.Core.List.{List}
 use lib.ListN.{length, get_or, take, drop}
 use Rattle.semantics.specs.Scenario.{Scenario}
 use Rattle.semantics.specs.State as definitions
 use Rattle.semantics.specs.State.{Active, active}
-use Rattle.semantics.specs.Replay.{suits, values_in}
+use Rattle.semantics.specs.Replay.{values_in}
 use Rattle.rows.specs.Rows.{rows_of}
 use Rattle.state.specs.declared.State.{State}
 use Rattle.state.specs.State.{Given, Due, IsState, NextMove}

@@ -1,5 +1,5 @@
 -- `event_count` sums the events of the runs. The loop's invariant: the sum is that of the runs passed. Assumes nothing.
-use Rattle.std.proofs.Common.{ℕ, ◌+◌, ◌*◌, ◌<◌, ◌≤◌, ◌≡◌, List, length, get_or, take, arith, ap, ◌∙◌, rules, length-take-le, take_all}
+use Rattle.std.proofs.Common.{ℕ, ◌<◌, ◌≤◌, ◌≡◌, List, length, get_or, take, arith, ap, ◌∙◌, rules, length-take-le, take_all}
 use Rattle.std.proofs.lemmas.List.{get_or-take}
 use Rattle.semantics.specs.Basic.{total}
 use Rattle.search.specs.laws.Events.{total-more}

@@ -1,20 +1,12 @@
 -- Slots: what is found of a key, and what the memory says once an entry is stored. Assumes nothing.
 use Rattle.std.specs.Prelude.{ℕ, ◌+◌, ◌*◌, ◌/◌, ◌%◌, ◌<◌, ◌≡◌, List, ◌⊎◌, length, get_or, set, replicate}
 use Rattle.std.proofs.Common.{div-add-mod', arith, sym, ap, ◌∙◌, inl, inr, ⊎_elim, length-set, get_or-set_same, get_or-set_other}
-use Rattle.search_memory.specs.Memory.{word_count, slot_count, key_size, count_end, HoldsKey, count_at, Says, LookedUp, Stored, Written}
+use Rattle.search_memory.specs.Memory.{word_count, slot_count, key_size, HoldsKey, count_at, Says, Stored, Written}
 use Rattle.search_memory.specs.laws.Words.{zeros-read, same-or-other}
 
 -- an array of zeros says nothing
 pub zeros-say-nothing : (n : ℕ) {k : List ℕ} {c : ℕ} → Says (replicate n 0) k c → ⊥
 zeros-say-nothing n s = omega (arith, s.counted, s.some, zeros-read n (40 * s.slot + 38), zeros-read n (40 * s.slot + 39))
-
--- the slot of a key is found
-pub slot-found : {memory key : List ℕ} {slot r : ℕ} → slot < slot_count → HoldsKey memory slot key → r ≡ count_at memory slot → r < count_end → LookedUp memory key r
-slot-found {slot = slot} l same e h = record { fits = h; says = λ some. record { slot = slot; inside = l; same = same; counted = sym e; some = some } }
-
--- no slot is found
-pub none_found : (memory key : List ℕ) → LookedUp memory key 0
-none_found memory key = record { fits = omega arith; says = λ l. absurd (omega arith) }
 
 -- A key and the halves of a count are written into a slot.
 module _ (before middle key : List ℕ) (slot count low high : ℕ) (inside : slot < slot_count) (size : length before ≡ word_count)
