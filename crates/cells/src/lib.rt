@@ -17,6 +17,15 @@ impl Cells {
     pub const ABSENT: u16 = 480;
 }
 
+// The name of each cell, or ABSENT.
+pub type Names = [u16; Cells::COUNT];
+
+// The class of each cell, equal for equal values, or ABSENT.
+pub type Classes = [u16; Cells::COUNT];
+
+// Which cells are marked.
+pub type Marks = [bool; Cells::COUNT];
+
 // A run that is looked at, in a table with so many rows and a scenario with so many runs.
 #[derive(Clone, Copy)]
 pub struct Scope {
@@ -57,13 +66,13 @@ fn matches_at(
     t: &[u8],
     n: usize,
     runs: usize,
-    classes: &[u16],
+    classes: &Classes,
     x: usize,
     a: u16,
     b: u16,
     w: usize,
 ) -> bool
-    requires { Shape t.now n runs × ((length classes.now ≡ cell_count) × ((x < n) × ((8 ≤ get_or t.now (3 * x) 0) × (w ≤ runs)))) }
+    requires { Shape t.now n runs × ((x < n) × ((8 ≤ get_or t.now (3 * x) 0) × (w ≤ runs))) }
     ensures { Tells (Matches t.now classes.now a b x w) result }
 {
     if Cells::ABSENT <= classes[cell(x, w)] {
@@ -79,12 +88,12 @@ fn matching_run(
     t: &[u8],
     n: usize,
     runs: usize,
-    classes: &[u16],
+    classes: &Classes,
     x: usize,
     a: u16,
     b: u16,
 ) -> Option<usize>
-    requires { Shape t.now n runs × ((length classes.now ≡ cell_count) × ((x < n) × (8 ≤ get_or t.now (3 * x) 0))) }
+    requires { Shape t.now n runs × ((x < n) × (8 ≤ get_or t.now (3 * x) 0)) }
     ensures { MatchOption result ((w : ℕ) → w ≤ runs → Matches t.now classes.now a b x w → ⊥) (λ w. (w ≤ runs) × Matches t.now classes.now a b x w) }
 {
     (0..=runs).find(|&w| matches_at(t, n, runs, classes, x, a, b, w))
@@ -95,13 +104,13 @@ fn found_in_row(
     t: &[u8],
     n: usize,
     runs: usize,
-    classes: &[u16],
+    classes: &Classes,
     x: usize,
     kind: usize,
     a: u16,
     b: u16,
 ) -> Option<u16>
-    requires { Shape t.now n runs × ((length classes.now ≡ cell_count) × ((x < n) × (8 ≤ kind))) }
+    requires { Shape t.now n runs × ((x < n) × (8 ≤ kind)) }
     ensures { MatchOption result (FoundInRow t.now runs classes.now kind a b x absent) (λ class. (class < absent) × FoundInRow t.now runs classes.now kind a b x class) }
 {
     if rows::kind_of(t, x) != kind {
@@ -116,12 +125,12 @@ pub fn found(
     t: &[u8],
     n: usize,
     runs: usize,
-    classes: &[u16],
+    classes: &Classes,
     kind: usize,
     a: u16,
     b: u16,
 ) -> Option<u16>
-    requires { Shape t.now n runs × ((length classes.now ≡ cell_count) × (8 ≤ kind)) }
+    requires { Shape t.now n runs × (8 ≤ kind) }
     ensures { MatchOption result (Found t.now n runs classes.now kind a b absent) (λ class. (class < absent) × Found t.now n runs classes.now kind a b class) }
 {
     (0..n).find_map(|x| found_in_row(t, n, runs, classes, x, kind, a, b))

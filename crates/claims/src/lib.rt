@@ -11,14 +11,14 @@ ghost use Rattle.state.specs.State.{Given, IsState};
 ghost use Rattle.claims.specs.AtRun.{AnswersEvent, AnswersRun, AnswersState};
 
 use answers::{Claim, ClaimKind};
-use cells::{Cells, cell};
+use cells::{Cells, Marks, cell};
 use records::Event;
 use runs::Runs;
 use state::State;
 
 // Whether event j of run k, both from 0, is a claim whose value is derivable. Past the last event there is none.
-fn claims_derivable(file: &[u8], r: Runs, marks: &[bool], k: usize, j: usize) -> bool
-    requires { ((sc : Scenario) × (RunsAt file.now sc r × (Guarantee sc × (k < r.count)))) × (length marks.now ≡ cell_count) }
+fn claims_derivable(file: &[u8], r: Runs, marks: &Marks, k: usize, j: usize) -> bool
+    requires { (sc : Scenario) × (RunsAt file.now sc r × (Guarantee sc × (k < r.count))) }
     ensures { AnswersEvent file.now r marks.now k j result }
 {
     if r.events[k] <= j {
@@ -34,11 +34,11 @@ fn broken_in_run(
     t: &[u8],
     n: usize,
     r: Runs,
-    marks: &[bool],
+    marks: &Marks,
     done: usize,
     k: usize,
 ) -> Option<Claim>
-    requires { ((sc : Scenario) × Given file.now t.now n r sc) × ((length marks.now ≡ cell_count) × (k < r.count)) }
+    requires { ((sc : Scenario) × Given file.now t.now n r sc) × (k < r.count) }
     ensures { AnswersRun file.now t.now r marks.now done k result }
 {
     if !runs::all_trusted(file, t, n, r, k) {
@@ -61,7 +61,7 @@ pub fn broken(
     n: usize,
     r: Runs,
     done: [usize; 4],
-    marks: [bool; Cells::COUNT],
+    marks: Marks,
 ) -> Option<Claim>
     requires { (sc : Scenario) × (d : definitions.State) × (s : State) × Given file.now t.now n r sc × IsState sc d s × (done ≡ s.done) × (marks ≡ s.marks) }
     ensures { AnswersState file.now t.now n r done marks result }

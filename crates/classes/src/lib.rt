@@ -7,7 +7,7 @@ ghost use Rattle.cells.specs.Cells.{cell_count};
 ghost use Rattle.classes.specs.Classes.{Refilled};
 ghost use Rattle.classes.specs.Filled.{ClassOf, Filled};
 
-use cells::{Cells, cell, found, second_of};
+use cells::{Cells, Classes, Names, cell, found, second_of};
 use rows::Kind;
 
 // The class of row x in run u, from the classes of its parts: a name, a class that is there already, or the cell itself.
@@ -15,12 +15,12 @@ fn class_of(
     t: &[u8],
     n: usize,
     runs: usize,
-    names: &[u16],
-    classes: &[u16],
+    names: &Names,
+    classes: &Classes,
     u: usize,
     x: usize,
 ) -> u16
-    requires { Shape t.now n runs × ((length classes.now ≡ cell_count) × ((length names.now ≡ cell_count) × ((u ≤ runs) × (x < n)))) }
+    requires { Shape t.now n runs × ((u ≤ runs) × (x < n)) }
     ensures { ClassOf t.now n runs names.now classes.now u x result }
 {
     let c = cell(x, u);
@@ -40,23 +40,31 @@ fn class_of(
 }
 
 // Gives row x its class in run u, if it has none yet.
-fn fill_row(classes: &mut [u16], t: &[u8], n: usize, runs: usize, names: &[u16], u: usize, x: usize)
-    requires { Shape t.now n runs × ((length classes.old ≡ cell_count) × ((length names.now ≡ cell_count) × ((u ≤ runs) × (x < n)))) }
+fn fill_row(
+    classes: &mut Classes,
+    t: &[u8],
+    n: usize,
+    runs: usize,
+    names: &Names,
+    u: usize,
+    x: usize,
+)
+    requires { Shape t.now n runs × ((u ≤ runs) × (x < n)) }
     ensures { Filled (rows_of t.now) runs u names.now x (x + 1) classes.old classes.new }
 {
     let c = cell(x, u);
     if classes[c] == Cells::ABSENT {
-        let class = class_of(t, n, runs, names, &classes[..], u, x);
+        let class = class_of(t, n, runs, names, classes, u, x);
         classes[c] = class;
     }
 }
 
 // The classes after the names of run u have grown. Parts are lower rows, so they have their classes first.
-pub fn refill(classes: &mut [u16], t: &[u8], n: usize, runs: usize, names: &[u16], u: usize)
-    requires { Shape t.now n runs × ((length classes.old ≡ cell_count) × ((length names.now ≡ cell_count) × (u ≤ runs))) }
+pub fn refill(classes: &mut Classes, t: &[u8], n: usize, runs: usize, names: &Names, u: usize)
+    requires { Shape t.now n runs × (u ≤ runs) }
     ensures { Refilled (rows_of t.now) runs u names.now classes.old classes.new }
 {
     for x in 0..n {
-        fill_row(&mut classes[..], t, n, runs, names, u, x);
+        fill_row(classes, t, n, runs, names, u, x);
     }
 }

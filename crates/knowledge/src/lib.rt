@@ -8,20 +8,20 @@ ghost use Rattle.cells.specs.Cells.{cell_count, absent};
 ghost use Rattle.knowledge.specs.Marks.{Settled, LearnsCell, Learnt};
 ghost use Rattle.knowledge.specs.Steps.{class_at, Gathered, Spread, InverseKinds, Opening, Gained, GainedAt, RowGained, AllIdle, SomeGained, Reaches, Finished};
 
-use cells::{Cells, cell};
+use cells::{Cells, Classes, Marks, cell};
 use rows::Kind;
 
 // The class of row r in run u.
-pub fn class_at(classes: &[u16], r: usize, u: usize) -> u16
-    requires { (length classes.now ≡ cell_count) × ((r < 96) × (u ≤ 4)) }
+pub fn class_at(classes: &Classes, r: usize, u: usize) -> u16
+    requires { (r < 96) × (u ≤ 4) }
     ensures { result ≡ class_at classes.now r u }
 {
     classes[cell(r, u)]
 }
 
 // Marks of classes from marks of cells: a class is marked if one of its cells is.
-fn gathered(start: &[bool], n: usize, runs: usize, classes: &[u16]) -> [bool; Cells::COUNT]
-    requires { (length start.now ≡ cell_count) × ((length classes.now ≡ cell_count) × ((n ≤ 96) × (runs ≤ 4))) }
+fn gathered(start: &Marks, n: usize, runs: usize, classes: &Classes) -> Marks
+    requires { (n ≤ 96) × (runs ≤ 4) }
     ensures { Gathered n runs classes.now start.now result }
 {
     let mut marks = [false; Cells::COUNT];
@@ -39,8 +39,8 @@ fn gathered(start: &[bool], n: usize, runs: usize, classes: &[u16]) -> [bool; Ce
 }
 
 // Marks of cells from marks of classes.
-fn spread(marks: &[bool], n: usize, runs: usize, classes: &[u16]) -> [bool; Cells::COUNT]
-    requires { (length marks.now ≡ cell_count) × ((length classes.now ≡ cell_count) × ((n ≤ 96) × (runs ≤ 4))) }
+fn spread(marks: &Marks, n: usize, runs: usize, classes: &Classes) -> Marks
+    requires { (n ≤ 96) × (runs ≤ 4) }
     ensures { Spread n runs classes.now marks.now result }
 {
     let mut out = [false; Cells::COUNT];
@@ -55,16 +55,15 @@ fn spread(marks: &[bool], n: usize, runs: usize, classes: &[u16]) -> [bool; Cell
 }
 
 // Whether a class is there and marked.
-fn is_marked(marks: &[bool], class: u16) -> bool
-    requires { length marks.now ≡ cell_count }
+fn is_marked(marks: &Marks, class: u16) -> bool
     ensures { result ≡ get_or marks.now class false }
 {
     class < Cells::ABSENT && marks[usize::from(class)]
 }
 
 // Marks a pair or an encryption, row x, in each run in which both its parts are marked.
-fn build_row(marks: &mut [bool], t: &[u8], n: usize, runs: usize, classes: &[u16], x: usize)
-    requires { (length marks.old ≡ cell_count) × (Shape t.now n runs × ((length classes.now ≡ cell_count) × (x < n))) }
+fn build_row(marks: &mut Marks, t: &[u8], n: usize, runs: usize, classes: &Classes, x: usize)
+    requires { Shape t.now n runs × (x < n) }
     ensures { Reaches t.now n runs classes.now marks.old marks.new }
 {
     if rows::kind_of(t, x) < Kind::PAIR {
@@ -75,8 +74,8 @@ fn build_row(marks: &mut [bool], t: &[u8], n: usize, runs: usize, classes: &[u16
     for u in 0..=runs {
         let class = class_at(classes, x, u);
         if class < Cells::ABSENT
-            && is_marked(&marks[..], class_at(classes, left, u))
-            && is_marked(&marks[..], class_at(classes, right, u))
+            && is_marked(marks, class_at(classes, left, u))
+            && is_marked(marks, class_at(classes, right, u))
         {
             marks[usize::from(class)] = true;
         }
@@ -96,8 +95,8 @@ pub fn inverse_kind(kind: usize) -> Option<usize>
 
 // Whether the inverse of a key is marked: the other key of that agent, or the key itself.
 // The key is told by its class, whose number is a cell with its kind and parts: a variable's own row does not have them.
-fn opens(marks: &[bool], t: &[u8], n: usize, runs: usize, classes: &[u16], key: u16) -> bool
-    requires { (length marks.now ≡ cell_count) × (Shape t.now n runs × (length classes.now ≡ cell_count)) }
+fn opens(marks: &Marks, t: &[u8], n: usize, runs: usize, classes: &Classes, key: u16) -> bool
+    requires { Shape t.now n runs }
     ensures { Opening t.now n runs classes.now marks.now key result }
 {
     let x = usize::from(key) % 96;
@@ -116,17 +115,17 @@ fn opens(marks: &[bool], t: &[u8], n: usize, runs: usize, classes: &[u16], key: 
 // What a pair or an encryption gives that is not marked yet, by the classes of it and its parts.
 // It gives its parts, and itself where it was passed in building before its parts were marked.
 fn given(
-    marks: &[bool],
+    marks: &Marks,
     t: &[u8],
     n: usize,
     runs: usize,
-    classes: &[u16],
+    classes: &Classes,
     kind: usize,
     whole: u16,
     left: u16,
     right: u16,
 ) -> Option<u16>
-    requires { (length marks.now ≡ cell_count) × (Shape t.now n runs × ((length classes.now ≡ cell_count) × (11 ≤ kind))) }
+    requires { Shape t.now n runs × (11 ≤ kind) }
     ensures { Gained t.now n runs classes.now marks.now kind whole left right (unwrap_or result absent) }
 {
     let has_left = is_marked(marks, left);
@@ -141,15 +140,15 @@ fn given(
 
 // A class that row x gives in run u and that is not marked yet.
 fn gain(
-    marks: &[bool],
+    marks: &Marks,
     t: &[u8],
     n: usize,
     runs: usize,
-    classes: &[u16],
+    classes: &Classes,
     x: usize,
     u: usize,
 ) -> Option<u16>
-    requires { (length marks.now ≡ cell_count) × (Shape t.now n runs × ((length classes.now ≡ cell_count) × ((x < n) × (u ≤ runs)))) }
+    requires { Shape t.now n runs × ((x < n) × (u ≤ runs)) }
     ensures { MatchOption result (GainedAt t.now n runs classes.now marks.now x u absent) (λ class. (class < absent) × GainedAt t.now n runs classes.now marks.now x u class) }
 {
     let kind = rows::kind_of(t, x);
@@ -166,44 +165,38 @@ fn gain(
 
 // A class that row x gives in some run and that is not marked yet.
 fn row_gain(
-    marks: &[bool],
+    marks: &Marks,
     t: &[u8],
     n: usize,
     runs: usize,
-    classes: &[u16],
+    classes: &Classes,
     x: usize,
 ) -> Option<u16>
-    requires { (length marks.now ≡ cell_count) × (Shape t.now n runs × ((length classes.now ≡ cell_count) × (x < n))) }
+    requires { Shape t.now n runs × (x < n) }
     ensures { MatchOption result (RowGained t.now n runs classes.now marks.now x absent) (λ class. (class < absent) × RowGained t.now n runs classes.now marks.now x class) }
 {
     (0..=runs).find_map(|u| gain(marks, t, n, runs, classes, x, u))
 }
 
 // A class that some row gives and that is not marked yet.
-fn next_gain(marks: &[bool], t: &[u8], n: usize, runs: usize, classes: &[u16]) -> Option<u16>
-    requires { (length marks.now ≡ cell_count) × (Shape t.now n runs × (length classes.now ≡ cell_count)) }
+fn next_gain(marks: &Marks, t: &[u8], n: usize, runs: usize, classes: &Classes) -> Option<u16>
+    requires { Shape t.now n runs }
     ensures { MatchOption result (AllIdle t.now n runs classes.now marks.now) (λ class. (class < absent) × SomeGained t.now n runs classes.now marks.now class) }
 {
     (0..n).find_map(|x| row_gain(marks, t, n, runs, classes, x))
 }
 
 // The marks of classes when nothing can be built or taken apart any more.
-fn rounds(
-    start: [bool; Cells::COUNT],
-    t: &[u8],
-    n: usize,
-    runs: usize,
-    classes: &[u16],
-) -> [bool; Cells::COUNT]
-    requires { Shape t.now n runs × (length classes.now ≡ cell_count) }
+fn rounds(start: Marks, t: &[u8], n: usize, runs: usize, classes: &Classes) -> Marks
+    requires { Shape t.now n runs }
     ensures { Finished t.now n runs classes.now start result }
 {
     let mut marks = start;
     loop {
         for x in 0..n {
-            build_row(&mut marks[..], t, n, runs, classes, x);
+            build_row(&mut marks, t, n, runs, classes, x);
         }
-        let Some(gained) = next_gain(&marks[..], t, n, runs, classes) else {
+        let Some(gained) = next_gain(&marks, t, n, runs, classes) else {
             return marks;
         };
         marks[usize::from(gained)] = true;
@@ -211,14 +204,8 @@ fn rounds(
 }
 
 // Marks worked on until they are exact, from marks that are sound and cover what is known.
-pub fn settle(
-    start: [bool; Cells::COUNT],
-    t: &[u8],
-    n: usize,
-    runs: usize,
-    classes: &[u16],
-) -> [bool; Cells::COUNT]
-    requires { Shape t.now n runs × (length classes.now ≡ cell_count) }
+pub fn settle(start: Marks, t: &[u8], n: usize, runs: usize, classes: &Classes) -> Marks
+    requires { Shape t.now n runs }
     ensures { Settled (rows_of t.now) runs classes.now start result }
 {
     let gathered_marks = gathered(&start, n, runs, classes);
@@ -228,15 +215,15 @@ pub fn settle(
 
 // The marks when the value of row r in run u is known too.
 pub fn learn(
-    mut marks: [bool; Cells::COUNT],
+    mut marks: Marks,
     t: &[u8],
     n: usize,
     runs: usize,
-    classes: &[u16],
+    classes: &Classes,
     r: usize,
     u: usize,
-) -> [bool; Cells::COUNT]
-    requires { Shape t.now n runs × ((length classes.now ≡ cell_count) × ((r < n) × (u ≤ runs))) }
+) -> Marks
+    requires { Shape t.now n runs × ((r < n) × (u ≤ runs)) }
     ensures learnt { Learnt (rows_of t.now) runs classes.now r u marks result }
     ensures learns_cell { LearnsCell (rows_of t.now) runs classes.now r u marks result }
 {

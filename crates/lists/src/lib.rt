@@ -11,8 +11,8 @@ ghost use Rattle.lists.specs.Lists.{Bars, Valued, clear_at, has_value};
 use rows::Kind;
 
 // Whether a row has a value if atoms of the kinds from low to high have none, given which of the rows below it have one.
-fn clear_row(t: &[u8], n: usize, clear: &[bool], r: usize, low: usize, high: usize) -> bool
-    requires { Sized t.now n × ((r < n) × (length clear.now ≡ 96)) }
+fn clear_row(t: &[u8], n: usize, clear: &[bool; 96], r: usize, low: usize, high: usize) -> bool
+    requires { Sized t.now n × (r < n) }
     ensures { result ≡ clear_at low high t.now clear.now r }
 {
     let kind = rows::kind_of(t, r);
@@ -35,8 +35,8 @@ pub fn clear_rows(t: &[u8], n: usize, low: usize, high: usize) -> [bool; 96]
 }
 
 // The place of the first of some rows, in bytes that begin at a place, that is absent, has no value or is not above the one before it.
-pub fn unfit_row(b: &[u8], base: usize, n: usize, clear: &[bool]) -> Option<usize>
-    requires { (n ≤ 96) × ((length clear.now ≡ 96) × (base ≤ 65536)) }
+pub fn unfit_row(b: &[u8], base: usize, n: usize, clear: &[bool; 96]) -> Option<usize>
+    requires { (n ≤ 96) × (base ≤ 65536) }
     ensures { result ≡ place_as (unfit_from (has_value n clear.now) base 0 b.now) }
 {
     let mut least = 0;

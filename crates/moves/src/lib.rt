@@ -7,14 +7,14 @@ ghost use Rattle.cells.specs.Cells.{cell_count};
 ghost use Rattle.state.specs.State.{Due};
 ghost use Rattle.moves.specs.Moves.{TellsAllowed, MarksAfter};
 
-use cells::{Cells, cell};
+use cells::{Cells, Classes, Marks, cell};
 use records::Event;
 use runs::RunEvent;
 
 // Whether the next event of run k is allowed: a claim always, a send if its term has a value, a read if sender, receiver and pattern are derivable. Classes
 // and marks are those with the new values of a read.
-pub fn is_allowed(classes: &[u16], marks: &[bool; Cells::COUNT], k: usize, e: RunEvent) -> bool
-    requires { (length classes.now ≡ cell_count) × ((k < 4) × ((e.own < 96) × ((e.peer < 96) × (e.row < 96)))) }
+pub fn is_allowed(classes: &Classes, marks: &Marks, k: usize, e: RunEvent) -> bool
+    requires { (k < 4) × ((e.own < 96) × ((e.peer < 96) × (e.row < 96))) }
     ensures { TellsAllowed k e classes.now marks.now result }
 {
     let c = cell(e.row, k + 1);
@@ -28,15 +28,15 @@ pub fn is_allowed(classes: &[u16], marks: &[bool; Cells::COUNT], k: usize, e: Ru
 // The marks after the next event of run k, if it is allowed: a send makes term, receiver and sender known, a read and a claim nothing. Classes and marks are
 // those with the new values of a read.
 pub fn perform(
-    classes: &[u16],
-    marks: [bool; Cells::COUNT],
+    classes: &Classes,
+    marks: Marks,
     t: &[u8],
     n: usize,
     runs: usize,
     k: usize,
     e: RunEvent,
-) -> [bool; Cells::COUNT]
-    requires { Shape t.now n runs × (Due n runs k e.own e.peer e.row × (length classes.now ≡ cell_count)) }
+) -> Marks
+    requires { Shape t.now n runs × Due n runs k e.own e.peer e.row }
     ensures { MarksAfter t.now n runs k e classes.now marks result }
 {
     if e.kind != Event::SEND {

@@ -8,7 +8,7 @@ ghost use Rattle.role_level.specs.RoleLevel.{RoleClasses};
 ghost use Rattle.open_marks.specs.Marks.{RowMarked, NameKnown, InverseKnown, Learns};
 ghost use Rattle.open_marks.specs.Sure.{note_count, Gains, Opens, InBoth, Shared, Added, SlotStands, KeptFor, SlotFilled, KeptIn};
 
-use cells::Cells;
+use cells::{Cells, Classes, Marks};
 use rows::Kind;
 
 // Notes: a hint for each row, the row of each of 128 slots, and each slot's marks.
@@ -20,24 +20,24 @@ impl Notes {
 }
 
 // Whether there is a row with the given kind and left byte that is marked.
-fn row_marked(marks: &[bool], t: &[u8], n: usize, kind: usize, left: usize) -> bool
-    requires { Shape t.now n 0 × (length marks.now ≡ cell_count) }
+fn row_marked(marks: &Marks, t: &[u8], n: usize, kind: usize, left: usize) -> bool
+    requires { Shape t.now n 0 }
     ensures { RowMarked t.now n marks.now kind left result }
 {
     (0..n).any(|x| marks[x] && rows::kind_of(t, x) == kind && rows::left_of(t, x) == left)
 }
 
 // Whether the name of role i is derivable.
-pub fn name_known(marks: &[bool], t: &[u8], n: usize, i: usize) -> bool
-    requires { Shape t.now n 0 × (length marks.now ≡ cell_count) }
+pub fn name_known(marks: &Marks, t: &[u8], n: usize, i: usize) -> bool
+    requires { Shape t.now n 0 }
     ensures { NameKnown (rows_of t.now) marks.now i result }
 {
     row_marked(marks, t, n, Kind::ROLE, i)
 }
 
 // Whether the inverse of the term of row k is derivable: the other key of that agent, or the term itself.
-pub fn inverse_known(marks: &[bool], t: &[u8], n: usize, k: usize) -> bool
-    requires { Shape t.now n 0 × ((length marks.now ≡ cell_count) × (k < n)) }
+pub fn inverse_known(marks: &Marks, t: &[u8], n: usize, k: usize) -> bool
+    requires { Shape t.now n 0 × (k < n) }
     ensures { InverseKnown (rows_of t.now) marks.now k result × Opens (rows_of t.now) marks.now k result }
 {
     let Some(other) = knowledge::inverse_kind(rows::kind_of(t, k)) else {
@@ -47,13 +47,7 @@ pub fn inverse_known(marks: &[bool], t: &[u8], n: usize, k: usize) -> bool
 }
 
 // The marks when the term of row x is known too.
-pub fn learned(
-    marks: [bool; Cells::COUNT],
-    t: &[u8],
-    n: usize,
-    classes: &[u16],
-    x: usize,
-) -> [bool; Cells::COUNT]
+pub fn learned(marks: Marks, t: &[u8], n: usize, classes: &Classes, x: usize) -> Marks
     requires { Shape t.now n 0 × (RoleClasses (rows_of t.now) classes.now × (x < n)) }
     ensures { Learns (rows_of t.now) x marks result × Gains (rows_of t.now) x marks result }
 {
@@ -61,16 +55,16 @@ pub fn learned(
 }
 
 // Whether row x is marked in both.
-fn in_both(one: &[bool], other: &[bool], x: usize) -> bool
-    requires { (x < cell_count) × ((length one.now ≡ cell_count) × (length other.now ≡ cell_count)) }
+fn in_both(one: &Marks, other: &Marks, x: usize) -> bool
+    requires { x < cell_count }
     ensures { InBoth one.now other.now x result }
 {
     one[x] && other[x]
 }
 
 // The rows that are marked in both.
-pub fn shared(one: &[bool], other: &[bool], n: usize) -> [bool; Cells::COUNT]
-    requires { (n ≤ 96) × ((length one.now ≡ cell_count) × (length other.now ≡ cell_count)) }
+pub fn shared(one: &Marks, other: &Marks, n: usize) -> Marks
+    requires { n ≤ 96 }
     ensures { Shared n one.now other.now result }
 {
     let mut both = [false; Cells::COUNT];
@@ -81,7 +75,7 @@ pub fn shared(one: &[bool], other: &[bool], n: usize) -> [bool; Cells::COUNT]
 }
 
 // Marks with one more, if it was found.
-pub fn added(mut marks: [bool; Cells::COUNT], found: Option<usize>) -> [bool; Cells::COUNT]
+pub fn added(mut marks: Marks, found: Option<usize>) -> Marks
     requires { IfSome found (λ x. x < 96) }
     ensures { Added found marks result }
 {
@@ -92,15 +86,15 @@ pub fn added(mut marks: [bool; Cells::COUNT], found: Option<usize>) -> [bool; Ce
 }
 
 // Whether some row is marked in both.
-fn meets(one: &[bool], other: &[bool], n: usize) -> bool
-    requires { (n ≤ 96) × ((length one.now ≡ cell_count) × (length other.now ≡ cell_count)) }
+fn meets(one: &Marks, other: &Marks, n: usize) -> bool
+    requires { n ≤ 96 }
 {
     (0..n).any(|x| in_both(one, other, x))
 }
 
 // The row beneath the encryptions of row x; row 0, an atom, where row x is marked or is no encryption.
-pub fn content_of(marks: &[bool], t: &[u8], n: usize, x: usize) -> usize
-    requires { Shape t.now n 0 × ((length marks.now ≡ cell_count) × (x < n)) }
+pub fn content_of(marks: &Marks, t: &[u8], n: usize, x: usize) -> usize
+    requires { Shape t.now n 0 × (x < n) }
     ensures { result ≤ x }
 {
     if marks[x] || rows::kind_of(t, x) != Kind::ENCRYPTED {
@@ -118,15 +112,15 @@ pub fn content_of(marks: &[bool], t: &[u8], n: usize, x: usize) -> usize
 // 96 notes, one for each row, say where it goes: to the first or the second part of a pair, 1 or 2, with the other part known; or
 // that it ends at an encryption that does not open, 3. The row at its end, unless it may be readable.
 fn follow(
-    more: &mut [bool],
-    way: &mut [bool],
-    sure: &[bool],
+    more: &mut Marks,
+    way: &mut Marks,
+    sure: &Marks,
     t: &[u8],
     n: usize,
-    notes: &[u8],
+    notes: &[u8; Notes::COUNT],
     mut x: usize,
 ) -> Option<usize>
-    requires { (length more.old ≡ cell_count) × ((length way.old ≡ cell_count) × (Shape t.now n 0 × ((length sure.now ≡ cell_count) × ((length notes.now ≡ note_count) × (x < n))))) }
+    requires { Shape t.now n 0 × (x < n) }
     ensures { IfSome result (λ end. end < n) }
 {
     // stays: the way goes down a chain of parts, so there is no range to go over
@@ -153,16 +147,16 @@ fn follow(
 
 // Whether a quick try is given up: the way that the notes remember as not readable still is not, by the marks that now stand.
 pub fn gives_up(
-    marks: [bool; Cells::COUNT],
-    sure: &[bool],
+    marks: Marks,
+    sure: &Marks,
     t: &[u8],
     n: usize,
-    classes: &[u16],
-    notes: &[u8],
+    classes: &Classes,
+    notes: &[u8; Notes::COUNT],
     quick: bool,
     x: usize,
 ) -> bool
-    requires { Shape t.now n 0 × (RoleClasses (rows_of t.now) classes.now × ((length sure.now ≡ cell_count) × ((length notes.now ≡ note_count) × (x < n)))) }
+    requires { Shape t.now n 0 × (RoleClasses (rows_of t.now) classes.now × (x < n)) }
     ensures { result ≡ true → quick ≡ true }
 {
     if !quick {
@@ -184,24 +178,24 @@ pub fn gives_up(
 }
 
 // Whether all marks that are kept in a slot stand.
-fn covers(marks: &[bool], notes: &[u8], n: usize, slot: usize) -> bool
-    requires { (n ≤ 96) × ((slot < 128) × ((length marks.now ≡ cell_count) × (length notes.now ≡ note_count))) }
+fn covers(marks: &Marks, notes: &[u8; Notes::COUNT], n: usize, slot: usize) -> bool
+    requires { (n ≤ 96) × (slot < 128) }
     ensures { result ≡ true → SlotStands n marks.now notes.now slot }
 {
     (0..n).all(|x| notes[256 + slot * 96 + x] != 1 || marks[x])
 }
 
 // Whether row x was found readable with marks that stand.
-pub fn is_kept(marks: &[bool], notes: &[u8], n: usize, x: usize) -> bool
-    requires { (n ≤ 96) × ((length marks.now ≡ cell_count) × (length notes.now ≡ note_count)) }
+pub fn is_kept(marks: &Marks, notes: &[u8; Notes::COUNT], n: usize, x: usize) -> bool
+    requires { n ≤ 96 }
     ensures { result ≡ true → KeptFor n marks.now notes.now x }
 {
     (0..128).any(|slot| usize::from(notes[96 + slot]) == x && covers(marks, notes, n, slot))
 }
 
 // Puts marks into a slot.
-fn fill_slot(marks: &[bool], notes: &mut [u8], n: usize, slot: usize)
-    requires { (n ≤ 96) × ((slot < 128) × ((length marks.now ≡ cell_count) × (length notes.old ≡ note_count))) }
+fn fill_slot(marks: &Marks, notes: &mut [u8; Notes::COUNT], n: usize, slot: usize)
+    requires { (n ≤ 96) × (slot < 128) }
     ensures { SlotFilled n marks.now slot notes.old notes.new }
 {
     for x in 0..n {
@@ -210,12 +204,12 @@ fn fill_slot(marks: &[bool], notes: &mut [u8], n: usize, slot: usize)
 }
 
 // Keeps the marks with which row x is readable, in place of the oldest that are kept.
-pub fn keep(marks: &[bool], notes: &mut [u8], n: usize, x: usize)
-    requires { (n ≤ 96) × ((x < n) × ((length marks.now ≡ cell_count) × (length notes.old ≡ note_count))) }
+pub fn keep(marks: &Marks, notes: &mut [u8; Notes::COUNT], n: usize, x: usize)
+    requires { (n ≤ 96) × (x < n) }
     ensures { KeptIn n marks.now x notes.old notes.new }
 {
     let slot = usize::from(notes[224]) % 128;
-    fill_slot(marks, &mut notes[..], n, slot);
+    fill_slot(marks, notes, n, slot);
     notes[96 + slot] = x as u8;
     notes[224] = (slot + 1) as u8;
 }

@@ -6,7 +6,8 @@ ghost use Rattle.rows.specs.Rows.{rows_of, Shape};
 ghost use Rattle.role_level.specs.RoleLevel.{RoleClasses};
 ghost use Rattle.open_marks.specs.Sure.{SureRows, Notes, Answers};
 
-use cells::Cells;
+use cells::{Cells, Classes, Marks};
+use open_marks::Notes;
 use rows::Kind;
 
 // Whether the term of row x is readable: derivable, a variable, a pair of which each part is readable with the other known,
@@ -14,12 +15,12 @@ use rows::Kind;
 // marks or more. Before a pair is read, what is beneath its parts is tried with what both ways have in common: where that is
 // readable, it is not read twice. A quick answer, which only tries, may be no though the term is readable.
 pub fn is_readable(
-    marks: [bool; Cells::COUNT],
-    sure: [bool; Cells::COUNT],
+    marks: Marks,
+    sure: Marks,
     t: &[u8],
     n: usize,
-    classes: &[u16],
-    notes: &mut [u8],
+    classes: &Classes,
+    notes: &mut [u8; Notes::COUNT],
     quick: bool,
     x: usize,
 ) -> bool
@@ -34,10 +35,10 @@ pub fn is_readable(
         return true;
     }
     if kind == Kind::PAIR {
-        if open_marks::is_kept(&marks, &notes[..], n, x) {
+        if open_marks::is_kept(&marks, notes, n, x) {
             return true;
         }
-        if open_marks::gives_up(marks, &sure, t, n, classes, &notes[..], quick, x) {
+        if open_marks::gives_up(marks, &sure, t, n, classes, notes, quick, x) {
             return false;
         }
         let l = rows::left_of(t, x);
@@ -46,20 +47,20 @@ pub fn is_readable(
         let with_first = open_marks::learned(marks, t, n, classes, l);
         let both = open_marks::shared(&with_second, &with_first, n);
         let c = open_marks::content_of(&with_second, t, n, l);
-        let found = is_readable(both, sure, t, n, classes, &mut notes[..], true, c);
+        let found = is_readable(both, sure, t, n, classes, notes, true, c);
         let more = open_marks::added(sure, found.then_some(c));
         let d = open_marks::content_of(&with_first, t, n, s);
-        let found_too = is_readable(both, more, t, n, classes, &mut notes[..], true, d);
+        let found_too = is_readable(both, more, t, n, classes, notes, true, d);
         let most = open_marks::added(more, found_too.then_some(d));
-        if !is_readable(with_second, most, t, n, classes, &mut notes[..], quick, l) {
+        if !is_readable(with_second, most, t, n, classes, notes, quick, l) {
             notes[x] = 1;
             return false;
         }
-        if !is_readable(with_first, most, t, n, classes, &mut notes[..], quick, s) {
+        if !is_readable(with_first, most, t, n, classes, notes, quick, s) {
             notes[x] = 2;
             return false;
         }
-        open_marks::keep(&marks, &mut notes[..], n, x);
+        open_marks::keep(&marks, notes, n, x);
         return true;
     }
     if kind == Kind::ENCRYPTED {
@@ -71,7 +72,7 @@ pub fn is_readable(
                 t,
                 n,
                 classes,
-                &mut notes[..],
+                notes,
                 quick,
                 rows::left_of(t, x),
             );

@@ -10,16 +10,16 @@ ghost use Rattle.role_level.specs.RoleLevel.{RoleClasses};
 ghost use Rattle.open_wellformed.specs.WellFormed.{WellFormedEvent, EventLearns, GoodRecord, IllRole};
 ghost use Rattle.records.specs.Records.{part_at};
 
-use cells::Cells;
+use cells::{Cells, Classes, Marks};
 use open_marks::Notes;
 use records::Event;
 
 // Whether an event of role `own` is well formed.
 fn is_well_formed(
-    marks: [bool; Cells::COUNT],
+    marks: Marks,
     t: &[u8],
     n: usize,
-    classes: &[u16],
+    classes: &Classes,
     own: usize,
     kind: usize,
     peer: usize,
@@ -44,10 +44,10 @@ fn is_well_formed(
 
 // The marks after an event of a kind with the term of row x: a read makes the term known.
 fn event_learned(
-    marks: [bool; Cells::COUNT],
+    marks: Marks,
     t: &[u8],
     n: usize,
-    classes: &[u16],
+    classes: &Classes,
     event: usize,
     x: usize,
 ) -> [bool; Cells::COUNT]
@@ -61,7 +61,7 @@ fn event_learned(
 }
 
 // The place of the first event of role `own` that is not well formed: its offset in the role's record, which begins at the front.
-fn ill_formed_role(s: &[u8], t: &[u8], n: usize, classes: &[u16], own: usize) -> Option<usize>
+fn ill_formed_role(s: &[u8], t: &[u8], n: usize, classes: &Classes, own: usize) -> Option<usize>
     requires { Shape t.now n 0 × (RoleClasses (rows_of t.now) classes.now × GoodRecord (rows_of t.now) s.now) }
     ensures { IllRole (rows_of t.now) own s.now result }
 {

@@ -9,7 +9,7 @@ ghost use Rattle.variables.specs.Variables.{In, AreVariables};
 ghost use Rattle.read_possible.specs.Tests.{RowInRun};
 ghost use Rattle.read_completions.specs.Completions.{Scene, MarkedScene, NeedsAt, NeededAdded, Matched, MissesNone, SetsBelow, VariableSet, NoneEmpty, CompletionsKept, Completable, Completes};
 
-use cells::{Cells, Scope, cell};
+use cells::{Cells, Classes, Marks, Scope, cell};
 use read_domains::{ClassSet, Domains};
 use rows::Kind;
 use variables::VariableRows;
@@ -25,8 +25,8 @@ pub struct Pattern {
 // What rows need so that row r gets the value of a marked cell, if that is of its kind and stands for its own value, and the domains have what variables need.
 fn needs_at(
     t: &[u8],
-    classes: &[u16],
-    marks: &[bool],
+    classes: &Classes,
+    marks: &Marks,
     pattern: Pattern,
     dom: &Domains,
     r: usize,
@@ -67,8 +67,8 @@ fn admit(set: &mut ClassSet, vars: VariableRows, i: usize, need: &[u16; 96])
 // The classes that variable i gets where row r gets the value of a marked cell.
 fn matched(
     t: &[u8],
-    classes: &[u16],
-    marks: &[bool],
+    classes: &Classes,
+    marks: &Marks,
     pattern: Pattern,
     dom: &Domains,
     i: usize,
@@ -109,8 +109,8 @@ fn leaf(dom: &Domains, marked: &Domains, pattern: Pattern, i: usize, r: usize) -
 fn set_at(
     sets: &[ClassSet; 96],
     t: &[u8],
-    classes: &[u16],
-    marks: &[bool],
+    classes: &Classes,
+    marks: &Marks,
     pattern: Pattern,
     dom: &Domains,
     marked: &Domains,
@@ -148,8 +148,8 @@ fn set_at(
 // The classes that variable i gets where the pattern is derivable.
 fn set_of(
     t: &[u8],
-    classes: &[u16],
-    marks: &[bool],
+    classes: &Classes,
+    marks: &Marks,
     pattern: Pattern,
     dom: &Domains,
     marked: &Domains,
@@ -179,8 +179,8 @@ fn is_open(dom: &Domains, i: usize) -> bool
 fn narrowed(
     dom: Domains,
     t: &[u8],
-    classes: &[u16],
-    marks: &[bool],
+    classes: &Classes,
+    marks: &Marks,
     pattern: Pattern,
     marked: &Domains,
     below: &[bool; 96],
@@ -213,8 +213,8 @@ fn sizes(dom: &Domains, vars: VariableRows) -> [usize; 8]
 fn settled(
     dom: Domains,
     t: &[u8],
-    classes: &[u16],
-    marks: &[bool],
+    classes: &Classes,
+    marks: &Marks,
     pattern: Pattern,
     marked: &Domains,
     below: &[bool; 96],
@@ -276,13 +276,13 @@ fn smallest(
 // are not tied need not be tried.
 fn tied(
     t: &[u8],
-    classes: &[u16],
+    classes: &Classes,
     pattern: Pattern,
     dom: &Domains,
     below: &[bool; 96],
 ) -> Option<usize>
     requires shape { Shape t.now pattern.scope.rows pattern.scope.runs }
-    requires classes_len { (length classes.now ≡ cell_count) × ((pattern.scope.run ≤ pattern.scope.runs) × AreVariables t.now pattern.scope.rows pattern.vars) }
+    requires classes_len { (pattern.scope.run ≤ pattern.scope.runs) × AreVariables t.now pattern.scope.rows pattern.vars }
     ensures { IfSome result (λ i. i < pattern.vars.count) }
 {
     let counts = sizes(dom, pattern.vars);
@@ -306,8 +306,8 @@ fn tied(
 fn completable(
     dom: Domains,
     t: &[u8],
-    classes: &[u16],
-    marks: &[bool],
+    classes: &Classes,
+    marks: &Marks,
     pattern: Pattern,
     marked: &Domains,
     below: &[bool; 96],
@@ -339,7 +339,7 @@ fn completable(
 
 // Whether the unset variables beneath row x may get values with which the row is derivable: true wherever they may. With one such variable alone
 // its values are as soon tried.
-pub fn completes(t: &[u8], classes: &[u16], marks: &[bool], scope: Scope, x: usize) -> bool
+pub fn completes(t: &[u8], classes: &Classes, marks: &Marks, scope: Scope, x: usize) -> bool
     requires { RowInRun t.now classes.now marks.now scope x }
     ensures { Completes t.now scope.rows scope.runs classes.now marks.now scope.run x result }
 {

@@ -7,7 +7,7 @@ ghost use Rattle.knowledge.specs.Steps.{kind_at};
 ghost use Rattle.variables.specs.Variables.{In, AreVariables};
 ghost use Rattle.read_domains.specs.Domains.{Marks, Counts, Scoped, InRow, Listed, ListedAt, Narrows, NarrowsTo, Joins, Fit, AtSlot};
 
-use cells::{Cells, Scope};
+use cells::{Cells, Classes, Marks, Scope};
 use variables::VariableRows;
 
 // A set of classes.
@@ -17,8 +17,8 @@ pub type ClassSet = [bool; Cells::COUNT];
 pub type Domains = [ClassSet; 8];
 
 // Adds the class of cell c to a set, if the cell counts: any does, or those that are marked.
-fn add_value(set: &mut ClassSet, classes: &[u16], marks: Option<&[bool]>, c: usize)
-    requires { (length classes.now ≡ cell_count) × (Marks marks × (c < cell_count)) }
+fn add_value(set: &mut ClassSet, classes: &Classes, marks: Option<&Marks>, c: usize)
+    requires { Marks marks × (c < cell_count) }
     ensures { (t : List ℕ) (n runs q : ℕ) → ListedAt t n runs classes.now (Counts marks.entry) q c set.old set.new }
 {
     if let Some(marks) = marks {
@@ -33,7 +33,7 @@ fn add_value(set: &mut ClassSet, classes: &[u16], marks: Option<&[bool]>, c: usi
 }
 
 // The classes of the values that the variable of row q may take, or of those that are marked.
-fn values_of(t: &[u8], classes: &[u16], marks: Option<&[bool]>, scope: Scope, q: usize) -> ClassSet
+fn values_of(t: &[u8], classes: &Classes, marks: Option<&Marks>, scope: Scope, q: usize) -> ClassSet
     requires { Scoped t.now classes.now marks scope × ((q < scope.rows) × (kind_at t.now q ≡ 6)) }
     ensures { Listed t.now scope.rows scope.runs classes.now (Counts marks.entry) q (In result) }
 {
@@ -73,8 +73,8 @@ pub fn narrow_to(dom: Domains, i: usize, class: usize) -> Domains
 // For each variable the classes of the values that it may take, or of those that are marked.
 pub fn of_variables(
     t: &[u8],
-    classes: &[u16],
-    marks: Option<&[bool]>,
+    classes: &Classes,
+    marks: Option<&Marks>,
     scope: Scope,
     vars: VariableRows,
 ) -> Domains

@@ -5,12 +5,12 @@ ghost use Rattle.std.specs.Prelude.{◌≡◌, ◌<◌, ◌≤◌, length};
 ghost use Rattle.cells.specs.Cells.{cell_count};
 ghost use Rattle.read_fits.specs.Fits.{InScope, MadeInScope, Asked, PartsAsked, PassedDown, NeedsMet};
 
-use cells::{Cells, Scope};
+use cells::{Cells, Classes, Scope};
 use rows::Kind;
 
 // Notes that row q of run u needs a class, unless it has or needs another already.
-fn ask(need: &mut [u16; 96], classes: &[u16], u: usize, q: usize, class: u16) -> bool
-    requires { (length classes.now ≡ cell_count) × ((q < 96) × (u ≤ 4)) }
+fn ask(need: &mut [u16; 96], classes: &Classes, u: usize, q: usize, class: u16) -> bool
+    requires { (q < 96) × (u ≤ 4) }
     ensures { Asked classes.now u need.old need.new q class result }
 {
     let own = knowledge::class_at(classes, q, u);
@@ -28,7 +28,7 @@ fn ask(need: &mut [u16; 96], classes: &[u16], u: usize, q: usize, class: u16) ->
 fn share(
     need: &mut [u16; 96],
     t: &[u8],
-    classes: &[u16],
+    classes: &Classes,
     scope: Scope,
     q: usize,
     y: usize,
@@ -44,7 +44,7 @@ fn share(
 }
 
 // Passes on to the parts of row q what the row needs: false where it cannot get that.
-fn follow(need: &mut [u16; 96], t: &[u8], classes: &[u16], scope: Scope, q: usize) -> bool
+fn follow(need: &mut [u16; 96], t: &[u8], classes: &Classes, scope: Scope, q: usize) -> bool
     requires { InScope t.now classes.now scope q }
     ensures { PassedDown t.now scope.rows scope.runs classes.now scope.run need.old need.new result }
 {
@@ -62,7 +62,13 @@ fn follow(need: &mut [u16; 96], t: &[u8], classes: &[u16], scope: Scope, q: usiz
 }
 
 // What row r and the rows below it need so that it gets the value of a class, unless one of them is refused that: one pass from the row down.
-pub fn needs_of(t: &[u8], classes: &[u16], scope: Scope, r: usize, class: u16) -> Option<[u16; 96]>
+pub fn needs_of(
+    t: &[u8],
+    classes: &Classes,
+    scope: Scope,
+    r: usize,
+    class: u16,
+) -> Option<[u16; 96]>
     requires { InScope t.now classes.now scope r }
     ensures { NeedsMet t.now scope.rows scope.runs classes.now scope.run r class result }
 {

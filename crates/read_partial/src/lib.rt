@@ -7,20 +7,20 @@ ghost use Rattle.cells.specs.Cells.{cell_count};
 ghost use Rattle.state.specs.State.{Due};
 ghost use Rattle.read_partial.specs.Partial.{Tested};
 
-use cells::Scope;
+use cells::{Classes, Marks, Scope};
 use runs::RunEvent;
 
 // Whether the next event of run k, a read, may be allowed once its other variables are set too. Classes and marks are those with the values chosen so far.
 pub fn may_be_read(
-    classes: &[u16],
-    marks: &[bool],
+    classes: &Classes,
+    marks: &Marks,
     t: &[u8],
     n: usize,
     runs: usize,
     k: usize,
     e: RunEvent,
 ) -> bool
-    requires { Shape t.now n runs × (Due n runs k e.own e.peer e.row × ((length classes.now ≡ cell_count) × (length marks.now ≡ cell_count))) }
+    requires { Shape t.now n runs × Due n runs k e.own e.peer e.row }
     ensures { Tested t.now runs k e classes.now marks.now result }
 {
     let own = marks[e.own];

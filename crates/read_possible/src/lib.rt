@@ -7,14 +7,14 @@ ghost use Rattle.read_fits.specs.Fits.{CanTake};
 ghost use Rattle.read_possible.specs.Possible.{Possible};
 ghost use Rattle.read_possible.specs.Tests.{TestedRows, RowInRun, TriesMarks};
 
-use cells::{Cells, Scope, cell};
+use cells::{Cells, Classes, Marks, Scope, cell};
 use rows::Kind;
 
 // Whether row r can still get the value of row y in run w, if that cell is marked and stands for its own value.
 fn fits_cell(
     t: &[u8],
-    classes: &[u16],
-    marks: &[bool],
+    classes: &Classes,
+    marks: &Marks,
     scope: Scope,
     r: usize,
     y: usize,
@@ -33,7 +33,7 @@ fn fits_cell(
 }
 
 // Whether row r can still get the value of row y in some run.
-fn fits_row(t: &[u8], classes: &[u16], marks: &[bool], scope: Scope, r: usize, y: usize) -> bool
+fn fits_row(t: &[u8], classes: &Classes, marks: &Marks, scope: Scope, r: usize, y: usize) -> bool
     requires { RowInRun t.now classes.now marks.now scope r × (y < scope.rows) }
     ensures { (w : ℕ) → w ≤ scope.runs → CanTake t.now scope.rows scope.runs classes.now scope.run marks.now r y w → result ≡ true }
 {
@@ -41,7 +41,7 @@ fn fits_row(t: &[u8], classes: &[u16], marks: &[bool], scope: Scope, r: usize, y
 }
 
 // Whether row r can still get the value of a marked cell of its kind.
-fn fits_mark(t: &[u8], classes: &[u16], marks: &[bool], scope: Scope, r: usize) -> bool
+fn fits_mark(t: &[u8], classes: &Classes, marks: &Marks, scope: Scope, r: usize) -> bool
     requires { RowInRun t.now classes.now marks.now scope r }
     ensures { TriesMarks t.now classes.now marks.now scope r result }
 {
@@ -61,8 +61,8 @@ fn both(can: &[bool; 96], l: usize, s: usize) -> bool
 fn test_row(
     can: &[bool; 96],
     t: &[u8],
-    classes: &[u16],
-    marks: &[bool],
+    classes: &Classes,
+    marks: &Marks,
     scope: Scope,
     r: usize,
 ) -> bool
@@ -86,7 +86,7 @@ fn test_row(
 }
 
 // Whether row x can still be derivable once more variables of the run are set: true wherever it can.
-pub fn possible(t: &[u8], classes: &[u16], marks: &[bool], scope: Scope, x: usize) -> bool
+pub fn possible(t: &[u8], classes: &Classes, marks: &Marks, scope: Scope, x: usize) -> bool
     requires { RowInRun t.now classes.now marks.now scope x }
     ensures { Possible (rows_of t.now) scope.runs classes.now marks.now scope.run x result }
 {

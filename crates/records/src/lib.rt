@@ -74,8 +74,8 @@ pub fn role_at(b: &[u8], i: usize) -> usize
 }
 
 // Whether the knowledge rows of a role record are rising, present and have no variable beneath.
-fn knowledge_fits(s: &[u8], n: usize, clear: &[bool]) -> bool
-    requires { (role_length s.now ≤ length s.now) × ((n ≤ 96) × (length clear.now ≡ 96)) }
+fn knowledge_fits(s: &[u8], n: usize, clear: &[bool; 96]) -> bool
+    requires { (role_length s.now ≤ length s.now) × (n ≤ 96) }
     ensures { (rows : List Row) → n ≡ length rows → Valued rows without_variables clear.now → result ≡ knowledge_fits rows (knowledge_in s.now) }
 {
     let end = 1 + usize::from(s[0]);
@@ -108,8 +108,8 @@ fn events_fit(s: &[u8], n: usize, roles: usize) -> bool
 }
 
 // Whether role record i, which begins at the front, is within the rules.
-fn good_role(s: &[u8], n: usize, clear: &[bool], roles: usize, i: usize) -> bool
-    requires { (1 ≤ length s.now) × ((n ≤ 96) × (length clear.now ≡ 96)) }
+fn good_role(s: &[u8], n: usize, clear: &[bool; 96], roles: usize, i: usize) -> bool
+    requires { (1 ≤ length s.now) × (n ≤ 96) }
     ensures { TellsGood n clear.now roles i s.now result }
 {
     if s.len() < role_length(s) {

@@ -10,20 +10,20 @@ ghost use Rattle.rows.specs.Rows.{Shape};
 ghost use Rattle.state.specs.State.{NextMove};
 ghost use Rattle.replay_choices.specs.Choices.{Suited, SuitedRead};
 
-use cells::Cells;
+use cells::{Cells, Names};
 use runs::RunEvent;
 use state::State;
 
 // The names with the new values of a read of run k, if they are as many as its unset variables and each may be taken.
 fn chosen(
-    names: [u16; Cells::COUNT],
+    names: Names,
     t: &[u8],
     n: usize,
     runs: usize,
     k: usize,
     row: usize,
     values: &[u8],
-) -> Option<[u16; Cells::COUNT]>
+) -> Option<Names>
     requires { Shape t.now n runs × ((k < runs) × (row < n)) }
     ensures { SuitedRead t.now runs k row names values.now result }
 {
@@ -62,7 +62,7 @@ pub fn valued(
     k: usize,
     e: RunEvent,
     values: &[u8],
-) -> Option<[u16; Cells::COUNT]>
+) -> Option<Names>
     requires { Shape t.now n runs × ((k < runs) × (e.row < n)) }
     ensures { (sc : Scenario) (d : definitions.State) (a : Active) → NextMove t.now runs k e sc d s a → Suited sc d a (values_in values.now) result }
 {

@@ -9,7 +9,7 @@ ghost use Rattle.cells.specs.Cells.{cell_count};
 ghost use Rattle.state.specs.State.{Given, IsState};
 ghost use Rattle.replay_steps.specs.Steps.{StepDone, Worked};
 
-use cells::{Cells, Scope};
+use cells::{Cells, Classes, Marks, Names, Scope};
 use records::Event;
 use runs::{RunEvent, Runs};
 use state::State;
@@ -23,18 +23,18 @@ pub struct Stepped {
 
 // The marks for an event with its new values, and its classes: worked on for a read, which alone has new values.
 fn worked(
-    classes: &mut [u16],
-    marks: [bool; Cells::COUNT],
-    names: &[u16],
+    classes: &mut Classes,
+    marks: Marks,
+    names: &Names,
     t: &[u8],
     scope: Scope,
     kind: usize,
-) -> [bool; Cells::COUNT]
-    requires { Shape t.now scope.rows scope.runs × ((scope.run ≤ scope.runs) × ((length classes.old ≡ cell_count) × (length names.now ≡ cell_count))) }
+) -> Marks
+    requires { Shape t.now scope.rows scope.runs × (scope.run ≤ scope.runs) }
     ensures { Worked (rows_of t.now) scope.runs scope.run kind names.now classes.old marks classes.new result }
 {
     if kind == Event::READ {
-        return state::with_names(&mut classes[..], marks, names, t, scope);
+        return state::with_names(classes, marks, names, t, scope);
     }
     marks
 }

@@ -8,11 +8,11 @@ ghost use Rattle.rows.specs.Rows.{rows_of, Shape};
 ghost use Rattle.cells.specs.Cells.{cell_count};
 ghost use Rattle.role_level.specs.RoleLevel.{listed_terms, RoleClasses, RoleExact, OwnNames, ListedMarks, ListedBelow};
 
-use cells::Cells;
+use cells::{Cells, Classes, Marks, Names};
 use std::array;
 
 // The names at role level: each row names itself.
-fn own_names(n: usize) -> [u16; Cells::COUNT]
+fn own_names(n: usize) -> Names
     requires { n ≤ 96 }
     ensures { OwnNames n result }
 {
@@ -20,7 +20,7 @@ fn own_names(n: usize) -> [u16; Cells::COUNT]
 }
 
 // The marks of the listed rows.
-fn listed_marks(list: &[u8], n: usize) -> [bool; Cells::COUNT]
+fn listed_marks(list: &[u8], n: usize) -> Marks
     requires { (n ≤ 96) × ListedBelow n list.now }
     ensures { ListedMarks n list.now result }
 {
@@ -32,7 +32,7 @@ fn listed_marks(list: &[u8], n: usize) -> [bool; Cells::COUNT]
 }
 
 // The classes of a table's rows.
-pub fn classes_of(t: &[u8], n: usize) -> [u16; Cells::COUNT]
+pub fn classes_of(t: &[u8], n: usize) -> Classes
     requires { Shape t.now n 0 }
     ensures { RoleClasses (rows_of t.now) result }
 {
@@ -43,7 +43,7 @@ pub fn classes_of(t: &[u8], n: usize) -> [u16; Cells::COUNT]
 }
 
 // The marks of all that is derivable from listed rows.
-pub fn marks_of(t: &[u8], n: usize, classes: &[u16], list: &[u8]) -> [bool; Cells::COUNT]
+pub fn marks_of(t: &[u8], n: usize, classes: &Classes, list: &[u8]) -> Marks
     requires { Shape t.now n 0 × (RoleClasses (rows_of t.now) classes.now × ListedBelow n list.now) }
     ensures { RoleExact (rows_of t.now) (listed_terms (rows_of t.now) list.now) result }
 {

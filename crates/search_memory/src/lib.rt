@@ -6,7 +6,7 @@ ghost use Rattle.rows.specs.Rows.{Sized};
 ghost use Rattle.cells.specs.Cells.{cell_count};
 ghost use Rattle.search_memory.specs.Memory.{word_count, slot_count, key_size, count_end, Variables, name_of, IsKey, HoldsKey, count_at, LookedUp, Stored, Kept, Written};
 
-use cells::cell;
+use cells::{Names, cell};
 
 // The words of the memory: sets of slots, in each slot the words of a key and two for the count.
 #[derive(Drop)]
@@ -37,6 +37,9 @@ impl Memory {
     const KEPT: u64 = 4294967296;
 }
 
+// All words of the memory.
+pub type Words = [u16; Memory::WORDS];
+
 // The rows of a table's variables; unused places hold row 0.
 pub fn variable_rows(t: &[u8], n: usize) -> [usize; 8]
     requires { Sized t.now n }
@@ -48,8 +51,8 @@ pub fn variable_rows(t: &[u8], n: usize) -> [usize; 8]
 }
 
 // Writes the names of run k, from 0, at the variables' rows into a key.
-fn fill_names(key: &mut [u16; 38], variables: &[usize; 8], names: &[u16], k: usize)
-    requires { (length key.old ≡ key_size) × ((length names.now ≡ cell_count) × ((k < 4) × ((i : ℕ) → i < 8 → get_or variables.now i 0 < 96))) }
+fn fill_names(key: &mut [u16; 38], variables: &[usize; 8], names: &Names, k: usize)
+    requires { (length key.old ≡ key_size) × ((k < 4) × ((i : ℕ) → i < 8 → get_or variables.now i 0 < 96)) }
     ensures { Written key.old key.new (6 + 8 * k) 8 (name_of variables.now names.now k) }
 {
     for (i, x) in variables.iter().enumerate() {
@@ -58,8 +61,8 @@ fn fill_names(key: &mut [u16; 38], variables: &[usize; 8], names: &[u16], k: usi
 }
 
 // The key of a state.
-pub fn key_of(variables: [usize; 8], done: [usize; 4], names: &[u16], depth: usize) -> [u16; 38]
-    requires { (length names.now ≡ cell_count) × (((i : ℕ) → i < 8 → get_or variables i 0 < 96) × (((k : ℕ) → k < 4 → get_or done k 0 < 65536) × (depth < 65536))) }
+pub fn key_of(variables: [usize; 8], done: [usize; 4], names: &Names, depth: usize) -> [u16; 38]
+    requires { ((i : ℕ) → i < 8 → get_or variables i 0 < 96) × (((k : ℕ) → k < 4 → get_or done k 0 < 65536) × (depth < 65536)) }
     ensures { IsKey variables done names.now depth result }
 {
     let mut key = [0; 38];
@@ -97,8 +100,8 @@ fn first_slot(key: &[u16; 38]) -> usize
 }
 
 // Whether a slot's key is the given one, in every word.
-fn holds_key(memory: &[u16], slot: usize, key: &[u16; 38]) -> bool
-    requires { (length memory.now ≡ word_count) × (slot < slot_count) }
+fn holds_key(memory: &Words, slot: usize, key: &[u16; 38]) -> bool
+    requires { slot < slot_count }
     ensures { result ≡ true → HoldsKey memory.now slot key.now }
 {
     let at = Memory::SLOT * slot;
@@ -106,8 +109,8 @@ fn holds_key(memory: &[u16], slot: usize, key: &[u16; 38]) -> bool
 }
 
 // The count of a slot.
-fn count_at(memory: &[u16], slot: usize) -> usize
-    requires { (length memory.now ≡ word_count) × (slot < slot_count) }
+fn count_at(memory: &Words, slot: usize) -> usize
+    requires { slot < slot_count }
     ensures { (result ≡ count_at memory.now slot) × (result < count_end) }
 {
     let at = Memory::SLOT * slot;
@@ -115,8 +118,7 @@ fn count_at(memory: &[u16], slot: usize) -> usize
 }
 
 // The count that the memory has for a key, if it has one.
-pub fn look_up(memory: &[u16], key: &[u16; 38]) -> Option<usize>
-    requires { length memory.now ≡ word_count }
+pub fn look_up(memory: &Words, key: &[u16; 38]) -> Option<usize>
     ensures { IfSome result (λ count. (0 < count) × LookedUp memory.now key.now count) }
 {
     let first = first_slot(key);
@@ -126,8 +128,7 @@ pub fn look_up(memory: &[u16], key: &[u16; 38]) -> Option<usize>
 }
 
 // The slot to which an entry goes: the one of the same key, or else the first of the smallest count.
-fn slot_for(memory: &[u16], key: &[u16; 38]) -> usize
-    requires { length memory.now ≡ word_count }
+fn slot_for(memory: &Words, key: &[u16; 38]) -> usize
     ensures { result < slot_count }
 {
     let first = first_slot(key);
@@ -147,7 +148,7 @@ fn slot_for(memory: &[u16], key: &[u16; 38]) -> usize
 }
 
 // Writes a key from a place on.
-fn write_key(memory: &mut [u16], at: usize, key: &[u16; 38])
+fn write_key(memory: &mut Words, at: usize, key: &[u16; 38])
     requires { at + key_size ≤ length memory.old }
     ensures { Written memory.old memory.new at key_size (λ i. get_or key.now i 0) }
 {
@@ -171,23 +172,23 @@ fn high_half(count: usize) -> u16
 }
 
 // Stores the count of a key, over the entry of the same key or else over one of the smallest count.
-pub fn store(memory: &mut [u16], key: &[u16; 38], count: usize)
-    requires { (length memory.old ≡ word_count) × ((0 < count) × (count < count_end)) }
+pub fn store(memory: &mut Words, key: &[u16; 38], count: usize)
+    requires { (0 < count) × (count < count_end) }
     ensures { Stored memory.old memory.new key.now count }
 {
-    let at = Memory::SLOT * slot_for(&memory[..], key);
-    write_key(&mut memory[..], at, key);
+    let at = Memory::SLOT * slot_for(memory, key);
+    write_key(memory, at, key);
     memory[at + Memory::LOW] = low_half(count);
     memory[at + Memory::HIGH] = high_half(count);
 }
 
 // Stores the count of a key, if there is one to store.
-pub fn keep(memory: &mut [u16], key: &[u16; 38], count: usize)
-    requires { (length memory.old ≡ word_count) × (count < count_end) }
+pub fn keep(memory: &mut Words, key: &[u16; 38], count: usize)
+    requires { count < count_end }
     ensures { Kept memory.old memory.new key.now count }
 {
     if count == 0 {
         return;
     }
-    store(&mut memory[..], key, count);
+    store(memory, key, count);
 }

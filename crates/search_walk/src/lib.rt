@@ -6,23 +6,24 @@ ghost use Rattle.search_breaks.specs.Walk.{state_of, SomeState, SomeClear, SomeC
 ghost use Rattle.search_same.specs.Memory.{Remembers, Room};
 
 use answers::Walked;
-use cells::{Cells, Scope};
+use cells::{Cells, Classes, Marks, Names, Scope};
 use records::Event;
 use search_breaks::{Choice, Course, Plan, Reach, Turn};
+use search_memory::Words;
 
 // Walks through the traces from a state on. How far the runs have come and the marks go by value; names and classes, which only a read changes, are lent. The
 // memory stays right.
 #[cycle(walk_walk_after_walk_move_walk_run_walk_values)]
 pub fn walk(
     trace: &mut [u8],
-    memory: &mut [u16],
+    memory: &mut Words,
     file: &[u8],
     t: &[u8],
     plan: Plan,
     course: Course,
-    names: &[u16],
-    classes: &[u16],
-    marks: [bool; 480],
+    names: &Names,
+    classes: &Classes,
+    marks: Marks,
     reach: Reach,
 ) -> Walked
     requires some_state { SomeState file.now t.now plan (state_of course names.now classes.now marks) reach.at }
@@ -69,14 +70,14 @@ pub fn walk(
 #[cycle(walk_walk_after_walk_move_walk_run_walk_values)]
 fn walk_run(
     trace: &mut [u8],
-    memory: &mut [u16],
+    memory: &mut Words,
     file: &[u8],
     t: &[u8],
     plan: Plan,
     course: Course,
-    names: &[u16],
-    classes: &[u16],
-    marks: [bool; 480],
+    names: &Names,
+    classes: &Classes,
+    marks: Marks,
     reach: Reach,
     k: usize,
 ) -> Walked
@@ -128,15 +129,15 @@ fn walk_run(
 #[cycle(walk_walk_after_walk_move_walk_run_walk_values)]
 fn walk_values(
     trace: &mut [u8],
-    memory: &mut [u16],
+    memory: &mut Words,
     file: &[u8],
     t: &[u8],
     plan: Plan,
     course: Course,
-    own: &[u16],
-    names: &[u16],
-    classes: &[u16],
-    marks: [bool; 480],
+    own: &Names,
+    names: &Names,
+    classes: &Classes,
+    marks: Marks,
     reach: Reach,
     choice: Choice,
 ) -> Walked
@@ -230,14 +231,14 @@ fn walk_values(
 #[cycle(walk_walk_after_walk_move_walk_run_walk_values)]
 fn walk_move(
     trace: &mut [u8],
-    memory: &mut [u16],
+    memory: &mut Words,
     file: &[u8],
     t: &[u8],
     plan: Plan,
     course: Course,
-    names: &[u16],
-    classes: &[u16],
-    marks: [bool; 480],
+    names: &Names,
+    classes: &Classes,
+    marks: Marks,
     reach: Reach,
     turn: Turn,
 ) -> Walked
@@ -259,14 +260,14 @@ fn walk_move(
 #[cycle(walk_walk_after_walk_move_walk_run_walk_values)]
 fn walk_after(
     trace: &mut [u8],
-    memory: &mut [u16],
+    memory: &mut Words,
     file: &[u8],
     t: &[u8],
     plan: Plan,
     course: Course,
-    names: &[u16],
-    classes: &[u16],
-    marks: [bool; 480],
+    names: &Names,
+    classes: &Classes,
+    marks: Marks,
     reach: Reach,
     turn: Turn,
 ) -> Walked
@@ -279,7 +280,7 @@ fn walk_after(
     let variables = plan.variables;
     let next = state::advance(done, turn.run);
     let key = search_memory::key_of(variables, next, names, reach.depth);
-    if let Some(known) = search_memory::look_up(&memory[..], &key) {
+    if let Some(known) = search_memory::look_up(memory, &key) {
         return search_findings::known(reach.left, known);
     }
     let after = moves::perform(
@@ -308,7 +309,7 @@ fn walk_after(
             depth: reach.depth,
         },
     );
-    search_memory::keep(&mut memory[..], &key, search_findings::count_of(found));
+    search_memory::keep(memory, &key, search_findings::count_of(found));
     search_breaks::write_before(trace, reach.at, turn, found);
     search_findings::after_step(found, bytes)
 }

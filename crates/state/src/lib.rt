@@ -13,16 +13,16 @@ ghost use Rattle.runs.specs.Runs.{RunsAt};
 ghost use Rattle.state.specs.Start.{Agents};
 ghost use Rattle.state.specs.State.{Given, IsState};
 
-use cells::{Cells, Scope};
+use cells::{Cells, Classes, Marks, Names, Scope};
 use runs::Runs;
 
 // How far each run has come, what its atoms stand for, the classes of values, and the marks, taken apart.
 #[derive(Clone, Copy)]
 pub struct State {
     pub done: [usize; 4],
-    pub names: [u16; Cells::COUNT],
-    pub classes: [u16; Cells::COUNT],
-    pub marks: [bool; Cells::COUNT],
+    pub names: Names,
+    pub classes: Classes,
+    pub marks: Marks,
 }
 
 // How far each run has come once run k, from 0, has made one more event.
@@ -36,8 +36,7 @@ pub fn advance(done: [usize; 4], k: usize) -> [usize; 4]
 }
 
 // Copies the numbers of all cells.
-pub fn copy(to: &mut [u16], from: &[u16])
-    requires { (length to.old ≡ cell_count) × (length from.now ≡ cell_count) }
+pub fn copy(to: &mut [u16; Cells::COUNT], from: &[u16; Cells::COUNT])
     ensures { to.new ≡ from.now }
 {
     to.copy_from_slice(from);
@@ -45,20 +44,20 @@ pub fn copy(to: &mut [u16], from: &[u16])
 
 // The marks once the names of a run have grown; the classes are filled anew.
 pub fn with_names(
-    classes: &mut [u16],
-    marks: [bool; Cells::COUNT],
-    names: &[u16],
+    classes: &mut Classes,
+    marks: Marks,
+    names: &Names,
     t: &[u8],
     scope: Scope,
-) -> [bool; Cells::COUNT]
-    requires { Shape t.now scope.rows scope.runs × ((scope.run ≤ scope.runs) × ((length classes.old ≡ cell_count) × (length names.now ≡ cell_count))) }
+) -> Marks
+    requires { Shape t.now scope.rows scope.runs × (scope.run ≤ scope.runs) }
     ensures refilled { Refilled (rows_of t.now) scope.runs scope.run names.now classes.old classes.new }
     ensures settled { Settled (rows_of t.now) scope.runs classes.new marks result }
 {
     let n = scope.rows;
     let runs = scope.runs;
-    classes::refill(&mut classes[..], t, n, runs, names, scope.run);
-    knowledge::settle(marks, t, n, runs, &classes[..])
+    classes::refill(classes, t, n, runs, names, scope.run);
+    knowledge::settle(marks, t, n, runs, classes)
 }
 
 // The agents of run u as the file has them, and none for run 0.
@@ -81,12 +80,7 @@ impl State {
     pub const NONE_DONE: usize = 0;
 
     // The state after a move, from its parts.
-    pub fn after(
-        done: [usize; 4],
-        names: [u16; Cells::COUNT],
-        classes: [u16; Cells::COUNT],
-        marks: [bool; Cells::COUNT],
-    ) -> State
+    pub fn after(done: [usize; 4], names: Names, classes: Classes, marks: Marks) -> State
         ensures { result ≡ record { done = done; names = names; classes = classes; marks = marks } }
     {
         State {

@@ -6,7 +6,7 @@ ghost use Rattle.rows.specs.Rows.{rows_of, Shape};
 ghost use Rattle.role_level.specs.RoleLevel.{ListedBelow};
 ghost use Rattle.state_start.specs.Start.{AreAgents, FirstName, Entered, StartMarks};
 
-use cells::{Cells, cell};
+use cells::{Cells, Marks, Names, cell};
 use rows::Kind;
 
 // The name of row r in run u, for the agents of that run and before any variable is set.
@@ -34,13 +34,7 @@ fn name_of(t: &[u8], n: usize, r: usize, u: usize, agents: &[u8]) -> u16
 }
 
 // The names with those of run u filled in.
-pub fn entered(
-    names: [u16; Cells::COUNT],
-    t: &[u8],
-    n: usize,
-    u: usize,
-    agents: &[u8],
-) -> [u16; Cells::COUNT]
+pub fn entered(names: Names, t: &[u8], n: usize, u: usize, agents: &[u8]) -> Names
     requires { Shape t.now n 0 × ((u ≤ 4) × AreAgents (rows_of t.now) agents.now) }
     ensures { Entered (rows_of t.now) u agents.now names result }
 {
@@ -52,7 +46,7 @@ pub fn entered(
 }
 
 // The marks of the intruder constants.
-fn intruder_marks(t: &[u8], n: usize) -> [bool; Cells::COUNT]
+fn intruder_marks(t: &[u8], n: usize) -> Marks
     requires { Shape t.now n 0 }
     ensures { StartMarks t.now n [] result }
 {
@@ -66,7 +60,7 @@ fn intruder_marks(t: &[u8], n: usize) -> [bool; Cells::COUNT]
 }
 
 // The marks of the intruder constants and of the listed rows.
-pub fn start_marks(t: &[u8], n: usize, list: &[u8]) -> [bool; Cells::COUNT]
+pub fn start_marks(t: &[u8], n: usize, list: &[u8]) -> Marks
     requires { Shape t.now n 0 × ListedBelow n list.now }
     ensures { StartMarks t.now n list.now result }
 {

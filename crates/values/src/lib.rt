@@ -7,11 +7,11 @@ ghost use Rattle.cells.specs.Cells.{cell_of, cell_count};
 ghost use Rattle.classes.specs.Classes.{Refilled};
 ghost use Rattle.knowledge.specs.Marks.{Settled};
 
-use cells::{Cells, Scope, cell};
+use cells::{Cells, Classes, Marks, Names, Scope, cell};
 
 // Gives the variable of row x the value of row r with run w, in run u.
-pub fn put(names: &mut [u16], x: usize, u: usize, r: usize, w: usize)
-    requires { (length names.old ≡ cell_count) × ((x < 96) × ((u ≤ 4) × ((r < 96) × (w ≤ 4)))) }
+pub fn put(names: &mut Names, x: usize, u: usize, r: usize, w: usize)
+    requires { (x < 96) × ((u ≤ 4) × ((r < 96) × (w ≤ 4))) }
     ensures { names.new ≡ set names.old (cell_of x u) (cell_of r w) }
 {
     names[cell(x, u)] = cell(r, w) as u16;
@@ -20,20 +20,18 @@ pub fn put(names: &mut [u16], x: usize, u: usize, r: usize, w: usize)
 // Tries the value of row r with run w for the variable of row x. `before` and `filled` are the names and classes without it; those with it go into the two
 // arrays that are lent first, and the answer is the marks with it.
 pub fn tried(
-    names: &mut [u16],
-    classes: &mut [u16],
-    before: &[u16],
-    filled: &[u16],
-    marks: [bool; Cells::COUNT],
+    names: &mut Names,
+    classes: &mut Classes,
+    before: &Names,
+    filled: &Classes,
+    marks: Marks,
     t: &[u8],
     scope: Scope,
     x: usize,
     r: usize,
     w: usize,
-) -> [bool; Cells::COUNT]
+) -> Marks
     requires shape { Shape t.now scope.rows scope.runs × ((scope.run ≤ scope.runs) × ((x < 96) × ((r < 96) × (w ≤ 4)))) }
-    requires names_len { (length names.old ≡ cell_count) × (length classes.old ≡ cell_count) }
-    requires before_len { (length before.now ≡ cell_count) × (length filled.now ≡ cell_count) }
     ensures names_after { names.new ≡ set before.now (cell_of x scope.run) (cell_of r w) }
     ensures refilled { Refilled (rows_of t.now) scope.runs scope.run names.new filled.now classes.new }
     ensures settled { Settled (rows_of t.now) scope.runs classes.new marks result }

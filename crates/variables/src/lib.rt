@@ -9,7 +9,7 @@ ghost use Rattle.rows.specs.Rows.{rows_of, Sized, Shape};
 ghost use Rattle.cells.specs.Cells.{cell_count, cell_of, absent};
 ghost use Rattle.variables.specs.Variables.{Beneath, ClosedFrom, NextUnset, first_run, run_count, TellsValue, NextOf, NotNamed, Among, Unset};
 
-use cells::Cells;
+use cells::{Cells, Names};
 use rows::Kind;
 
 // A value of a variable: a row, and the run in which it is read.
@@ -52,16 +52,23 @@ pub fn beneath(t: &[u8], n: usize, x: usize) -> [bool; 96]
 }
 
 // Whether row y is an unset variable of run u that is marked.
-fn is_unset(t: &[u8], names: &[u16], below: &[bool], u: usize, y: usize) -> bool
-    requires { (y < 96) × ((3 * y + 2 < length t.now) × ((length names.now ≡ cell_count) × ((length below.now ≡ 96) × (u ≤ 4)))) }
+fn is_unset(t: &[u8], names: &Names, below: &[bool; 96], u: usize, y: usize) -> bool
+    requires { (y < 96) × ((3 * y + 2 < length t.now) × (u ≤ 4)) }
     ensures { IsTrue result ↔ NotNamed t.now names.now u below.now y }
 {
     below[y] && rows::kind_of(t, y) == Kind::VARIABLE && names[cells::cell(y, u)] == Cells::ABSENT
 }
 
 // The first row, not below a given one, that is an unset variable of run u beneath the pattern, or n.
-pub fn next_unset(t: &[u8], n: usize, names: &[u16], below: &[bool], u: usize, from: usize) -> usize
-    requires { Sized t.now n × ((length names.now ≡ cell_count) × ((length below.now ≡ 96) × ((u ≤ 4) × (from ≤ n)))) }
+pub fn next_unset(
+    t: &[u8],
+    n: usize,
+    names: &Names,
+    below: &[bool; 96],
+    u: usize,
+    from: usize,
+) -> usize
+    requires { Sized t.now n × ((u ≤ 4) × (from ≤ n)) }
     ensures { (pattern : ℕ) → Beneath (rows_of t.now) pattern below.now → NextUnset (rows_of t.now) names.now u pattern from result }
 {
     (from..n)
@@ -86,8 +93,8 @@ pub fn variable_rows(t: &[u8], n: usize, set: &[bool; 96]) -> VariableRows
 }
 
 // The rows of a set that have no value in run u, by their names or classes.
-fn without_value(set: [bool; 96], values: &[u16], u: usize) -> [bool; 96]
-    requires { (length values.now ≡ cell_count) × (u ≤ 4) }
+fn without_value(set: [bool; 96], values: &[u16; Cells::COUNT], u: usize) -> [bool; 96]
+    requires { u ≤ 4 }
     ensures { (x : ℕ) → x < 96 → get_or result x false ≡ (get_or set x false && eqb (get_or values.now (cell_of x u) absent) absent) }
 {
     let mut less = set;
@@ -100,8 +107,14 @@ fn without_value(set: [bool; 96], values: &[u16], u: usize) -> [bool; 96]
 }
 
 // The variables without a value in run u, by their names or classes, among the rows of a set.
-pub fn unset_rows(t: &[u8], n: usize, values: &[u16], set: [bool; 96], u: usize) -> VariableRows
-    requires { Sized t.now n × ((length values.now ≡ cell_count) × (u ≤ 4)) }
+pub fn unset_rows(
+    t: &[u8],
+    n: usize,
+    values: &[u16; Cells::COUNT],
+    set: [bool; 96],
+    u: usize,
+) -> VariableRows
+    requires { Sized t.now n × (u ≤ 4) }
     ensures { Unset t.now n values.now u set result }
 {
     variable_rows(t, n, &without_value(set, values, u))

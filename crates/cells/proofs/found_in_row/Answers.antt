@@ -12,5 +12,5 @@ returns-in_err-w c = rw c.from_residual.ensures (has_no_run (λ w l e. c.in_err-
 
 pub returns : goal.returns
 returns c =
-    let read = class-read c.args.classes.now c.requires.1.0 c.cell.ensures.0 c.cell.ensures.1 in
+    let read = class-read c.args.classes.now c.told-classes c.cell.ensures.0 c.cell.ensures.1 in
     (rw read c.in_ok-w.ensures.1.there, has_run c.in_ok-w.w c.in_ok-w.ensures.0 (sym c.kind_of.ensures.0 ∙ c.if-kind_of-kind.false) c.in_ok-w.ensures.1 read)

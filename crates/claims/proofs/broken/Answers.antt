@@ -25,7 +25,7 @@ loop-k-init c sc d is i l = absurd (omega arith)
 pub broken_in_run-found-requires : goal.broken_in_run-found-requires
 broken_in_run-found-requires c =
     let marked : length c.args.marks ≡ 480 = search rules in
-    ((c.requires.0, c.requires.3), (marked, c.loop-k-test.true))
+    ((c.requires.0, c.requires.3), c.loop-k-test.true)
 
 pub returns-in-Some : goal.returns-in-Some
 returns-in-Some c sc d s' given is same own =

@@ -11,7 +11,7 @@ use Rattle.claims.proofs.broken_in_run.Goals.{After-find}
 pub all_trusted-requires : goal.all_trusted-requires
 all_trusted-requires c =
     let given = c.requires.0.1 in
-    (shape-sized given.shape, (c.requires.0.0, given.runs, given.good, omega (arith, c.requires.1.1)))
+    (shape-sized given.shape, (c.requires.0.0, given.runs, given.good, omega (arith, c.requires.1)))
 
 pub returns-then-not-all_trusted : goal.returns-then-not-all_trusted
 returns-then-not-all_trusted c sc d run p at same made =

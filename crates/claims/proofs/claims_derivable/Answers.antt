@@ -9,7 +9,7 @@ returns-then-r-k c sc d run p at trusts = past-none at c.args.j c.if-r-k.true
 
 pub cell-requires : goal.cell-requires
 cell-requires c =
-    let w = c.requires.0 in
+    let w = c.requires in
     (row-below c.args.file.now c.args.r c.args.k c.args.j _ w c.event_of-e.ensures (omega (arith, c.if-r-k.false)), omega (arith, w.1.0.few, w.1.1.1))
 
 pub returns-then-e-eq-CLAIM : goal.returns-then-e-eq-CLAIM

@@ -4,4 +4,4 @@ use Rattle.knowledge.proofs.class_at.Goals as goal
 
 pub returns : goal.returns
 returns c =
-    class-read c.args.classes.now c.requires.0 c.cell.ensures.0 c.cell.ensures.1
+    class-read c.args.classes.now c.told-classes c.cell.ensures.0 c.cell.ensures.1

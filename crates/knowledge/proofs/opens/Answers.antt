@@ -10,12 +10,12 @@ returns-in_default c = let d = c.in_default.ensures in
 
 pub class_at-agent-requires : goal.class_at-agent-requires
 class_at-agent-requires c =
-    (c.requires.1.1, (left_below c.args.t.now c.args.n c.args.runs c.requires.1.0 _ c.if-n-x.false c.kind_of.ensures.0 (inverse-key c.in-Some.ensures).0 c.left_of.ensures.0, omega (arith, c.requires.1.0.few_runs, c.if-runs-u.false)))
+    (left_below c.args.t.now c.args.n c.args.runs c.requires _ c.if-n-x.false c.kind_of.ensures.0 (inverse-key c.in-Some.ensures).0 c.left_of.ensures.0, omega (arith, c.requires.few_runs, c.if-runs-u.false))
 
 pub found-inverse-requires : goal.found-inverse-requires
-found-inverse-requires c = (c.requires.1.0, (c.requires.1.1, (inverse-key c.in-Some.ensures).1))
+found-inverse-requires c = (c.requires, (inverse-key c.in-Some.ensures).1)
 
 pub returns : goal.returns
 returns c =
-    opening-other (omega (arith, c.from-x.ensures, c.from-u.ensures)) (omega arith, omega arith) c.kind_of.ensures.0 c.requires.0 c.in-Some.ensures c.left_of.ensures.0 c.class_at-agent.ensures c.found-inverse.result c.found-inverse.ensures
+    opening-other (omega (arith, c.from-x.ensures, c.from-u.ensures)) (omega arith, omega arith) c.kind_of.ensures.0 c.told-marks c.in-Some.ensures c.left_of.ensures.0 c.class_at-agent.ensures c.found-inverse.result c.found-inverse.ensures
     (told c.found-inverse.result c.is_some_and.ensures (λ e. e) (λ class k. search (rules, tests)))

@@ -7,7 +7,7 @@ pub returns-then-e-ne-SEND : goal.returns-then-e-ne-SEND
 returns-then-e-ne-SEND c m d' allowed = marks-kept m d' allowed c.if-e-ne-SEND.true
 
 pub learn-term-requires : goal.learn-term-requires
-learn-term-requires c = (c.requires.0, (c.requires.1.1, (c.requires.1.0.term, omega (arith, c.requires.1.0.is_run))))
+learn-term-requires c = (c.requires.0, (c.requires.1.term, omega (arith, c.requires.1.is_run)))
 
 pub returns : goal.returns
 returns c m d' allowed =

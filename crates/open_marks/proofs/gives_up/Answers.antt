@@ -6,4 +6,4 @@ use Rattle.open_marks.proofs.gives_up.Goals as goal
 pub inverse_known-requires : goal.inverse_known-requires
 inverse_known-requires c =
     let low = parts-lower c.args.t.now c.args.n c.requires.0 c.in-Some.end c.in-Some.ensures c.kind_of.ensures.0 (omega (arith, c.in-12.is)) in
-    (c.requires.0, (search rules, omega (arith, c.right_of.ensures.0, c.in-Some.ensures)))
+    (c.requires.0, omega (arith, c.right_of.ensures.0, c.in-Some.ensures))

@@ -10,4 +10,4 @@ bounds-notes-224-2 c = simp length-set (omega (arith, c.fill_slot.ensures.size))
 
 pub returns : goal.returns
 returns c =
-    stored c.args.n c.args.marks.now c.args.x _ _ c.args.notes.now _ (search rules) c.requires.1.1.1 c.fill_slot.ensures
+    stored c.args.n c.args.marks.now c.args.x _ _ c.args.notes.now _ (search rules) c.told-notes c.fill_slot.ensures

@@ -5,7 +5,7 @@ use Rattle.open_marks.specs.laws.Sure.{gains-learnt}
 use Rattle.open_marks.proofs.learned.Goals as goal
 
 pub learn-requires : goal.learn-requires
-learn-requires c = (c.requires.0, (c.requires.1.0.size, (c.requires.1.1, omega arith)))
+learn-requires c = (c.requires.0, (c.requires.1.1, omega arith))
 
 pub returns : goal.returns
 returns c =

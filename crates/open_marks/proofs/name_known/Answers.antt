@@ -4,4 +4,4 @@ use Rattle.open_marks.proofs.name_known.Goals as goal
 
 pub returns : goal.returns
 returns c =
-    name-known c.args.t.now c.args.n c.requires.0 c.row_marked.ensures
+    name-known c.args.t.now c.args.n c.requires c.row_marked.ensures

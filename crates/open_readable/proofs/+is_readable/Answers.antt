@@ -103,13 +103,13 @@ learned-with_first-requires t c =
 pub content_of-c-requires : goal.content_of-c-requires
 content_of-c-requires t c =
     let low = low-parts t (goal.at.content_of-c-requires t c).After-right_of-s in
-    (c.requires.0, (search rules, omega (arith, low.0, c.requires.1.1.1.1)))
+    (c.requires.0, omega (arith, low.0, c.requires.1.1.1.1))
 
 pub is_readable-found-requires : goal.is_readable-found-requires
 is_readable-found-requires t c =
     let low = low-parts t (goal.at.is_readable-found-requires t c).After-right_of-s in
     let both = sure-both c.args.t.now c.requires.0 c.learned-with_second.ensures.1 c.learned-with_first.ensures.1 c.shared-both.ensures c.args.sure c.requires.1.1.0 in
-    (omega (arith, c.content_of-c.ensures, low.0), (c.requires.0, (c.requires.1.0, (both, (c.requires.1.1.1.0, omega (arith, c.content_of-c.ensures, low.0, c.requires.1.1.1.1))))))
+    (omega (arith, c.content_of-c.ensures, low.0), (c.requires.1.0, (both, (c.requires.1.1.1.0, omega (arith, c.content_of-c.ensures, low.0, c.requires.1.1.1.1)))))
 
 pub added-more-requires : goal.added-more-requires
 added-more-requires t c =
@@ -119,7 +119,7 @@ added-more-requires t c =
 pub content_of-d-requires : goal.content_of-d-requires
 content_of-d-requires t c =
     let low = low-parts t (goal.at.content_of-d-requires t c).After-right_of-s in
-    (c.requires.0, (search rules, omega (arith, low.1, c.requires.1.1.1.1)))
+    (c.requires.0, omega (arith, low.1, c.requires.1.1.1.1))
 
 pub is_readable-found_too-requires : goal.is_readable-found_too-requires
 is_readable-found_too-requires t c =
@@ -167,7 +167,7 @@ returns-then-kind-eq-PAIR t c =
 pub inverse_known-requires : goal.inverse_known-requires
 inverse_known-requires t c =
     let low = low-content t (goal.at.inverse_known-requires t c).After-right_of in
-    (c.requires.0, (search rules, omega (arith, low.1, c.right_of.ensures.0, c.requires.1.1.1.1)))
+    (c.requires.0, omega (arith, low.1, c.right_of.ensures.0, c.requires.1.1.1.1))
 
 pub is_readable-requires-then-inverse_known : goal.is_readable-requires-then-inverse_known
 is_readable-requires-then-inverse_known t c =

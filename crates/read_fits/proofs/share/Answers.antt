@@ -6,19 +6,19 @@ use Rattle.read_fits.proofs.share.Goals as goal
 
 pub class_at-first-requires : goal.class_at-first-requires
 class_at-first-requires c =
-    (c.requires.0.1.0, (left-small c.args.t.now c.args.scope.rows c.args.scope.runs c.requires.0.0 c.args.y c.requires.1.1.0 c.requires.1.1.1.0 c.left_of.ensures.0, omega (arith, c.requires.0.0.few_runs, c.requires.1.1.1.1)))
+    (left-small c.args.t.now c.args.scope.rows c.args.scope.runs c.requires.0.0 c.args.y c.requires.1.1.0 c.requires.1.1.1.0 c.left_of.ensures.0, omega (arith, c.requires.0.0.few_runs, c.requires.1.1.1.1))
 
 pub class_at-second-requires : goal.class_at-second-requires
 class_at-second-requires c =
-    (c.requires.0.1.0, (second-small c.args.t.now c.args.scope.rows c.args.scope.runs c.requires.0.0 c.args.y c.requires.1.1.0 c.requires.1.1.1.0 c.second_of.ensures.0, omega (arith, c.requires.0.0.few_runs, c.requires.1.1.1.1)))
+    (second-small c.args.t.now c.args.scope.rows c.args.scope.runs c.requires.0.0 c.args.y c.requires.1.1.0 c.requires.1.1.1.0 c.second_of.ensures.0, omega (arith, c.requires.0.0.few_runs, c.requires.1.1.1.1))
 
 pub ask-requires : goal.ask-requires
 ask-requires c =
-    (c.requires.0.1.0, (left-small c.args.t.now c.args.scope.rows c.args.scope.runs c.requires.0.0 c.args.q c.requires.0.1.1.1 c.requires.1.0 c.left_of-2.ensures.0, omega (arith, c.requires.0.0.few_runs, c.requires.0.1.1.0)))
+    (left-small c.args.t.now c.args.scope.rows c.args.scope.runs c.requires.0.0 c.args.q c.requires.0.1.1.1 c.requires.1.0 c.left_of-2.ensures.0, omega (arith, c.requires.0.0.few_runs, c.requires.0.1.1.0))
 
 pub ask-requires-then-ask : goal.ask-requires-then-ask
 ask-requires-then-ask c =
-    (c.requires.0.1.0, (second-small c.args.t.now c.args.scope.rows c.args.scope.runs c.requires.0.0 c.args.q c.requires.0.1.1.1 c.requires.1.0 c.second_of-then-ask.ensures.0, omega (arith, c.requires.0.0.few_runs, c.requires.0.1.1.0)))
+    (second-small c.args.t.now c.args.scope.rows c.args.scope.runs c.requires.0.0 c.args.q c.requires.0.1.1.1 c.requires.1.0 c.second_of-then-ask.ensures.0, omega (arith, c.requires.0.0.few_runs, c.requires.0.1.1.0))
 
 pub returns-then-ask : goal.returns-then-ask
 returns-then-ask c =

@@ -26,7 +26,7 @@ loop-names-init c =
 pub next_unset-x-requires : goal.next_unset-x-requires
 next_unset-x-requires c =
     let size : length c.args.names ≡ cell_count = search rules in
-    (shape-sized c.requires.0, (size, (c.beneath-below.ensures.size, (omega (arith, c.requires.0.few_runs, c.requires.1.0), c.loop-names.invariant.0))))
+    (shape-sized c.requires.0, (omega (arith, c.requires.0.few_runs, c.requires.1.0), c.loop-names.invariant.0))
 
 pub overflow_add-i : goal.overflow_add-i
 overflow_add-i c = record { fits = omega (arith, c.loop-names.invariant.0, c.loop-names.invariant.1, c.requires.0.few) }
@@ -77,7 +77,7 @@ put-requires c =
     let w = variable-found c.args.t.now c.args.n c.args.runs c.requires.0 _ _ _ _ _ view c.if-x-n.false in
     let may = c.may_take.ensures w.3.0 w.3.1 in
     let fits = value-fits (omega (arith, c.requires.0.count, c.requires.0.few)) c.requires.0.few_runs may (c.if-not-may_take.false) in
-    (c.loop-names.invariant.3, (omega (arith, w.0, c.requires.0.few), (omega (arith, c.requires.1.0, c.requires.0.few_runs), (fits.0, fits.1))))
+    (omega (arith, w.0, c.requires.0.few), (omega (arith, c.requires.1.0, c.requires.0.few_runs), (fits.0, fits.1)))
 
 pub overflow_add-from : goal.overflow_add-from
 overflow_add-from c =

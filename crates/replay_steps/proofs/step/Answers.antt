@@ -107,20 +107,20 @@ pub worked-more-requires : goal.worked-more-requires
 worked-more-requires c =
     let low = run-low c.if-u-eq0.false c.if-r-u.false in
     let names : length c.in_ok-names.names ≡ 480 = search rules in
-    (c.requires.2.shape, (omega (arith, low), (c.requires.3.arrays.classed.size, names)))
+    (c.requires.2.shape, omega (arith, low))
 
 pub is_allowed-requires : goal.is_allowed-requires
 is_allowed-requires c =
     let size : length c.worked-more.new.classes ≡ 480 = search (rules, c.worked-more.auto.classes, c.requires.3.arrays.classed.size) in
     let of = due c.requires.2 c.requires.3 c.if-u-eq0.false c.if-r-u.false c.if-r-k.false c.event_of-e.ensures in
     let few = c.requires.2.shape.few in
-    (size, (omega (arith, c.requires.2.runs.few, of.is_run), (omega (arith, few, of.agent), (omega (arith, few, of.other), omega (arith, few, of.term)))))
+    (omega (arith, c.requires.2.runs.few, of.is_run), (omega (arith, few, of.agent), (omega (arith, few, of.other), omega (arith, few, of.term))))
 
 pub perform-after-requires : goal.perform-after-requires
 perform-after-requires c =
     let size : length c.worked-more.new.classes ≡ 480 = search (rules, c.worked-more.auto.classes, c.requires.3.arrays.classed.size) in
     let of = due c.requires.2 c.requires.3 c.if-u-eq0.false c.if-r-u.false c.if-r-k.false c.event_of-e.ensures in
-    (c.requires.2.shape, (of, size))
+    (c.requires.2.shape, of)
 
 pub advance-done-requires : goal.advance-done-requires
 advance-done-requires c =

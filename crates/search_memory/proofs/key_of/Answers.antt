@@ -7,7 +7,7 @@ pub loop-k-init : goal.loop-k-init
 loop-k-init c = filled-none c.args.variables c.args.done c.args.names.now c.args.depth
 
 pub overflow_cast-key-in-loop-k : goal.overflow_cast-key-in-loop-k
-overflow_cast-key-in-loop-k c = omega (arith, c.requires.1.1.0 c.loop-k.k c.loop-k-test.true)
+overflow_cast-key-in-loop-k c = omega (arith, c.requires.1.0 c.loop-k.k c.loop-k-test.true)
 
 pub loop-k-preserved : goal.loop-k-preserved
 loop-k-preserved c = filled_more c.loop-k.invariant c.loop-k-test.true c.fill_names.ensures

@@ -16,4 +16,4 @@ count_at-count-requires c =
     let first = c.first_slot-first.result in
     let found : Found memory c.args.key.now first (first + 4) c.find.result = first_from_Range _ _ _ c.find.result (λ slot. HoldsKey memory slot c.args.key.now) (λ slot. ⊤) c.find.ensures.ran (λ x q k. search (rules, tests)) (λ x q k. (search (rules, tests), tt)) in
     let here : Found memory c.args.key.now first (first + 4) (Some c.in_ok-slot.slot) = rw c.in_ok-slot.was at found in
-    (c.requires, omega (arith, here.1, c.first_slot-first.ensures))
+    omega (arith, here.1, c.first_slot-first.ensures)

@@ -99,10 +99,7 @@ walk_after-advance-next-requires t c =
 pub walk_after-key_of-key-requires : goal.walk_after-key_of-key-requires
 walk_after-key_of-key-requires t c =
     let m = c.requires.some_step.of in
-    (m.chosen.ready.sets.size, (c.requires.room.remembers.rows.low, ((λ j l. omega (arith, of-move.next_low m c.advance-next.ensures j l)), c.requires.room.moves)))
-
-pub walk_after-look_up-requires : goal.walk_after-look_up-requires
-walk_after-look_up-requires t c = c.requires.room.remembers.size
+    (c.requires.room.remembers.rows.low, ((λ j l. omega (arith, of-move.next_low m c.advance-next.ensures j l)), c.requires.room.moves))
 
 pub walk_after-returns-in-Some : goal.walk_after-returns-in-Some
 walk_after-returns-in-Some t c =
@@ -113,7 +110,7 @@ walk_after-returns-in-Some t c =
     }
 
 pub walk_after-perform-after-requires : goal.walk_after-perform-after-requires
-walk_after-perform-after-requires t c = let m = c.requires.some_step.of in (m.move.clear.here.reached.given.shape, (m.move.due, m.chosen.ready.arrays.classed.size))
+walk_after-perform-after-requires t c = let m = c.requires.some_step.of in (m.move.clear.here.reached.given.shape, m.move.due)
 
 pub walk_after-overflow_mul-bytes : goal.walk_after-overflow_mul-bytes
 walk_after-overflow_mul-bytes t c = record { fits = omega (arith, of-move.few-chosen c.requires.some_step.of) }
@@ -133,7 +130,7 @@ pub walk_after-keep-requires : goal.walk_after-keep-requires
 walk_after-keep-requires t c =
     let many : length c.args.course.done ≡ 4 = search (rules, c.well_formed) in
     let found = of-move.found_after c.args.reach c.requires.some_step c.perform-after.ensures many c.advance-next.ensures c.walk-found.ensures.finds_from in
-    (c.walk-found.ensures.remembers.size, omega (arith, finds-count _ _ _ _ found, c.count_of.ensures, c.requires.room.budget))
+    omega (arith, finds-count _ _ _ _ found, c.count_of.ensures, c.requires.room.budget)
 
 pub walk_after-write_before-requires : goal.walk_after-write_before-requires
 walk_after-write_before-requires t c =
@@ -159,7 +156,7 @@ pub walk_move-is_allowed-requires : goal.walk_move-is_allowed-requires
 walk_move-is_allowed-requires t c =
     let m = c.requires.some_move in
     let few = m.move.clear.here.reached.given.shape.few in
-    (m.chosen.ready.arrays.classed.size, (omega (arith, m.move.clear.here.reached.given.runs.few, m.move.due.is_run), (omega (arith, few, m.move.due.agent), (omega (arith, few, m.move.due.other), omega (arith, few, m.move.due.term)))))
+    (omega (arith, m.move.clear.here.reached.given.runs.few, m.move.due.is_run), (omega (arith, few, m.move.due.agent), (omega (arith, few, m.move.due.other), omega (arith, few, m.move.due.term))))
 
 pub walk_move-returns-then-not-is_allowed : goal.walk_move-returns-then-not-is_allowed
 walk_move-returns-then-not-is_allowed t c =
@@ -225,7 +222,7 @@ walk_values-overflow_add-turn t c = let m = c.requires.some_choice.read in recor
 pub walk_values-next_unset-x-requires : goal.walk_values-next_unset-x-requires
 walk_values-next_unset-x-requires t c =
     let m = c.requires.some_choice.read in
-    (shape-sized m.move.clear.here.reached.given.shape, (ap length m.is_own ∙ m.move.clear.here.state.placed.sized, (m.under.size, (omega (arith, m.move.clear.here.reached.given.runs.few, m.move.due.is_run), m.inside))))
+    (shape-sized m.move.clear.here.reached.given.shape, (omega (arith, m.move.clear.here.reached.given.runs.few, m.move.due.is_run), m.inside))
 
 pub walk_values-walk_move-requires : goal.walk_values-walk_move-requires
 walk_values-walk_move-requires t c = (omega arith, (of_values.choice-move c.next_unset-x.ensures c.args.reach c.requires.some_choice c.if-x-plan.true, c.requires.room))
@@ -240,7 +237,7 @@ pub walk_values-slice_bounds-may_be_read-end : goal.walk_values-slice_bounds-may
 walk_values-slice_bounds-may_be_read-end t c = search (rules, c.well_formed.1.1.1.1.1.1.1.1.1.0)
 
 pub walk_values-may_be_read-requires : goal.walk_values-may_be_read-requires
-walk_values-may_be_read-requires t c = let m = c.requires.some_choice in (m.read.move.clear.here.reached.given.shape, (m.read.move.due, (m.choosing.arrays.classed.size, search (rules, c.well_formed.1.1.1.1.1.1.1.1.1.0))))
+walk_values-may_be_read-requires t c = let m = c.requires.some_choice in (m.read.move.clear.here.reached.given.shape, m.read.move.due)
 
 pub walk_values-returns-then-not-may_be_read : goal.walk_values-returns-then-not-may_be_read
 walk_values-returns-then-not-may_be_read t c = record {

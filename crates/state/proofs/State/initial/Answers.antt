@@ -24,7 +24,7 @@ entered-names-requires c =
 pub refill-requires : goal.refill-requires
 refill-requires c =
     let given = c.requires.1.0 in
-    (given.shape, (c.loop-u.invariant.0, (c.entered-names.ensures.size, omega arith)))
+    (given.shape, omega arith)
 
 pub loop-u-preserved : goal.loop-u-preserved
 loop-u-preserved c =
@@ -41,7 +41,7 @@ start_marks-requires c =
     (shape-sized given.shape, given-listed given _ c.requires.1.1)
 
 pub settle-marks-requires : goal.settle-marks-requires
-settle-marks-requires c = (c.requires.1.0.shape, c.loop-u.invariant.0)
+settle-marks-requires c = c.requires.1.0.shape
 
 pub returns : goal.returns
 returns c sc given e =
