@@ -7,7 +7,6 @@ ghost use Rattle.role_level.specs.RoleLevel.{RoleClasses};
 ghost use Rattle.open_marks.specs.Sure.{SureRows, Notes, Answers};
 
 use cells::{Cells, Classes, Marks};
-use open_marks::Notes;
 use rows::Kind;
 
 // Whether the term of row x is readable: derivable, a variable, a pair of which each part is readable with the other known,
@@ -20,7 +19,7 @@ pub fn is_readable(
     t: &[u8],
     n: usize,
     classes: &Classes,
-    notes: &mut [u8; Notes::COUNT],
+    notes: &mut [u8; open_marks::Notes::COUNT],
     quick: bool,
     x: usize,
 ) -> bool

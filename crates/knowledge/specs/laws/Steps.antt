@@ -2,7 +2,7 @@
 use Rattle.std.specs.Option.{unwrap_or}
 use Rattle.std.specs.Bool.{then_some}
 use Rattle.std.specs.Prelude.{ℕ, Option, Some, None, MatchOption, ltb, ◌<◌, ◌≤◌, ◌≡◌, refl, Bool, true, false, List, length, get_or, set}
-use Rattle.std.proofs.Common.{ltb-true, ltb-false, arith, sym, ◌∙◌, inl, inr}
+use Rattle.std.proofs.Common.{ltb-true, ltb-false, arith, sym, ◌∙◌, inl, inr, length-set}
 use Rattle.std.proofs.Math.Decide.{dec_lt}
 use Rattle.std.proofs.Math.ListN.{get_or-eq_default}
 use Rattle.rows.specs.Rows.{Shape}
@@ -178,3 +178,8 @@ module _ {bytes : List ℕ} {n runs : ℕ} {classes : List ℕ} {marks : List Bo
       go : RowGained bytes n runs classes marks x class → missing (set marks class true) < missing before
       go (row_gains u k h c f) = omega (arith, missing-falls marks class (omega arith) f, reaches-missing r)
       go (row_idles a i) = absurd (omega arith)
+
+-- marks that are reached are as many as those at the start
+pub reached-length : {bytes : List ℕ} {n runs : ℕ} {classes : List ℕ} {start marks : List Bool} → Reaches bytes n runs classes start marks → length marks ≡ length start
+reached-length stays = refl
+reached-length (grows {marks} {class = class} before within gives low) = length-set marks class true ∙ reached-length before

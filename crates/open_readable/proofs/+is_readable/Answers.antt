@@ -109,7 +109,7 @@ pub is_readable-found-requires : goal.is_readable-found-requires
 is_readable-found-requires t c =
     let low = low-parts t (goal.at.is_readable-found-requires t c).After-right_of-s in
     let both = sure-both c.args.t.now c.requires.0 c.learned-with_second.ensures.1 c.learned-with_first.ensures.1 c.shared-both.ensures c.args.sure c.requires.1.1.0 in
-    (omega (arith, c.content_of-c.ensures, low.0), (c.requires.1.0, (both, (c.requires.1.1.1.0, omega (arith, c.content_of-c.ensures, low.0, c.requires.1.1.1.1)))))
+    (omega (arith, c.content_of-c.ensures, low.0), (c.requires.0, (c.requires.1.0, (both, (c.requires.1.1.1.0, omega (arith, c.content_of-c.ensures, low.0, c.requires.1.1.1.1))))))
 
 pub added-more-requires : goal.added-more-requires
 added-more-requires t c =
