@@ -39,7 +39,7 @@ pub fn advance(done: [usize; 4], k: usize) -> [usize; 4]
 pub fn copy(to: &mut [u16; Cells::COUNT], from: &[u16; Cells::COUNT])
     ensures { to.new ≡ from.now }
 {
-    to.copy_from_slice(from);
+    *to = *from;
 }
 
 // The marks once the names of a run have grown; the classes are filled anew.

@@ -31,13 +31,13 @@ pub fn tried(
     r: usize,
     w: usize,
 ) -> Marks
-    requires shape { Shape t.now scope.rows scope.runs × ((scope.run ≤ scope.runs) × ((x < 96) × ((r < 96) × (w ≤ 4)))) }
+    requires { Shape t.now scope.rows scope.runs × ((scope.run ≤ scope.runs) × ((x < 96) × ((r < 96) × (w ≤ 4)))) }
     ensures names_after { names.new ≡ set before.now (cell_of x scope.run) (cell_of r w) }
     ensures refilled { Refilled (rows_of t.now) scope.runs scope.run names.new filled.now classes.new }
     ensures settled { Settled (rows_of t.now) scope.runs classes.new marks result }
 {
-    names.copy_from_slice(before);
+    state::copy(names, before);
     put(names, x, scope.run, r, w);
-    classes.copy_from_slice(filled);
+    state::copy(classes, filled);
     state::with_names(classes, marks, names, t, scope)
 }

@@ -68,9 +68,6 @@ returns-then-not-may_take c e sc d s a next same row kind =
     let may' : TellsValue sc.rows (length sc.runs) more.y (get_or c.args.values.now c.loop-names.i 0) (get_or c.args.values.now (c.loop-names.i + 1) 0) c.may_take.result = may-carry next.rows next.count c.wide-r.ensures.0 c.wide-w.ensures.0 may in
     part-not next kind _ c.loop-names.from c.loop-names.i c.loop-names.more (c.loop-names.invariant.2 e sc d s a next same row kind) more.first c.if-values-i-2.false (no_value may' (c.if-not-may_take.true))
 
-pub slice_bounds-put-end : goal.slice_bounds-put-end
-slice_bounds-put-end c = sym c.loop-names.invariant.3
-
 pub put-requires : goal.put-requires
 put-requires c =
     let view = c.next_unset-x.ensures _ c.beneath-below.ensures in

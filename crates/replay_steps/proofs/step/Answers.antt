@@ -99,10 +99,6 @@ valued-requires c =
     let of = due c.requires.2 c.requires.3 c.if-u-eq0.false c.if-r-u.false c.if-r-k.false c.event_of-e.ensures in
     (c.requires.2.shape, (of.is_run, of.term))
 
-pub slice_bounds-worked-end : goal.slice_bounds-worked-end
-slice_bounds-worked-end c =
-    search (rules, c.requires.3.arrays.classed.size)
-
 pub worked-more-requires : goal.worked-more-requires
 worked-more-requires c =
     let low = run-low c.if-u-eq0.false c.if-r-u.false in

@@ -28,13 +28,6 @@ variable_rows-variables-requires c =
     let shape = (given-layout _ _ p.is_opened p.layout c.runs_of-runs.ensures c.block_of-t.ensures).shape in
     shape-sized shape
 
-pub slice_bounds-walk-end-3 : goal.slice_bounds-walk-end-3
-slice_bounds-walk-end-3 c =
-    let p = c.requires.0 in
-    let given = given-layout _ _ p.is_opened p.layout c.runs_of-runs.ensures c.block_of-t.ensures in
-    let state = c.initial-s.ensures _ given (opened-knowledge _ _ p.is_opened c.block_of.ensures) in
-    search (rules, state.arrays.classed.size)
-
 pub event_count-requires : goal.event_count-requires
 event_count-requires c =
     let p = c.requires.0 in

@@ -233,9 +233,6 @@ walk_values-returns-then-x-plan t c = record {
   remembers = c.walk_move.ensures.remembers;
 }
 
-pub walk_values-slice_bounds-may_be_read-end : goal.walk_values-slice_bounds-may_be_read-end
-walk_values-slice_bounds-may_be_read-end t c = search (rules, c.well_formed.1.1.1.1.1.1.1.1.1.0)
-
 pub walk_values-may_be_read-requires : goal.walk_values-may_be_read-requires
 walk_values-may_be_read-requires t c = let m = c.requires.some_choice in (m.read.move.clear.here.reached.given.shape, m.read.move.due)
 
@@ -274,11 +271,7 @@ walk_values-tried-more_marks-requires t c =
     let more = c.if-x-plan.false in
     let low = of_values.value-within unset c.args.reach m more c.next_value.ensures c.in-Some.is in
     let shape = m.read.move.clear.here.reached.given.shape in
-    record {
-      shape = (shape, (omega (arith, m.read.move.due.is_run), (omega (arith, of_values.row_low unset c.args.reach m more, shape.few), (omega (arith, low.0, shape.few), low.1))));
-      names_len = (search rules, search rules);
-      before_len = (m.choosing.setting.size, m.choosing.arrays.classed.size);
-    }
+    (shape, (omega (arith, m.read.move.due.is_run), (omega (arith, of_values.row_low unset c.args.reach m more, shape.few), (omega (arith, low.0, shape.few), low.1))))
 
 pub walk_values-overflow_sub-reach : goal.walk_values-overflow_sub-reach
 walk_values-overflow_sub-reach t c = omega (arith, c.loop-value.invariant.1)
