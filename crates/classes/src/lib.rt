@@ -59,12 +59,22 @@ fn fill_row(
     }
 }
 
-// The classes after the names of run u have grown. Parts are lower rows, so they have their classes first.
+// Gives the rows below row r their classes in run u: first those below, then the row itself.
+fn fill(classes: &mut Classes, t: &[u8], n: usize, runs: usize, names: &Names, u: usize, r: usize)
+    requires { Shape t.now n runs × ((u ≤ runs) × (r ≤ n)) }
+    ensures { Filled (rows_of t.now) runs u names.now 0 r classes.old classes.new }
+{
+    if r == 0 {
+        return;
+    }
+    fill(classes, t, n, runs, names, u, r - 1);
+    fill_row(classes, t, n, runs, names, u, r - 1);
+}
+
+// The classes after the names of run u have grown.
 pub fn refill(classes: &mut Classes, t: &[u8], n: usize, runs: usize, names: &Names, u: usize)
     requires { Shape t.now n runs × (u ≤ runs) }
     ensures { Refilled (rows_of t.now) runs u names.now classes.old classes.new }
 {
-    for x in 0..n {
-        fill_row(classes, t, n, runs, names, u, x);
-    }
+    fill(classes, t, n, runs, names, u, n);
 }

@@ -24,7 +24,7 @@ fn gathered(start: &Marks, n: usize, runs: usize, classes: &Classes) -> Marks
     requires { (n ≤ 96) × (runs ≤ 4) }
     ensures { Gathered n runs classes.now start.now result }
 {
-    let mut marks = [false; Cells::COUNT];
+    let mut marks = [false; 480];
     for u in 0..=runs {
         for r in 0..n {
             if start[cell(r, u)] {
@@ -43,7 +43,7 @@ fn spread(marks: &Marks, n: usize, runs: usize, classes: &Classes) -> Marks
     requires { (n ≤ 96) × (runs ≤ 4) }
     ensures { Spread n runs classes.now marks.now result }
 {
-    let mut out = [false; Cells::COUNT];
+    let mut out = [false; 480];
     for u in 0..=runs {
         for r in 0..n {
             if is_marked(marks, class_at(classes, r, u)) {
@@ -186,20 +186,33 @@ fn next_gain(marks: &Marks, t: &[u8], n: usize, runs: usize, classes: &Classes) 
     (0..n).find_map(|x| row_gain(marks, t, n, runs, classes, x))
 }
 
+// Marks what can be built among the rows below row r: first those below the last 16 of them, then these in order.
+fn build(marks: &mut Marks, t: &[u8], n: usize, runs: usize, classes: &Classes, r: usize)
+    requires { Shape t.now n runs × (r ≤ n) }
+    ensures { Reaches t.now n runs classes.now marks.old marks.new }
+{
+    if r == 0 {
+        return;
+    }
+    let below = r.saturating_sub(16);
+    build(marks, t, n, runs, classes, below);
+    for x in below..r {
+        build_row(marks, t, n, runs, classes, x);
+    }
+}
+
 // The marks of classes when nothing can be built or taken apart any more.
 fn rounds(start: Marks, t: &[u8], n: usize, runs: usize, classes: &Classes) -> Marks
     requires { Shape t.now n runs }
     ensures { Finished t.now n runs classes.now start result }
 {
     let mut marks = start;
-    loop {
-        for x in 0..n {
-            build_row(&mut marks, t, n, runs, classes, x);
+    'rounds: loop {
+        build(&mut marks, t, n, runs, classes, n);
+        match next_gain(&marks, t, n, runs, classes) {
+            Some(gained) => marks[usize::from(gained)] = true,
+            None => break 'rounds marks,
         }
-        let Some(gained) = next_gain(&marks, t, n, runs, classes) else {
-            return marks;
-        };
-        marks[usize::from(gained)] = true;
     }
 }
 

@@ -67,7 +67,7 @@ pub fn shared(one: &Marks, other: &Marks, n: usize) -> Marks
     requires { n ≤ 96 }
     ensures { Shared n one.now other.now result }
 {
-    let mut both = [false; Cells::COUNT];
+    let mut both = [false; 480];
     for x in 0..n {
         both[x] = in_both(one, other, x);
     }
@@ -163,7 +163,7 @@ pub fn gives_up(
         return false;
     }
     let mut more = marks;
-    let mut way = [false; Cells::COUNT];
+    let mut way = [false; 480];
     let Some(end) = follow(&mut more, &mut way, sure, t, n, notes, x) else {
         return false;
     };

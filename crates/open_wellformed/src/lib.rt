@@ -36,7 +36,7 @@ fn is_well_formed(
     }
     if kind == Event::READ {
         let mut notes = [0u8; Notes::COUNT];
-        let sure = [false; Cells::COUNT];
+        let sure = [false; 480];
         return open_readable::is_readable(marks, sure, t, n, classes, &mut notes, false, x);
     }
     marks[x]

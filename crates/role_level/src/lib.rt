@@ -24,7 +24,7 @@ fn listed_marks(list: &[u8], n: usize) -> Marks
     requires { (n ≤ 96) × ListedBelow n list.now }
     ensures { ListedMarks n list.now result }
 {
-    let mut marks = [false; Cells::COUNT];
+    let mut marks = [false; 480];
     for &r in list {
         marks[usize::from(r)] = true;
     }

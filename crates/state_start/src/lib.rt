@@ -50,7 +50,7 @@ fn intruder_marks(t: &[u8], n: usize) -> Marks
     requires { Shape t.now n 0 }
     ensures { StartMarks t.now n [] result }
 {
-    let mut marks = [false; Cells::COUNT];
+    let mut marks = [false; 480];
     for r in 0..n {
         if rows::kind_of(t, r) == Kind::INTRUDER {
             marks[r] = true;

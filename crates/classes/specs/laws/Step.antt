@@ -1,5 +1,5 @@
 -- One row more has its new values: the class that its cell gets suits them. Assumes nothing.
-use Rattle.std.specs.Prelude.{ℕ, ◌+◌, ◌*◌, ◌<◌, ◌≤◌, ◌≡◌, refl, List, T, eqb, length, get_or, set}
+use Rattle.std.specs.Prelude.{ℕ, ◌+◌, ◌-◌, ◌*◌, ◌<◌, ◌≤◌, ◌≡◌, refl, List, T, eqb, length, get_or, set}
 use Rattle.std.proofs.Common.{arith, sym, ◌∙◌, eqb→eq}
 use Rattle.std.proofs.Math.Decide.{ℕ_discrete}
 use Rattle.std.proofs.Math.Option.{Option, none, some, none-ne-some}
@@ -191,12 +191,16 @@ module _ (bytes : List ℕ) (n runs u : ℕ) (names : List ℕ) (shape : Shape b
       pub row_kept : (get_or classes c 0 ≡ absent → ⊥) → Filled (rows_of bytes) runs u names x (x + 1) classes classes
       row_kept h = λ old new grows naming right. next-kept shape low run names classes grows right (λ e. h (class-read classes sized cell small ∙ e))
 
-  -- one row more
-  pub filled_next : (x : ℕ) {a b c : List ℕ} → Filled (rows_of bytes) runs u names 0 x a b → Filled (rows_of bytes) runs u names x (x + 1) b c → Filled (rows_of bytes) runs u names 0 (x + 1) a c
-  filled_next x f g = λ old new grows naming right. g old new grows naming (f old new grows naming right)
+  -- no rows, and one row more
+  pub filled_none : {r : ℕ} {classes : List ℕ} → r ≡ 0 → Filled (rows_of bytes) runs u names 0 r classes classes
+  filled_none e = λ old new grows naming right. rw e right
+
+  pub filled_next : {r : ℕ} {a b c : List ℕ} → (r ≡ 0 → ⊥) → Filled (rows_of bytes) runs u names 0 (r - 1) a b → Filled (rows_of bytes) runs u names (r - 1) (r - 1 + 1) b c
+      → Filled (rows_of bytes) runs u names 0 r a c
+  filled_next {r} d f g = λ old new grows naming right. let e : r - 1 + 1 ≡ r = omega arith in rw e at (g old new grows naming (f old new grows naming right))
 
   -- all rows
-  pub filled-all : {x : ℕ} {before after : List ℕ} → n ≤ x → Filled (rows_of bytes) runs u names 0 x before after → Refilled (rows_of bytes) runs u names before after
-  filled-all {x} l f = λ old new grows naming right.
-      classes-same (λ r w i. mixed-new (cell_value old (rows_of bytes)) (cell_value new (rows_of bytes)) x r w (omega (arith, shape.count, i.row)))
+  pub filled-all : {before after : List ℕ} → Filled (rows_of bytes) runs u names 0 n before after → Refilled (rows_of bytes) runs u names before after
+  filled-all f = λ old new grows naming right.
+      classes-same (λ r w i. mixed-new (cell_value old (rows_of bytes)) (cell_value new (rows_of bytes)) n r w (omega (arith, shape.count, i.row)))
       (f old new grows naming (classes-same (λ r w i. sym (mixed-old (cell_value old (rows_of bytes)) (cell_value new (rows_of bytes)) 0 r w (omega arith))) right))

@@ -4,23 +4,17 @@ use Rattle.knowledge.specs.laws.Steps.{reaches-on, gained-reached, gained-falls,
 use Rattle.knowledge.specs.Steps.{stays}
 use Rattle.knowledge.proofs.rounds.Goals as goal
 
-pub loop-x-init : goal.loop-x-init
-loop-x-init c = stays
+pub rounds-init : goal.rounds-init
+rounds-init c = stays
 
-pub loop-x-2-init : goal.loop-x-2-init
-loop-x-2-init c = stays
+pub returns : goal.returns
+returns c = record { reached = reaches-on c.rounds.invariant c.build.ensures; idle = c.in-None.ensures }
 
-pub loop-x-2-preserved : goal.loop-x-2-preserved
-loop-x-2-preserved c = reaches-on c.loop-x-2.invariant c.build_row.ensures
-
-pub returns-in_default : goal.returns-in_default
-returns-in_default c = record { reached = reaches-on c.loop-x.invariant c.loop-x-2.invariant; idle = c.in_default.ensures }
-
-pub loop-x-smaller : goal.loop-x-smaller
-loop-x-smaller c =
+pub rounds-smaller : goal.rounds-smaller
+rounds-smaller c =
     let h = c.in-Some.ensures in
     let size : length c.args.start ≡ 480 = search (rules, c.well_formed) in
-    rw c.from.ensures (gained-falls h.1 c.loop-x-2.invariant (reached-length c.loop-x-2.invariant ∙ reached-length c.loop-x.invariant ∙ size) h.0)
+    rw c.from.ensures (gained-falls h.1 c.build.ensures (reached-length c.build.ensures ∙ reached-length c.rounds.invariant ∙ size) h.0)
 
-pub loop-x-preserved : goal.loop-x-preserved
-loop-x-preserved c = let h = c.in-Some.ensures in rw c.from.ensures (gained-reached h.1 (reaches-on c.loop-x.invariant c.loop-x-2.invariant) h.0)
+pub rounds-preserved : goal.rounds-preserved
+rounds-preserved c = let h = c.in-Some.ensures in rw c.from.ensures (gained-reached h.1 (reaches-on c.rounds.invariant c.build.ensures) h.0)
