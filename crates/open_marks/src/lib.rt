@@ -6,17 +6,28 @@ ghost use Rattle.rows.specs.Rows.{rows_of, Shape};
 ghost use Rattle.cells.specs.Cells.{cell_count};
 ghost use Rattle.role_level.specs.RoleLevel.{RoleClasses};
 ghost use Rattle.open_marks.specs.Marks.{RowMarked, NameKnown, InverseKnown, Learns};
-ghost use Rattle.open_marks.specs.Sure.{note_count, Gains, Opens, InBoth, Shared, Added, SlotStands, KeptFor, SlotFilled, KeptIn};
+ghost use Rattle.open_marks.specs.Sure.{Gains, Opens, InBoth, Shared, Added, Stand, KeptFor, SlotFilled, NoNotes, KeptIn};
 
 use cells::{Cells, Classes, Marks};
 use rows::Kind;
 
-// Notes: a hint for each row, the row of each of 128 slots, and each slot's marks.
-#[derive(Drop)]
-pub struct Notes {}
+// What a row's last reading shows of its way: it goes on in the first or the second part of a pair, with the other part known, or
+// it ends at an encryption that does not open.
+#[derive(Clone, Copy, PartialEq, Eq)]
+pub enum Way {
+    Unknown,
+    First,
+    Second,
+    Shut,
+}
 
-impl Notes {
-    pub const COUNT: usize = 12544;
+// Notes: the way of each row, which is a hint; 128 slots, each with a row and the marks kept for it; and the slot that is next.
+#[derive(Drop)]
+pub struct Notes {
+    pub ways: [Way; 96],
+    pub rows: [usize; 128],
+    pub kept: [[bool; 96]; 128],
+    pub next: usize,
 }
 
 // Whether there is a row with the given kind and left byte that is marked.
@@ -108,16 +119,15 @@ pub fn content_of(marks: &Marks, t: &[u8], n: usize, x: usize) -> usize
     y
 }
 
-// Goes down from row x the way that was not readable before, and marks the rows on it and what is known on it besides. The first
-// 96 notes, one for each row, say where it goes: to the first or the second part of a pair, 1 or 2, with the other part known; or
-// that it ends at an encryption that does not open, 3. The row at its end, unless it may be readable.
+// Goes down from row x the way that was not readable before, as the notes say where it goes, and marks the rows on it and what is
+// known on it besides. The row at its end, unless it may be readable.
 fn follow(
     more: &mut Marks,
     way: &mut Marks,
     sure: &Marks,
     t: &[u8],
     n: usize,
-    notes: &[u8; Notes::COUNT],
+    ways: &[Way; 96],
     mut x: usize,
 ) -> Option<usize>
     requires { Shape t.now n 0 × (x < n) }
@@ -128,17 +138,19 @@ fn follow(
         way[x] = true;
         let left = rows::left_of(t, x);
         let right = rows::right_of(t, x);
-        x = match (rows::kind_of(t, x), notes[x]) {
-            (Kind::PAIR, 1) => {
-                more[right] = true;
-                left
-            }
-            (Kind::PAIR, 2) => {
-                more[left] = true;
-                right
-            }
-            (Kind::PAIR, _) => return None,
-            (Kind::ENCRYPTED, hint) if hint != 3 => left,
+        x = match rows::kind_of(t, x) {
+            Kind::PAIR => match ways[x] {
+                Way::First => {
+                    more[right] = true;
+                    left
+                }
+                Way::Second => {
+                    more[left] = true;
+                    right
+                }
+                _ => return None,
+            },
+            Kind::ENCRYPTED if ways[x] != Way::Shut => left,
             _ => return Some(x),
         };
     }
@@ -152,7 +164,7 @@ pub fn gives_up(
     t: &[u8],
     n: usize,
     classes: &Classes,
-    notes: &[u8; Notes::COUNT],
+    notes: &Notes,
     quick: bool,
     x: usize,
 ) -> bool
@@ -163,8 +175,13 @@ pub fn gives_up(
         return false;
     }
     let mut more = marks;
+<<<<<<< HEAD
     let mut way = [false; 480];
     let Some(end) = follow(&mut more, &mut way, sure, t, n, notes, x) else {
+=======
+    let mut way = [false; Cells::COUNT];
+    let Some(end) = follow(&mut more, &mut way, sure, t, n, &notes.ways, x) else {
+>>>>>>> 854ad55dff5e0214bfcbfaaba4ef2f1d117bd1b3
         return false;
     };
     let known = knowledge::settle(more, t, n, 0, classes);
@@ -177,39 +194,51 @@ pub fn gives_up(
     }
 }
 
-// Whether all marks that are kept in a slot stand.
-fn covers(marks: &Marks, notes: &[u8; Notes::COUNT], n: usize, slot: usize) -> bool
-    requires { (n ≤ 96) × (slot < 128) }
-    ensures { result ≡ true → SlotStands n marks.now notes.now slot }
-{
-    (0..n).all(|x| notes[256 + slot * 96 + x] != 1 || marks[x])
-}
-
-// Whether row x was found readable with marks that stand.
-pub fn is_kept(marks: &Marks, notes: &[u8; Notes::COUNT], n: usize, x: usize) -> bool
+// Whether all marks that are kept stand.
+fn covers(marks: &Marks, kept: &[bool; 96], n: usize) -> bool
     requires { n ≤ 96 }
-    ensures { result ≡ true → KeptFor n marks.now notes.now x }
+    ensures { result ≡ true → Stand n marks.now kept.now }
 {
-    (0..128).any(|slot| usize::from(notes[96 + slot]) == x && covers(marks, notes, n, slot))
+    (0..n).all(|x| !kept[x] || marks[x])
 }
 
 // Puts marks into a slot.
-fn fill_slot(marks: &Marks, notes: &mut [u8; Notes::COUNT], n: usize, slot: usize)
-    requires { (n ≤ 96) × (slot < 128) }
-    ensures { SlotFilled n marks.now slot notes.old notes.new }
+fn fill_slot(marks: &Marks, kept: &mut [bool; 96], n: usize)
+    requires { n ≤ 96 }
+    ensures { SlotFilled n marks.now kept.new }
 {
-    for x in 0..n {
-        notes[256 + slot * 96 + x] = u8::from(marks[x]);
-    }
+    kept[..n].copy_from_slice(&marks[..n]);
 }
 
-// Keeps the marks with which row x is readable, in place of the oldest that are kept.
-pub fn keep(marks: &Marks, notes: &mut [u8; Notes::COUNT], n: usize, x: usize)
-    requires { (n ≤ 96) × (x < n) }
-    ensures { KeptIn n marks.now x notes.old notes.new }
-{
-    let slot = usize::from(notes[224]) % 128;
-    fill_slot(marks, notes, n, slot);
-    notes[96 + slot] = x as u8;
-    notes[224] = (slot + 1) as u8;
+impl Notes {
+    // Notes before anything is read.
+    pub fn new() -> Notes
+        ensures { NoNotes result }
+    {
+        Notes {
+            ways: [Way::Unknown; 96],
+            rows: [0; 128],
+            kept: [[false; 96]; 128],
+            next: 0,
+        }
+    }
+
+    // Whether row x was found readable with marks that stand.
+    pub fn is_kept(&self, marks: &Marks, n: usize, x: usize) -> bool
+        requires { n ≤ 96 }
+        ensures { result ≡ true → KeptFor n marks.now self.now x }
+    {
+        (0..128).any(|slot| self.rows[slot] == x && covers(marks, &self.kept[slot], n))
+    }
+
+    // Keeps the marks with which row x is readable, in place of the oldest that are kept.
+    pub fn keep(&mut self, marks: &Marks, n: usize, x: usize)
+        requires { (n ≤ 96) × (x < n) }
+        ensures { KeptIn n marks.now x self.old self.new }
+    {
+        let slot = self.next % 128;
+        fill_slot(marks, &mut self.kept[slot], n);
+        self.rows[slot] = x;
+        self.next = slot + 1;
+    }
 }

@@ -4,9 +4,10 @@
 ghost use Rattle.std.specs.Prelude.{◌<◌};
 ghost use Rattle.rows.specs.Rows.{rows_of, Shape};
 ghost use Rattle.role_level.specs.RoleLevel.{RoleClasses};
-ghost use Rattle.open_marks.specs.Sure.{SureRows, Notes, Answers};
+ghost use Rattle.open_marks.specs.Sure.{SureRows, Noted, Answers};
 
-use cells::{Cells, Classes, Marks};
+use cells::{Classes, Marks};
+use open_marks::{Notes, Way};
 use rows::Kind;
 
 // Whether the term of row x is readable: derivable, a variable, a pair of which each part is readable with the other known,
@@ -19,12 +20,12 @@ pub fn is_readable(
     t: &[u8],
     n: usize,
     classes: &Classes,
-    notes: &mut [u8; open_marks::Notes::COUNT],
+    notes: &mut Notes,
     quick: bool,
     x: usize,
 ) -> bool
-    requires { Shape t.now n 0 × (RoleClasses (rows_of t.now) classes.now × (SureRows (rows_of t.now) marks sure × (Notes (rows_of t.now) notes.old × (x < n)))) }
-    ensures { Answers (rows_of t.now) marks x quick result × Notes (rows_of t.now) notes.new }
+    requires { Shape t.now n 0 × (RoleClasses (rows_of t.now) classes.now × (SureRows (rows_of t.now) marks sure × (Noted (rows_of t.now) notes.old × (x < n)))) }
+    ensures { Answers (rows_of t.now) marks x quick result × Noted (rows_of t.now) notes.new }
 {
     if marks[x] || sure[x] {
         return true;
@@ -34,7 +35,7 @@ pub fn is_readable(
         return true;
     }
     if kind == Kind::PAIR {
-        if open_marks::is_kept(&marks, notes, n, x) {
+        if notes.is_kept(&marks, n, x) {
             return true;
         }
         if open_marks::gives_up(marks, &sure, t, n, classes, notes, quick, x) {
@@ -52,19 +53,19 @@ pub fn is_readable(
         let found_too = is_readable(both, more, t, n, classes, notes, true, d);
         let most = open_marks::added(more, found_too.then_some(d));
         if !is_readable(with_second, most, t, n, classes, notes, quick, l) {
-            notes[x] = 1;
+            notes.ways[x] = Way::First;
             return false;
         }
         if !is_readable(with_first, most, t, n, classes, notes, quick, s) {
-            notes[x] = 2;
+            notes.ways[x] = Way::Second;
             return false;
         }
-        open_marks::keep(&marks, notes, n, x);
+        notes.keep(&marks, n, x);
         return true;
     }
     if kind == Kind::ENCRYPTED {
         if open_marks::inverse_known(&marks, t, n, rows::right_of(t, x)) {
-            notes[x] = 0;
+            notes.ways[x] = Way::Unknown;
             return is_readable(
                 marks,
                 sure,
@@ -76,7 +77,7 @@ pub fn is_readable(
                 rows::left_of(t, x),
             );
         }
-        notes[x] = 3;
+        notes.ways[x] = Way::Shut;
         return false;
     }
     false

@@ -35,7 +35,7 @@ fn is_well_formed(
         return false;
     }
     if kind == Event::READ {
-        let mut notes = [0u8; Notes::COUNT];
+        let mut notes = Notes::new();
         let sure = [false; 480];
         return open_readable::is_readable(marks, sure, t, n, classes, &mut notes, false, x);
     }

@@ -1,5 +1,5 @@
 -- `gives_up` gives up only quick answers. Assumes nothing.
-use Rattle.std.proofs.Common.{arith, rules}
+use Rattle.std.proofs.Common.{arith}
 use Rattle.open_marks.specs.laws.Rows.{parts-lower}
 use Rattle.open_marks.proofs.gives_up.Goals as goal
 

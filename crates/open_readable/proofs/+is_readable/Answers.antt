@@ -4,7 +4,6 @@ use native.Mathlib.Omega.{arith}
 use mathlib.Core.Path.{◌≡◌, refl, sym, ◌∙◌}
 use mathlib.Core.Bool.{Bool, true, false}
 use mathlib.Core.List.{List}
-use borrow.Author.Rules.{rules}
 use Rattle.std.specs.Prelude.{Option, Some, IfSome}
 use Rattle.std.specs.Bool.{then_some}
 use Rattle.rows.specs.Rows.{rows_of, Shape}
@@ -13,14 +12,10 @@ use Rattle.open_marks.specs.Sure.{Sure, SureRows, Gains, Shared, Added}
 use Rattle.open_marks.specs.laws.Rows.{parts-lower}
 use Rattle.open_marks.specs.laws.Readable.{unreadable, unreadable-first, readable-second, unreadable-closed, readable-content}
 use Rattle.open_marks.specs.laws.Sure.{sure-readable, sure-marked, sure-variable, sure-pair, sure-content, answer-yes, answer-no, rows-sure, rows-added, common-before, common-one, common-other}
-use Rattle.open_marks.specs.laws.Kept.{notes-hinted, kept-sure, notes-kept}
+use Rattle.open_marks.specs.laws.Kept.{kept-sure, notes-kept}
 use Rattle.open_readable.proofs.+is_readable.Goals.{After-is_kept, After-right_of, After-right_of-s}
 use Rattle.open_readable.proofs.+is_readable.Goals.{then-marks-x-via-then-marks-x as is-marked, then-marks-x-via-else-marks-x+then-sure-x as is-sure}
 use Rattle.open_readable.proofs.+is_readable.Goals as goal
-
--- a row of a table is less than 96
-fits : (bytes : List ℕ) (n : ℕ) → Shape bytes n 0 → (x : ℕ) → x < n → x < 96
-fits bytes n shape x below = omega (arith, below, shape.few)
 
 -- the row is a pair
 is-pair : (t : ℕ) (c : After-right_of-s t) → kind_at c.args.t.now c.args.x ≡ 11
@@ -142,7 +137,7 @@ pub returns-then-not-is_readable : goal.returns-then-not-is_readable
 returns-then-not-is_readable t c =
     let pairs = is-pair t (goal.at.returns-then-not-is_readable t c).After-right_of-s in (
       answer-no c.args.t.now c.args.n c.requires.0 c.args.marks c.args.x c.args.quick (λ q. unreadable-first c.args.t.now c.args.n c.requires.0 c.args.marks c.args.x c.left_of-l.ensures.0 c.right_of-s.ensures.0 pairs c.learned-with_second.result c.learned-with_second.ensures.0 (c.is_readable.ensures.0.no q c.if-not-is_readable.true) refl),
-      notes-hinted (rows_of c.args.t.now) _ c.args.x 1 (fits c.args.t.now c.args.n c.requires.0 c.args.x c.requires.1.1.1.1) c.is_readable.ensures.1,
+      c.is_readable.ensures.1,
     )
 
 pub is_readable-requires-then-kind-eq-PAIR : goal.is_readable-requires-then-kind-eq-PAIR
@@ -155,7 +150,7 @@ pub returns-then-not-is_readable-2 : goal.returns-then-not-is_readable-2
 returns-then-not-is_readable-2 t c =
     let pairs = is-pair t (goal.at.returns-then-not-is_readable-2 t c).After-right_of-s in (
       answer-no c.args.t.now c.args.n c.requires.0 c.args.marks c.args.x c.args.quick (λ q. readable-second c.args.t.now c.args.n c.requires.0 c.args.marks c.args.x c.left_of-l.ensures.0 c.right_of-s.ensures.0 pairs c.learned-with_second.result c.learned-with_second.ensures.0 (sure-readable c.args.t.now c.args.n c.requires.0 c.learned-with_second.result c.left_of-l.result (c.is_readable.ensures.0.yes c.if-not-is_readable.false)) refl c.learned-with_first.result c.learned-with_first.ensures.0 (c.is_readable-then-kind-eq-PAIR.ensures.0.no q c.if-not-is_readable-2.true)),
-      notes-hinted (rows_of c.args.t.now) _ c.args.x 2 (fits c.args.t.now c.args.n c.requires.0 c.args.x c.requires.1.1.1.1) c.is_readable-then-kind-eq-PAIR.ensures.1,
+      c.is_readable-then-kind-eq-PAIR.ensures.1,
     )
 
 pub returns-then-kind-eq-PAIR : goal.returns-then-kind-eq-PAIR
@@ -172,7 +167,7 @@ inverse_known-requires t c =
 pub is_readable-requires-then-inverse_known : goal.is_readable-requires-then-inverse_known
 is_readable-requires-then-inverse_known t c =
     let low = low-content t (goal.at.is_readable-requires-then-inverse_known t c).After-right_of in
-    (omega (arith, low.0, c.left_of.ensures.0), (c.requires.0, (c.requires.1.0, (c.requires.1.1.0, (notes-hinted (rows_of c.args.t.now) _ c.args.x 0 (fits c.args.t.now c.args.n c.requires.0 c.args.x c.requires.1.1.1.1) c.requires.1.1.1.0, omega (arith, low.0, c.left_of.ensures.0, c.requires.1.1.1.1))))))
+    (omega (arith, low.0, c.left_of.ensures.0), (c.requires.0, (c.requires.1.0, (c.requires.1.1.0, (c.requires.1.1.1.0, omega (arith, low.0, c.left_of.ensures.0, c.requires.1.1.1.1))))))
 
 pub returns-then-inverse_known : goal.returns-then-inverse_known
 returns-then-inverse_known t c =
@@ -189,7 +184,7 @@ pub returns-then-kind-eq-ENCRYPTED : goal.returns-then-kind-eq-ENCRYPTED
 returns-then-kind-eq-ENCRYPTED t c =
     let encrypts = is-encrypted t (goal.at.returns-then-kind-eq-ENCRYPTED t c).After-right_of in (
       answer-no c.args.t.now c.args.n c.requires.0 c.args.marks c.args.x c.args.quick (λ q. unreadable-closed c.args.t.now c.args.n c.requires.0 c.args.marks c.args.x refl c.right_of.ensures.0 encrypts c.if-marks-x.false c.inverse_known.ensures.0 c.if-inverse_known.false),
-      notes-hinted (rows_of c.args.t.now) _ c.args.x 3 (fits c.args.t.now c.args.n c.requires.0 c.args.x c.requires.1.1.1.1) c.requires.1.1.1.0,
+      c.requires.1.1.1.0,
     )
 
 pub returns : goal.returns

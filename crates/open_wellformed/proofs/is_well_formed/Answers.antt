@@ -18,7 +18,7 @@ returns-then-not-name_known-2 c =
 
 pub is_readable-requires : goal.is_readable-requires
 is_readable-requires c =
-    (c.requires.0, (c.requires.1.0, (sure-none (rows_of c.args.t.now) c.args.marks 480, (notes-none (rows_of c.args.t.now), c.requires.1.1))))
+    (c.requires.0, (c.requires.1.0, (sure-none (rows_of c.args.t.now) c.args.marks 480, (notes-none (rows_of c.args.t.now) c.new-notes.result c.new-notes.ensures, c.requires.1.1))))
 
 pub returns-then-kind-eq-READ : goal.returns-then-kind-eq-READ
 returns-then-kind-eq-READ c =
