@@ -16,11 +16,6 @@ use Rattle.search_breaks.specs.Walk.{judged, buffer_as, Finds}
 use Rattle.search_breaks.specs.laws.Walked.{later_by, continued, walked-append, nothing-within, found_within}
 
 -- what a walk answered, the other way round
-abbrev number_of : Walked → ℕ
-number_of (Err (Broken b)) = 0
-number_of (Ok m) = suc m
-number_of (Err Cut) = 0
-
 abbrev which : Walked → ℕ
 which (Err (Broken b)) = 0
 which (Ok m) = 1
@@ -28,7 +23,7 @@ which (Err Cut) = 2
 
 pub answer-clean : (es : List Entry) (f : Finding) {m : ℕ} → Ok m ≡ walked_as es f → (f ≡ nothing) × (m ≡ length es)
 answer-clean es (found p e c) {m} q = let z : ◌≡◌ {A = ℕ} 1 0 = ap which q in absurd (omega arith)
-answer-clean es nothing {m} q = let z : suc m ≡ suc (length es) = ap number_of q in (refl, omega arith)
+answer-clean es nothing {m} q = (refl, ap size_of q)
 answer-clean es cut {m} q = let z : ◌≡◌ {A = ℕ} 1 2 = ap which q in absurd (omega arith)
 
 pub answer-cut : (es : List Entry) (f : Finding) → Err Cut ≡ walked_as es f → f ≡ cut
