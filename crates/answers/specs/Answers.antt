@@ -21,8 +21,8 @@ use Rattle.answers.specs.declared.ClaimKind.TheVariants.{Secrecy}
 use Rattle.answers.specs.declared.Break.{Break}
 use Rattle.answers.specs.declared.Verdict.{Verdict}
 use Rattle.answers.specs.declared.Verdict.TheVariants as searching
-use Rattle.answers.specs.declared.Walked.{Walked}
-use Rattle.answers.specs.declared.Walked.TheVariants as walking
+use Rattle.answers.specs.declared.End.{End}
+use Rattle.answers.specs.declared.End.TheVariants as ending
 
 -- the number of a reason
 abbrev pub number_of : Reason → ℕ
@@ -149,14 +149,18 @@ abbrev pub searched_as : Answer verdicts.Verdict → Searched
 searched_as (refused r) = Err (refusal_as r)
 searched_as (accepted v) = Ok (verdict_as v)
 
+-- what a walk finds: so many traces without a break, or what ended it
+abbrev pub Walked : Type 0
+Walked = Result ℕ End
+
 -- a walk through some entries: the break, how many entries there are without one, or that the budget ended
 abbrev pub walked_as : List Entry → Finding → Walked
-walked_as es (found p e c) = walking.Broken (break_as p e.0 c)
-walked_as es nothing = walking.Clean (length es)
-walked_as es cut = walking.Cut
+walked_as es (found p e c) = Err (ending.Broken (break_as p e.0 c))
+walked_as es nothing = Ok (length es)
+walked_as es cut = Err ending.Cut
 
 -- the verdict by what a walk through the whole list found with a budget
 abbrev pub answered : ℕ → Walked → Verdict
-answered budget (walking.Broken b) = searching.Broken b
-answered budget (walking.Clean m) = searching.Held m
-answered budget walking.Cut = searching.Stopped budget
+answered budget (Err (ending.Broken b)) = searching.Broken b
+answered budget (Ok m) = searching.Held m
+answered budget (Err ending.Cut) = searching.Stopped budget

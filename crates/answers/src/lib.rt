@@ -86,13 +86,15 @@ pub enum Verdict {
     Stopped(usize),
 }
 
-// What a walk through a part of the list finds: a break, so many traces without one, or that the budget ended.
+// What ends a walk: a break, or the budget.
 #[derive(Clone, Copy)]
-pub enum Walked {
+pub enum End {
     Broken(Break),
-    Clean(usize),
     Cut,
 }
+
+// What a walk through a part of the list finds: so many traces without a break, or what ended it.
+pub type Walked = Result<usize, End>;
 
 // The limit of a trace.
 #[derive(Drop)]
@@ -121,8 +123,8 @@ pub fn verdict_of(walked: Walked, budget: usize) -> Verdict
     ensures { result ≡ answered budget walked }
 {
     match walked {
-        Walked::Broken(b) => Verdict::Broken(b),
-        Walked::Clean(m) => Verdict::Held(m),
-        Walked::Cut => Verdict::Stopped(budget),
+        Ok(m) => Verdict::Held(m),
+        Err(End::Broken(b)) => Verdict::Broken(b),
+        Err(End::Cut) => Verdict::Stopped(budget),
     }
 }

@@ -10,7 +10,7 @@ ghost use Rattle.answers.specs.Answers.{scenario_in, Accepts, verdict_as, search
 ghost use Rattle.search_runs.specs.Runs.{list_as};
 ghost use Rattle.search_breaks.specs.Walk.{FindsAll};
 
-use answers::{Layout, Refusal, Verdict, Walked};
+use answers::{End, Layout, Refusal, Verdict, Walked};
 use runs::Runs;
 use search_breaks::{Course, Plan, Reach};
 use search_memory::Memory;
@@ -76,7 +76,7 @@ fn judged(file: &[u8], l: Layout, trace: &mut [u8], list: Listing) -> Verdict
 {
     let budget = frame::budget(file);
     if budget == 0 {
-        return answers::verdict_of(Walked::Cut, budget);
+        return answers::verdict_of(Err(End::Cut), budget);
     }
     let walked = walk_all(trace, file, l, budget, list);
     answers::verdict_of(walked, budget)

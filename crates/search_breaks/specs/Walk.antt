@@ -1,5 +1,5 @@
 -- What a walk through a part of the list finds, as the code answers it. Assumes nothing.
-use Rattle.std.specs.Prelude.{ℕ, suc, ◌+◌, ◌*◌, ◌<◌, ◌≤◌, ◌≡◌, Bool, true, List, [], ◌∷◌, ◌++◌, map, length, get_or, take, drop}
+use Rattle.std.specs.Prelude.{ℕ, suc, ◌+◌, ◌*◌, ◌<◌, ◌≤◌, ◌≡◌, Bool, true, List, [], ◌∷◌, ◌++◌, map, length, get_or, take, drop, Err, Ok}
 use Rattle.std.proofs.Math.Option.{Option, none, some}
 use Rattle.semantics.specs.Basic.{joined, present_ones, mapped}
 use Rattle.semantics.specs.Term.{Atom}
@@ -18,8 +18,8 @@ use Rattle.state.specs.State.{Given, Due, IsState, NextMove, Ready}
 use Rattle.values.specs.Values.{Setting, PartArrays}
 use Rattle.answers.specs.Answers.{walked_as}
 use Rattle.variables.specs.Variables.{Beneath, unset_from}
-use Rattle.answers.specs.declared.Walked.{Walked}
-use Rattle.answers.specs.declared.Walked.TheVariants.{Broken, Clean, Cut}
+use Rattle.answers.specs.Answers.{Walked}
+use Rattle.answers.specs.declared.End.TheVariants.{Broken, Cut}
 use Rattle.search_findings.specs.Findings.{is_broken}
 use Rattle.search_runs.specs.Runs.{list_as}
 use Rattle.search_breaks.specs.declared.Choice.{Choice}
@@ -90,9 +90,9 @@ step_size turn = 2 + 2 * turn.values.count
 
 -- the buffer with the step of a move written at a place, if a break was found after the move
 abbrev pub step_before : List ℕ → ℕ → Turn → Walked → List ℕ
-step_before before at turn (Broken b) = over before at (step_bytes turn)
-step_before before at turn (Clean m) = before
-step_before before at turn Cut = before
+step_before before at turn (Err (Broken b)) = over before at (step_bytes turn)
+step_before before at turn (Ok m) = before
+step_before before at turn (Err Cut) = before
 
 -- a step whose bytes fit, if they are written
 pub record StepFits (size at : ℕ) (turn : Turn) (w : Walked) : Type 0 where

@@ -5,7 +5,7 @@ ghost use Rattle.std.specs.Prelude.{◌≡◌, List, [], ◌∷◌, ◌++◌, �
 ghost use Rattle.semantics.specs.State.{Value};
 ghost use Rattle.search_breaks.specs.Walk.{over, ValuesAre, StepFits, step_before};
 
-use answers::Walked;
+use answers::{End, Walked};
 use runs::{RunEvent, Runs};
 use search_runs::Listing;
 
@@ -71,7 +71,7 @@ pub fn write_before(trace: &mut [u8], at: usize, turn: Turn, found: Walked)
     requires { StepFits (length trace.old) at turn found }
     ensures { trace.new ≡ step_before trace.old at turn found }
 {
-    let Walked::Broken(_) = found else {
+    let Err(End::Broken(_)) = found else {
         return;
     };
     write_step(trace, at, turn.run + 1, turn.values);

@@ -2,9 +2,9 @@
 #![tactic(auto)]
 
 ghost use Rattle.std.specs.Prelude.{◌≡◌, ◌<◌, ◌≤◌};
-ghost use Rattle.search_findings.specs.Findings.{own_break, placed_later, made_longer, own_as, goes_on, known_as, behind_as, after_step, is_clean, is_broken, count_of, size_of, length_of};
+ghost use Rattle.search_findings.specs.Findings.{own_break, placed_later, made_longer, own_as, known_as, behind_as, after_step, size_of, length_of};
 
-use answers::{Break, Claim, Walked};
+use answers::{Break, Claim, End, Walked};
 
 // The break of the first trace of a list, which has no bytes.
 pub fn own_break(claim: Claim) -> Break
@@ -44,19 +44,12 @@ pub fn own(left: usize, claimed: Option<Claim>) -> Walked
     ensures { result ≡ own_as left claimed }
 {
     if left == 0 {
-        return Walked::Cut;
+        return Err(End::Cut);
     }
     match claimed {
-        Some(claim) => Walked::Broken(own_break(claim)),
-        None => Walked::Clean(1),
+        Some(claim) => Err(End::Broken(own_break(claim))),
+        None => Ok(1),
     }
-}
-
-// Whether the traces after a state's own are walked: there is no break and no end yet, and there are moves to look at.
-pub fn goes_on(own: Walked, depth: usize) -> bool
-    ensures { result ≡ goes_on own depth }
-{
-    matches!(own, Walked::Clean(_)) && depth != 0
 }
 
 // What a remembered number of traces without a break comes to with what is left of the budget.
@@ -64,9 +57,9 @@ pub fn known(left: usize, count: usize) -> Walked
     ensures { result ≡ known_as left count }
 {
     if left < count {
-        return Walked::Cut;
+        return Err(End::Cut);
     }
-    Walked::Clean(count)
+    Ok(count)
 }
 
 // What is found in a part of the list, behind so many traces without a break.
@@ -75,9 +68,9 @@ pub fn behind(count: usize, found: Walked) -> Walked
     ensures { result ≡ behind_as count found }
 {
     match found {
-        Walked::Broken(b) => Walked::Broken(later(b, count)),
-        Walked::Clean(m) => Walked::Clean(count + m),
-        Walked::Cut => Walked::Cut,
+        Ok(m) => Ok(count + m),
+        Err(End::Broken(b)) => Err(End::Broken(later(b, count))),
+        Err(End::Cut) => Err(End::Cut),
     }
 }
 
@@ -87,26 +80,7 @@ pub fn after_step(found: Walked, bytes: usize) -> Walked
     ensures { result ≡ after_step found bytes }
 {
     match found {
-        Walked::Broken(b) => Walked::Broken(longer(b, bytes)),
-        Walked::Clean(m) => Walked::Clean(m),
-        Walked::Cut => Walked::Cut,
-    }
-}
-
-// Whether a part of the list was walked to its end without a break.
-pub fn is_clean(found: Walked) -> bool
-    ensures { result ≡ is_clean found }
-{
-    matches!(found, Walked::Clean(_))
-}
-
-// How many traces without a break are counted, and remembered: none where the walk did not come to the end.
-pub fn count_of(found: Walked) -> usize
-    ensures { result ≡ count_of found }
-{
-    match found {
-        Walked::Broken(_) => 0,
-        Walked::Clean(m) => m,
-        Walked::Cut => 0,
+        Err(End::Broken(b)) => Err(End::Broken(longer(b, bytes))),
+        _ => found,
     }
 }

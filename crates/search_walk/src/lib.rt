@@ -33,11 +33,10 @@ pub fn walk(
 {
     let done = course.done;
     let claimed = claims::broken(file, t, plan.rows, plan.runs, done, marks);
-    let own = search_findings::own(reach.left, claimed);
-    if !search_findings::goes_on(own, reach.depth) {
-        return own;
+    let mut count = search_findings::own(reach.left, claimed)?;
+    if reach.depth == 0 {
+        return Ok(count);
     }
-    let mut count = search_findings::count_of(own);
     let span = search_runs::runs_in(plan.list, file, plan.runs, done);
     for k in span.from..span.end {
         let found = walk_run(
@@ -57,13 +56,9 @@ pub fn walk(
             },
             k,
         );
-        let total = search_findings::behind(count, found);
-        if !search_findings::is_clean(total) {
-            return total;
-        }
-        count = search_findings::count_of(total);
+        count = search_findings::behind(count, found)?;
     }
-    Walked::Clean(count)
+    Ok(count)
 }
 
 // Walks through the traces that go on with run k, from a state whose own trace breaks no claim.
@@ -91,7 +86,7 @@ fn walk_run(
     let done = course.done;
     let j = done[k];
     if runs.events[k] <= j {
-        return Walked::Clean(0);
+        return Ok(0);
     }
     let event = runs::event_of(file, runs, k, j);
     let turn = Turn {
@@ -166,7 +161,7 @@ fn walk_values(
         turn.run,
         event,
     ) {
-        return Walked::Clean(0);
+        return Ok(0);
     }
     let mut count = 0;
     let mut row = 0;
@@ -216,15 +211,11 @@ fn walk_values(
                 from: x + 1,
             },
         );
-        let total = search_findings::behind(count, found);
-        if !search_findings::is_clean(total) {
-            return total;
-        }
-        count = search_findings::count_of(total);
+        count = search_findings::behind(count, found)?;
         row = value.row;
         run = value.run + 1;
     }
-    Walked::Clean(count)
+    Ok(count)
 }
 
 // Walks through the traces that go on with one move, all its values being chosen, if it is allowed.
@@ -248,7 +239,7 @@ fn walk_move(
     ensures remembers { Remembers file.now t.now plan memory.new }
 {
     if !moves::is_allowed(classes, &marks, turn.run, turn.event) {
-        return Walked::Clean(0);
+        return Ok(0);
     }
     walk_after(
         trace, memory, file, t, plan, course, names, classes, marks, reach, turn,
@@ -309,7 +300,10 @@ fn walk_after(
             depth: reach.depth,
         },
     );
-    search_memory::keep(memory, &key, search_findings::count_of(found));
+    if let Ok(count) = found {
+        search_memory::keep(memory, &key, count);
+        return found;
+    }
     search_breaks::write_before(trace, reach.at, turn, found);
     search_findings::after_step(found, bytes)
 }

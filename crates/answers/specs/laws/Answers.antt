@@ -10,8 +10,7 @@ use Rattle.semantics.specs.Verdict.{Entry, Finding, found, nothing, cut, verdict
 use Rattle.answers.specs.declared.Reason.{Reason}
 use Rattle.answers.specs.declared.Refusal.{Refusal}
 use Rattle.answers.specs.declared.Layout.{Layout}
-use Rattle.answers.specs.declared.Walked.{Walked}
-use Rattle.answers.specs.Answers.{number_of, reason_of, numbered, refusal_as, layout_of, opened_as, scenario_or, scenario_in, Accepts, verdict_as, walked_as, answered}
+use Rattle.answers.specs.Answers.{number_of, reason_of, numbered, refusal_as, layout_of, opened_as, scenario_or, scenario_in, Accepts, verdict_as, Walked, walked_as, answered}
 
 -- what a walk through the whole list finds is answered with the verdict
 pub answer-found : (es : List Entry) (budget : ℕ) (f : Finding) {w : Walked} → w ≡ walked_as es f → answered budget w ≡ verdict_as (verdict_from (length es) budget f)

@@ -15,8 +15,8 @@ use Rattle.answers.specs.laws.Answers.{opened-refused, answer-found}
 use Rattle.answers.specs.declared.Refusal.{Refusal}
 use Rattle.search_breaks.specs.Walk.{judged, over, buffer_as, Finds}
 use Rattle.search_breaks.specs.laws.Walk.{walk-cut}
-use Rattle.answers.specs.declared.Walked.{Walked}
-use Rattle.answers.specs.declared.Walked.TheVariants as walking
+use Rattle.answers.specs.Answers.{Walked}
+use Rattle.answers.specs.declared.End.TheVariants.{Cut}
 use Rattle.answers.specs.declared.Verdict.{Verdict as CodeVerdict}
 
 -- a trace at the buffer's front
@@ -47,7 +47,7 @@ module _ (file : List ℕ) (sc : Scenario) (is_opened : opened file ≡ accepted
   opened-budget e = e ∙ sym (ap (λ (x : Scenario). x.budget) (opened-inverts file sc is_opened).scenario)
 
 -- the walk with no budget
-pub first-cut : (which : Listing) (sc : Scenario) {left : ℕ} → left ≡ 0 → (before : List ℕ) → Finds sc left (trace_list which sc) before 0 before walking.Cut
+pub first-cut : (which : Listing) (sc : Scenario) {left : ℕ} → left ≡ 0 → (before : List ℕ) → Finds sc left (trace_list which sc) before 0 before (Err Cut)
 unfolding trace_list
 first-cut which sc {left} z before = walk-cut (moves_in which sc) sc left (initial sc) before 0 (events_left sc (initial sc)) z
 

@@ -1,15 +1,11 @@
 -- Bytes written over others, and the bytes of values. Assumes nothing.
-use Rattle.std.specs.Prelude.{ℕ, suc, ◌+◌, ◌*◌, ◌<◌, ◌≤◌, ◌≡◌, refl, true, false, List, [], ◌∷◌, ◌++◌, length, take, drop, set}
-use Rattle.std.proofs.Common.{arith, sym, ap, ◌∙◌, true≢false, append_assoc, length-append, length-drop, length-set, take-append-drop, take-suc-set, length-take-le, drop_at, take-take}
+use Rattle.std.specs.Prelude.{ℕ, suc, ◌+◌, ◌*◌, ◌<◌, ◌≤◌, ◌≡◌, refl, List, [], ◌∷◌, ◌++◌, length, take, drop, set}
+use Rattle.std.proofs.Common.{arith, sym, ap, ◌∙◌, append_assoc, length-append, length-drop, length-set, take-append-drop, take-suc-set, length-take-le, drop_at, take-take}
 use Rattle.std.proofs.lemmas.List.{take-append-le}
 use Rattle.semantics.specs.State.{Value}
 use Rattle.semantics.specs.Verdict.{value_bytes}
 use Rattle.search_breaks.specs.declared.Values.{Values}
-use Rattle.answers.specs.declared.Walked.{Walked}
-use Rattle.answers.specs.declared.Walked.TheVariants.{Broken, Clean, Cut}
-use Rattle.search_findings.specs.Findings.{is_broken}
-use Rattle.search_breaks.specs.declared.Turn.{Turn}
-use Rattle.search_breaks.specs.Walk.{over, ValuesAre, step_bytes, step_before}
+use Rattle.search_breaks.specs.Walk.{over, ValuesAre}
 
 -- nothing is written at first
 pub over_none : (b : List ℕ) (at : ℕ) → over b at [] ≡ b
@@ -47,14 +43,3 @@ values-more vs values r w {end} e l are = record {
       ∙ append_assoc (take end values.bytes) (r ∷ []) (w ∷ []) ∙ ap (λ (l : List ℕ). l ++ (r ∷ w ∷ [])) (ap (λ (m : ℕ). take m values.bytes) e ∙ are.written)
       ∙ sym (value-bytes-more vs (record { row = r; run = w }));
 }
-
--- a step is written if there is a break, and not otherwise
-pub before-written : (b : List ℕ) (at : ℕ) (turn : Turn) (w : Walked) → is_broken w ≡ true → step_before b at turn w ≡ over b at (step_bytes turn)
-before-written b at turn (Broken x) e = refl
-before-written b at turn (Clean m) e = absurd (true≢false (sym e))
-before-written b at turn Cut e = absurd (true≢false (sym e))
-
-pub before-kept : (b : List ℕ) (at : ℕ) (turn : Turn) (w : Walked) → is_broken w ≡ false → step_before b at turn w ≡ b
-before-kept b at turn (Broken x) e = absurd (true≢false e)
-before-kept b at turn (Clean m) e = refl
-before-kept b at turn Cut e = refl

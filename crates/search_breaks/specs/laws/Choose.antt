@@ -1,5 +1,5 @@
 -- The walk through the values of one more variable of a read. Assumes nothing.
-use Rattle.std.specs.Prelude.{None, Some, ℕ, suc, ◌+◌, ◌-◌, ◌<◌, ◌≤◌, ◌≡◌, refl, Bool, true, false, T, length, set}
+use Rattle.std.specs.Prelude.{None, Some, ℕ, suc, ◌+◌, ◌-◌, ◌<◌, ◌≤◌, ◌≡◌, refl, Bool, T, length, set, Err, Ok}
 use Rattle.std.proofs.Common.{add-one, arith, sym, ap, ◌∙◌, subst, length-append}
 use mathlib.Core.List.Memᴰ
 use mathlib.Core.List.Memᴰ.{head as first}
@@ -28,9 +28,9 @@ use Rattle.values.specs.laws.Values.{setting-more}
 use Rattle.values.specs.laws.Arrays.{part-more, part-ready}
 use Rattle.values.specs.laws.Next.{no_more, Another, another}
 use Rattle.search_breaks.specs.declared.Values.{Values}
-use Rattle.answers.specs.declared.Walked.{Walked}
-use Rattle.answers.specs.declared.Walked.TheVariants.{Clean}
-use Rattle.search_findings.specs.Findings.{behind_as, is_clean, count_of, size_of}
+use Rattle.answers.specs.Answers.{Walked}
+use Rattle.answers.specs.declared.End.{End}
+use Rattle.search_findings.specs.Findings.{behind_as, size_of}
 use Rattle.search_breaks.specs.declared.Choice.{Choice}
 use Rattle.search_breaks.specs.declared.Course.{Course}
 use Rattle.search_breaks.specs.declared.Plan.{Plan}
@@ -140,7 +140,7 @@ module _ {file t : List ℕ} {plan : Plan} {sc : Scenario} {d : State} {s : Code
 
     module _ {left depth row run count : ℕ} (trying : Trying left depth row run count) where
       -- no value is left
-      trying-end : values_from sc.rows (length sc.runs) var.1 row run ≡ [] → (b : List ℕ) → Finds sc left (below plan sc depth (branches sc d (suc k) a vs left-to-set)) b at b (Clean count)
+      trying-end : values_from sc.rows (length sc.runs) var.1 row run ≡ [] → (b : List ℕ) → Finds sc left (below plan sc depth (branches sc d (suc k) a vs left-to-set)) b at b (Ok count)
       trying-end none_left b =
           passed-all sc left (subst (λ (es : List Entry). Passed sc left (below plan sc depth (branches sc d (suc k) a vs left-to-set)) es count) (ap (values_of plan sc depth d (suc k) a vs rest) none_left) trying.passed) b at
 
@@ -250,7 +250,7 @@ module _ {file t : List ℕ} {plan : Plan} {course : Course} {own names classes 
       next_of = told (var m.read.move m.read.is_read m.choosing view more).0 (var m.read.move m.read.is_read m.choosing view more).1 (atom-read m.read.move m.read.is_read m.choosing view more)
 
       -- no value is left
-      pub tried-end : next ≡ None → {count : ℕ} → Tried row run count → (b : List ℕ) → FindsRead m.read m.vs reach b b (Clean count)
+      pub tried-end : next ≡ None → {count : ℕ} → Tried row run count → (b : List ℕ) → FindsRead m.read m.vs reach b b (Ok count)
       tried-end e tried b = trying-end m.read.move m.read.is_read m.choosing view more tried.trying (values-end m.read.move m.read.is_read m.choosing view more next_of e) b
 
       -- the next one
@@ -297,12 +297,12 @@ module _ {file t : List ℕ} {plan : Plan} {course : Course} {own names classes 
             pub tried-size : size_of w ≤ reach.left - count
             tried-size = finds-size _ _ _ w (found grown)
 
-            pub tried-stops : is_clean total ≡ false → FindsRead m.read m.vs reach b b' total
+            pub tried-stops : {end : End} → total ≡ Err end → FindsRead m.read m.vs reach b b' (Err end)
             unfolding grown
-            tried-stops clean = passed-stops m.read.sc reach.left _ _ _ _ passed (found grown) is clean
+            tried-stops was = passed-stops m.read.sc reach.left _ _ _ _ passed (found grown) is was
 
-            pub tried-on : is_clean total ≡ true → Tried y (v + 1) (count_of total) × (b' ≡ b) × (count_of total ≤ reach.left)
+            pub tried-on : {n : ℕ} → total ≡ Ok n → Tried y (v + 1) n × (b' ≡ b) × (n ≤ reach.left)
             unfolding grown
-            tried-on clean =
-                let on = passed_on m.read.sc reach.left _ _ _ _ passed (found grown) is clean in
+            tried-on was =
+                let on = passed_on m.read.sc reach.left _ _ _ _ passed (found grown) is was in
                 (record { trying = trying-more m.read.move m.read.is_read m.choosing view more tried.trying (record { row = y; run = v }) value-is.atom value-is.names value-is.is_next on.0 }, on.1, on.2)

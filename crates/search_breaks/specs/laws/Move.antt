@@ -1,5 +1,5 @@
 -- The walk after one more move: where it begins, what it finds, and the step that is written. Assumes nothing.
-use Rattle.std.specs.Prelude.{ℕ, zero, suc, ◌+◌, ◌*◌, ◌<◌, ◌≤◌, ◌≡◌, refl, Bool, true, false, length, get_or, set}
+use Rattle.std.specs.Prelude.{ℕ, zero, suc, ◌+◌, ◌*◌, ◌<◌, ◌≤◌, ◌≡◌, refl, Bool, true, false, length, get_or, set, Err, Ok}
 use Rattle.std.proofs.Common.{add-one, arith, sym, ap, ◌∙◌, subst, true≢false, length-append}
 use mathlib.Core.List.{List, [], ◌∷◌, ◌++◌, map, append_assoc, append-nil, Memᴰ}
 use Rattle.std.proofs.lemmas.List.{length-map}
@@ -20,8 +20,8 @@ use Rattle.moves.specs.Moves.{AtEvent, TellsAllowed, MarksAfter}
 use Rattle.moves.specs.laws.Allowed.{told-some, told_none}
 use Rattle.answers.specs.Answers.{claim_as, break_as, walked_as}
 use Rattle.answers.specs.declared.Break.{Break}
-use Rattle.answers.specs.declared.Walked.{Walked}
-use Rattle.answers.specs.declared.Walked.TheVariants.{Broken, Clean, Cut}
+use Rattle.answers.specs.Answers.{Walked}
+use Rattle.answers.specs.declared.End.TheVariants.{Broken, Cut}
 use Rattle.search_findings.specs.Findings.{made_longer, after_step, is_broken, length_of}
 use Rattle.search_breaks.specs.declared.Course.{Course}
 use Rattle.search_breaks.specs.declared.Plan.{Plan}
@@ -107,7 +107,7 @@ module _ {file t : List ℕ} {plan : Plan} {course : Course} {names classes : Li
     told = tells t plan.rows plan.runs.count (event_of size)
 
     -- a move that is not allowed
-    pub move-refused : b ≡ false → (reach : Reach) (trace : List ℕ) → FindsAfter m reach trace trace (Clean 0)
+    pub move-refused : b ≡ false → (reach : Reach) (trace : List ℕ) → FindsAfter m reach trace trace (Ok 0)
     move-refused it reach trace =
         finds-nil m.sc reach.left (branches-refused plan m.sc reach.depth m.d (suc turn.run) m.a m.vs (told_none told it)) trace reach.at
 
@@ -161,16 +161,16 @@ module _ {file t : List ℕ} {plan : Plan} {course : Course} {names classes : Li
     mapped-walk = walked-map (judged sc) (after_move its) (λ e. refl) reach.left after
 
     -- nothing, or the end of the budget
-    pub move-clean : {n : ℕ} → Found (Clean n) → Put b' (Clean n)
+    pub move-clean : {n : ℕ} → Found (Ok n) → Put b' (Ok n)
     move-clean finds =
         let x = answer-clean after (walked (judged sc) reach.left after) finds.answer in
         let None-found = mapped-walk ∙ ap (changed (judged sc) (after_move its)) x.0 in
         finds-same sc reach.left all (record {
-          answer = ap Clean (x.1 ∙ sym (length-map after (after_move its))) ∙ sym (ap (walked_as (map (after_move its) after)) None-found);
+          answer = ap Ok (x.1 ∙ sym (length-map after (after_move its))) ∙ sym (ap (walked_as (map (after_move its) after)) None-found);
           buffer = finds.buffer ∙ ap (buffer_as b (reach.at + step_size turn)) x.0 ∙ sym (ap (buffer_as b reach.at) None-found);
         })
 
-    pub move-cut : Found Cut → Put b' Cut
+    pub move-cut : Found (Err Cut) → Put b' (Err Cut)
     move-cut finds =
         let x = answer-cut after (walked (judged sc) reach.left after) finds.answer in
         let is_cut = mapped-walk ∙ ap (changed (judged sc) (after_move its)) x in
@@ -186,7 +186,7 @@ module _ {file t : List ℕ} {plan : Plan} {course : Course} {names classes : Li
       pub fits : reach.at + step_size turn + length (trace_bytes entry.0) ≤ most_trace_bytes
       pub written : b' ≡ over b (reach.at + step_size turn) (trace_bytes entry.0)
 
-    broken-below : {x : Break} → Found (Broken x) → Below x
+    broken-below : {x : Break} → Found (Err (Broken x)) → Below x
     broken-below {x} finds =
         let y = answer-broken after (walked (judged sc) reach.left after) finds.answer in
         record {
@@ -200,7 +200,7 @@ module _ {file t : List ℕ} {plan : Plan} {course : Course} {names classes : Li
         }
 
     -- with the step written in front
-    put-broken : {x : Break} → Found (Broken x) → most_trace_bytes ≤ length b → Put (over b' reach.at (step_bytes turn)) (Broken (made_longer x (step_size turn)))
+    put-broken : {x : Break} → Found (Err (Broken x)) → most_trace_bytes ≤ length b → Put (over b' reach.at (step_bytes turn)) (Err (Broken (made_longer x (step_size turn))))
     put-broken {x} finds room =
         let y = broken-below finds in
         let is-found = mapped-walk ∙ ap (changed (judged sc) (after_move its)) y.is_found in
@@ -210,25 +210,25 @@ module _ {file t : List ℕ} {plan : Plan} {course : Course} {names classes : Li
         let whole : over b' reach.at (step_bytes turn) ≡ over b reach.at (trace_bytes (its ∷ y.entry.0)) =
         (λ i. over (y.written i) reach.at (step-bytes m.of i)) ∙ over-over b reach.at (move_bytes its) (trace_bytes y.entry.0) start (omega (arith, y.fits)) ∙ ap (over b reach.at) (sym (trace-more its y.entry.0)) in
         finds-same sc reach.left all (record {
-          answer = ap (λ (z : Break). Broken (made_longer z (step_size turn))) y.is_break
-              ∙ ap (λ (l : ℕ). Broken (record { place = y.place; length = l; claim = claim_as y.claim })) (sym long)
+          answer = ap (λ (z : Break). Err (Broken (made_longer z (step_size turn)))) y.is_break
+              ∙ ap (λ (l : ℕ). Err (Broken (record { place = y.place; length = l; claim = claim_as y.claim }))) (sym long)
               ∙ sym (ap (walked_as (map (after_move its) after)) is-found);
           buffer = whole ∙ sym (ap (buffer_as b reach.at) is-found);
         })
 
     -- whatever it is, the step is put in front
     put : (w : Walked) → Found w → most_trace_bytes ≤ length b → Put (step_before b' reach.at turn w) (after_step w (step_size turn))
-    put (Broken x) finds room = put-broken finds room
-    put (Clean n) finds room = move-clean finds
-    put Cut finds room = move-cut finds
+    put (Err (Broken x)) finds room = put-broken finds room
+    put (Ok n) finds room = move-clean finds
+    put (Err Cut) finds room = move-cut finds
 
     -- where it is written there is room for it, and the trace is not too long
     step-inside : (w : Walked) → Found w → most_trace_bytes ≤ length b → is_broken w ≡ true → reach.at + step_size turn ≤ length b'
-    step-inside (Broken x) finds room q =
+    step-inside (Err (Broken x)) finds room q =
         let y = broken-below finds in
         omega (arith, y.fits, ap length y.written, over-length b (reach.at + step_size turn) (trace_bytes y.entry.0) (omega (arith, y.fits)))
-    step-inside (Clean n) finds room q = absurd (true≢false (sym q))
-    step-inside Cut finds room q = absurd (true≢false (sym q))
+    step-inside (Ok n) finds room q = absurd (true≢false (sym q))
+    step-inside (Err Cut) finds room q = absurd (true≢false (sym q))
 
     fits_in : {w : Walked} → Found w → most_trace_bytes ≤ length b → StepFits (length b') reach.at turn w
     fits_in {w} finds room = record {
@@ -238,9 +238,9 @@ module _ {file t : List ℕ} {plan : Plan} {course : Course} {names classes : Li
     }
 
     is-short : (w : Walked) → Found w → length_of w ≤ most_trace_bytes
-    is-short (Broken x) finds = let y = broken-below finds in omega (arith, y.fits, ap (λ (z : Break). z.length) y.is_break)
-    is-short (Clean n) finds = omega arith
-    is-short Cut finds = omega arith
+    is-short (Err (Broken x)) finds = let y = broken-below finds in omega (arith, y.fits, ap (λ (z : Break). z.length) y.is_break)
+    is-short (Ok n) finds = omega arith
+    is-short (Err Cut) finds = omega arith
 
   -- the state after it, with what is answered of the marks, and how far the walk goes from there
   module _ {more : List Bool} (performs : MarksAfter t plan.rows plan.runs.count turn.run turn.event classes marks more) (size : length course.done ≡ 4) {next : List ℕ} (e : next ≡ set course.done turn.run (get_or course.done turn.run 0 + 1)) where

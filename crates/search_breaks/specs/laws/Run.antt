@@ -1,5 +1,5 @@
 -- The walk through the traces that go on with one run: no event to come, a read whose values are to be chosen, or another event. Assumes nothing.
-use Rattle.std.specs.Prelude.{ℕ, suc, ◌<◌, ◌≤◌, ◌≡◌, refl, Bool, length, get_or}
+use Rattle.std.specs.Prelude.{ℕ, suc, ◌<◌, ◌≤◌, ◌≡◌, refl, Bool, length, get_or, Ok}
 use Rattle.std.proofs.Common.{arith, sym, ◌∙◌, subst}
 use Rattle.std.proofs.Math.Path.{ap}
 use mathlib.Core.List.{List, []}
@@ -25,8 +25,7 @@ use Rattle.values.specs.laws.Values.{setting-none}
 use Rattle.values.specs.laws.Next.{nothing-set}
 use Rattle.values.specs.laws.Arrays.{part_none}
 use Rattle.search_breaks.specs.declared.Values.{Values}
-use Rattle.answers.specs.declared.Walked.{Walked}
-use Rattle.answers.specs.declared.Walked.TheVariants.{Clean}
+use Rattle.answers.specs.Answers.{Walked}
 use Rattle.search_breaks.specs.declared.Course.{Course}
 use Rattle.search_breaks.specs.declared.Plan.{Plan}
 use Rattle.search_breaks.specs.declared.Reach.{Reach}
@@ -48,7 +47,7 @@ module _ {file t : List ℕ} {plan : Plan} (course : Course) {names classes : Li
   given = here.reached.given
 
   -- the run has made all its events
-  pub run-over : get_or plan.runs.events k 0 ≤ get_or course.done k 0 → (b : List ℕ) → Finds m.sc reach.left (below plan m.sc reach.depth (of_run m.sc m.d k)) b reach.at b (Clean 0)
+  pub run-over : get_or plan.runs.events k 0 ≤ get_or course.done k 0 → (b : List ℕ) → Finds m.sc reach.left (below plan m.sc reach.depth (of_run m.sc m.d k)) b reach.at b (Ok 0)
   run-over l b = finds-nil m.sc reach.left (run_none plan m.sc reach.depth m.d (suc k) (run-ended given here.state k low l)) b reach.at
 
   module _ (more : get_or course.done k 0 < get_or plan.runs.events k 0) {e : RunEvent} (off : ReadOff file plan.runs k (get_or course.done k 0) e) where

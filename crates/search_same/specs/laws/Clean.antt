@@ -1,5 +1,5 @@
 -- What a memory of states needs: a walk through entries of which none breaks a claim, and that they are equally many below states with equal positions and names. Assumes nothing.
-use Rattle.std.specs.Prelude.{ℕ, ◌<◌, ◌≤◌, ◌≡◌, refl, length}
+use Rattle.std.specs.Prelude.{ℕ, ◌<◌, ◌≤◌, ◌≡◌, refl, length, Err, Ok}
 use Rattle.std.proofs.Common.{arith, sym, ap, ◌∙◌}
 use mathlib.Core.List.{List, Memᴰ}
 use Rattle.std.proofs.Math.Option.{none, none-ne-some}
@@ -13,7 +13,7 @@ use Rattle.semantics.proofs.laws.List.{mem-get_elem, get_elem-below}
 use Rattle.semantics.proofs.laws.Tree.{listed-first}
 use Rattle.semantics.proofs.laws.Verdict as walks
 use Rattle.semantics.proofs.laws.Verdict.{walked_found, walked_all, walked_cut, walked-view}
-use Rattle.answers.specs.declared.Walked.TheVariants as answers
+use Rattle.answers.specs.declared.End.TheVariants.{Cut}
 use Rattle.search_runs.specs.Runs.{list_as}
 use Rattle.search_breaks.specs.declared.Plan.{Plan}
 use Rattle.answers.specs.Answers.{walked_as}
@@ -47,7 +47,7 @@ module _ (sc : Scenario) (left : ℕ) (es : List Entry) where
   unbroken-cut clean l (walked_cut b before) = refl
 
 -- A walk that answers that so many entries break no claim is right.
-pub clean_found : {sc : Scenario} {left : ℕ} {es : List Entry} {before after : List ℕ} {at m : ℕ} → Finds sc left es before at after (answers.Clean m) → Clean sc es m
+pub clean_found : {sc : Scenario} {left : ℕ} {es : List Entry} {before after : List ℕ} {at m : ℕ} → Finds sc left es before at after (Ok m) → Clean sc es m
 clean_found {sc} {left} {es} finds =
     let a = answer-clean es (walked (judged sc) left es) finds.answer in
     record { unbroken = nothing-breaks sc left es (walked-view (judged sc) left es) a.0; counted = sym a.1 }
@@ -57,13 +57,13 @@ pub clean-some : {sc : Scenario} (plan : Plan) (depth : ℕ) (d : State) {m : �
 clean-some {sc} plan depth d clean = omega (arith, get_elem-below (entries_from plan depth sc d) 0 (listed-first (next_in plan sc) depth d), clean.counted)
 
 -- A walk through such entries answers how many they are, if the budget is enough.
-pub clean-finds : {sc : Scenario} {left : ℕ} {es : List Entry} {m : ℕ} → Clean sc es m → m ≤ left → (before : List ℕ) (at : ℕ) → Finds sc left es before at before (answers.Clean m)
+pub clean-finds : {sc : Scenario} {left : ℕ} {es : List Entry} {m : ℕ} → Clean sc es m → m ≤ left → (before : List ℕ) (at : ℕ) → Finds sc left es before at before (Ok m)
 clean-finds {sc} {left} {es} clean l before at =
     let all : walked (judged sc) left es ≡ nothing = unbroken-nothing sc left es clean.unbroken (omega (arith, clean.counted)) (walked-view (judged sc) left es) in
-    record { answer = ap answers.Clean (sym clean.counted) ∙ sym (ap (walked_as es) all); buffer = sym (ap (buffer_as before at) all) }
+    record { answer = ap Ok (sym clean.counted) ∙ sym (ap (walked_as es) all); buffer = sym (ap (buffer_as before at) all) }
 
 -- If it is not, the walk ends before the end.
-pub clean-cuts : {sc : Scenario} {left : ℕ} {es : List Entry} {m : ℕ} → Clean sc es m → left < m → (before : List ℕ) (at : ℕ) → Finds sc left es before at before answers.Cut
+pub clean-cuts : {sc : Scenario} {left : ℕ} {es : List Entry} {m : ℕ} → Clean sc es m → left < m → (before : List ℕ) (at : ℕ) → Finds sc left es before at before (Err Cut)
 clean-cuts {sc} {left} {es} clean l before at =
     let ends : walked (judged sc) left es ≡ cut = unbroken-cut sc left es clean.unbroken (omega (arith, clean.counted)) (walked-view (judged sc) left es) in
     record { answer = sym (ap (walked_as es) ends); buffer = sym (ap (buffer_as before at) ends) }

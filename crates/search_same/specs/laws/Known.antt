@@ -1,10 +1,9 @@
 -- A move to a state that the memory may know: what is answered if it does, and that the memory stays right once the state is stored. Assumes nothing.
-use Rattle.std.specs.Prelude.{ℕ, ◌+◌, ◌<◌, ◌≡◌, refl, Bool, true, false, List, [], ◌∷◌, ◌++◌, ltb, length, get_or, set}
+use Rattle.std.specs.Prelude.{ℕ, ◌+◌, ◌<◌, ◌≡◌, refl, Bool, true, false, List, [], ◌∷◌, ◌++◌, ltb, length, get_or, set, Ok}
 use Rattle.std.proofs.Common.{◌∙◌, ltb-true, ltb-false}
 use Rattle.search_memory.specs.Memory.{IsKey, LookedUp, Kept}
-use Rattle.answers.specs.declared.Walked.{Walked}
-use Rattle.answers.specs.declared.Walked.TheVariants as answers
-use Rattle.search_findings.specs.Findings.{known_as, count_of}
+use Rattle.answers.specs.Answers.{Walked}
+use Rattle.search_findings.specs.Findings.{known_as}
 use Rattle.search_findings.specs.laws.Findings.{known-beyond, known-within}
 use Rattle.search_breaks.specs.declared.Course.{Course}
 use Rattle.search_breaks.specs.declared.Plan.{Plan}
@@ -40,7 +39,5 @@ module _ {file t : List ℕ} {plan : Plan} {course : Course} {names classes : Li
       go false q = let l = ltb-false reach.left known q in rw (e ∙ known-within reach.left known l) (move-clean reach m b b (clean-finds clean l b (reach.at + step_size turn)))
 
   -- the memory stays right once what was found without a break is kept
-  pub kept-right : (w : Walked) {b b' : List ℕ} → Finds m.of.sc reach.left (entries_from plan reach.depth m.of.sc m.d') b (reach.at + step_size turn) b' w → {after : List ℕ} → Kept memory after key (count_of w) → Remembers file t plan after
-  kept-right (answers.Broken x) finds kept = rw (kept.nothing refl) remembers
-  kept-right (answers.Clean n) finds kept = let clean = clean_found finds in remembers-stored remembers reached placed is-key (kept.stored (clean-some plan reach.depth m.d' clean)) clean
-  kept-right answers.Cut finds kept = rw (kept.nothing refl) remembers
+  pub kept-right : {n : ℕ} {b b' : List ℕ} → Finds m.of.sc reach.left (entries_from plan reach.depth m.of.sc m.d') b (reach.at + step_size turn) b' (Ok n) → {after : List ℕ} → Kept memory after key n → Remembers file t plan after
+  kept-right finds kept = let clean = clean_found finds in remembers-stored remembers reached placed is-key (kept.stored (clean-some plan reach.depth m.d' clean)) clean

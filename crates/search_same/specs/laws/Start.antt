@@ -12,7 +12,7 @@ use Rattle.semantics.specs.Verdict.{trace_bytes, trace_list}
 use Rattle.state.specs.State.{Given, IsState}
 use Rattle.state.specs.declared.State.{State}
 use Rattle.search_memory.specs.laws.Words.{zeros-read}
-use Rattle.answers.specs.declared.Walked.{Walked}
+use Rattle.answers.specs.Answers.{Walked}
 use Rattle.search_runs.specs.Runs.{list_as}
 use Rattle.search_breaks.specs.declared.Plan.{Plan}
 use Rattle.search_breaks.specs.Walk.{state_of, next_in, FindsAll, SomeState, FindsFrom}

@@ -3,13 +3,13 @@
 use native.Mathlib.Omega.{arith}
 use borrow.Author.Rules.{rules}
 use Prim.Native.Nat.{ℕ, suc, ◌-◌}
-use mathlib.Core.Path.{◌≡◌, refl, sym, ap, ◌∙◌}
+use mathlib.Core.Path.{◌≡◌, refl, ap, ◌∙◌}
 use mathlib.Core.List.{List}
 use lib.ListN.{length, get_or}
 use Rattle.cells.specs.laws.Shape.{shape-sized}
 use Rattle.variables.specs.laws.Values.{value-falls}
 use Rattle.search_breaks.specs.Walk.{state_clear}
-use Rattle.search_breaks.specs.laws.Finds.{finds-size, finds-count, passed_on, passed-stops}
+use Rattle.search_breaks.specs.laws.Finds.{finds-size, passed_on, passed-stops}
 use Rattle.search_breaks.specs.laws.Entries.{branches-pruned}
 use Rattle.search_breaks.specs.laws.Walk as from-state
 use Rattle.search_breaks.specs.laws.Run as of-run
@@ -17,14 +17,23 @@ use Rattle.search_breaks.specs.laws.Choose as of_values
 use Rattle.search_breaks.specs.laws.Move as of-move
 use Rattle.search_same.specs.laws.Memory.{room-on}
 use Rattle.search_same.specs.laws.Known as known
+use Rattle.std.proofs.lemmas.Result.{err_from_is_err_and}
 use Rattle.search_walk.proofs.+walk_walk_after_walk_move_walk_run_walk_values.Goals as goal
 
 pub walk-broken-claimed-requires : goal.walk-broken-claimed-requires
 walk-broken-claimed-requires t c = let m = c.requires.some_state in (m.sc, m.d, _, m.here.reached.given, m.here.state, refl, refl)
 
-pub walk-returns-then-not-goes_on : goal.walk-returns-then-not-goes_on
-walk-returns-then-not-goes_on t c = record {
-  finds_from = λ m. from-state.walk_ends c.args.plan m.sc c.args.reach.left c.args.reach.depth m.d (c.broken-claimed.ensures m.sc m.d _ m.here.reached.given m.here.state refl refl) c.own-own.ensures (sym c.goes_on.ensures ∙ c.if-not-goes_on.true) c.args.trace.now c.args.reach.at;
+pub walk-returns-in_err-count : goal.walk-returns-in_err-count
+walk-returns-in_err-count t c =
+    let left = err_from_is_err_and c.from_residual.result c.from_residual.ensures.1 in
+    record {
+      finds_from = λ m. rw (left.1, left.2) (from-state.walk_ends c.args.plan m.sc c.args.reach.left c.args.reach.depth m.d (c.broken-claimed.ensures m.sc m.d _ m.here.reached.given m.here.state refl refl) c.own.ensures c.in_err-count.was c.args.trace.now c.args.reach.at);
+      remembers = c.requires.room.remembers;
+    }
+
+pub walk-returns-then-reach-eq0 : goal.walk-returns-then-reach-eq0
+walk-returns-then-reach-eq0 t c = record {
+  finds_from = λ m. from-state.walk-alone c.args.plan m.sc c.args.reach.left c.args.reach.depth m.d (c.broken-claimed.ensures m.sc m.d _ m.here.reached.given m.here.state refl refl) c.own.ensures c.in_ok-count.was c.if-reach-eq0.true c.args.trace.now c.args.reach.at;
   remembers = c.requires.room.remembers;
 }
 
@@ -34,15 +43,14 @@ walk-runs_in-span-requires t c = let m = c.requires.some_state in (m.sc, m.d, fr
 pub walk-loop-k-init : goal.walk-loop-k-init
 walk-loop-k-init t c =
     let m = c.requires.some_state in
-    let goes = sym c.goes_on.ensures ∙ c.if-not-goes_on.false in
     let span = c.runs_in-span in
-    let first = from-state.walk-starts c.args.plan m.sc c.args.reach.left c.args.reach.depth m.d (c.broken-claimed.ensures m.sc m.d _ m.here.reached.given m.here.state refl refl) c.own-own.ensures goes in (
+    let first = from-state.walk-starts c.args.plan m.sc c.args.reach.left c.args.reach.depth m.d (c.broken-claimed.ensures m.sc m.d _ m.here.reached.given m.here.state refl refl) c.own.ensures c.in_ok-count.was c.if-reach-eq0.false in (
       refl,
-      omega (arith, first.within, c.count_of-count.ensures),
+      first.within,
       span.ensures.within,
       first.deep,
-      λ m. let starts = from-state.walk-starts c.args.plan m.sc c.args.reach.left c.args.reach.depth m.d (c.broken-claimed.ensures m.sc m.d _ m.here.reached.given m.here.state refl refl) c.own-own.ensures goes in
-          (starts.unbroken, rw c.count_of-count.ensures (starts.passed span.result.end span.result.from (span.ensures.runs m.sc m.d (from-state.standing m)))),
+      λ m. let starts = from-state.walk-starts c.args.plan m.sc c.args.reach.left c.args.reach.depth m.d (c.broken-claimed.ensures m.sc m.d _ m.here.reached.given m.here.state refl refl) c.own.ensures c.in_ok-count.was c.if-reach-eq0.false in
+          (starts.unbroken, starts.passed span.result.end span.result.from (span.ensures.runs m.sc m.d (from-state.standing m))),
       c.requires.room.remembers,
     )
 
@@ -52,17 +60,18 @@ walk-walk_run-found-requires t c =
     let m = c.requires.some_state in
     (omega (arith, l.invariant.3), (state_clear m (l.invariant.4 m).0, (room-on c.requires.room l.invariant.0 l.invariant.5 _ (omega arith) (omega arith), omega (arith, l.invariant.2, c.loop-k-test.true))))
 
-pub walk-behind-total-requires : goal.walk-behind-total-requires
-walk-behind-total-requires t c =
+pub walk-behind-requires : goal.walk-behind-requires
+walk-behind-requires t c =
     let l = c.loop-k in
     let m = c.requires.some_state in
     (omega (arith, l.invariant.1, c.requires.room.budget), omega (arith, finds-size m.sc _ _ _ (c.walk_run-found.ensures.finds_run (state_clear m (l.invariant.4 m).0)), c.requires.room.budget))
 
-pub walk-returns-then-not-is_clean : goal.walk-returns-then-not-is_clean
-walk-returns-then-not-is_clean t c = record {
+pub walk-returns-in_err-count-2 : goal.walk-returns-in_err-count-2
+walk-returns-in_err-count-2 t c = record {
   finds_from = λ m. let l = c.loop-k in
+      let left = err_from_is_err_and c.from_residual-in_err-count-2.result c.from_residual-in_err-count-2.ensures.1 in
       let passed = from-state.walk-next c.args.plan m.sc c.args.reach.left (c.args.reach.depth - 1) m.d (l.invariant.4 m).1 c.loop-k-test.true in
-      rw (← l.invariant.0) (passed-stops m.sc c.args.reach.left _ _ _ _ passed (c.walk_run-found.ensures.finds_run (state_clear m (l.invariant.4 m).0)) c.behind-total.ensures (sym c.is_clean.ensures ∙ c.if-not-is_clean.true));
+      rw (← l.invariant.0, left.1, left.2) (passed-stops m.sc c.args.reach.left _ _ _ _ passed (c.walk_run-found.ensures.finds_run (state_clear m (l.invariant.4 m).0)) c.behind.ensures c.in_err-count-2.was);
   remembers = c.walk_run-found.ensures.remembers;
 }
 
@@ -72,15 +81,14 @@ walk-loop-k-preserved t c =
     let m = c.requires.some_state in
     let below = c.loop-k-test.true in
     let told = c.walk_run-found.ensures.finds_run in
-    let clean = sym c.is_clean.ensures ∙ c.if-not-is_clean.false in
     let next = from-state.walk-next c.args.plan m.sc c.args.reach.left (c.args.reach.depth - 1) m.d (l.invariant.4 m).1 below in
-    let first = passed_on m.sc c.args.reach.left _ _ _ _ next (told (state_clear m (l.invariant.4 m).0)) c.behind-total.ensures clean in (
+    let first = passed_on m.sc c.args.reach.left _ _ _ _ next (told (state_clear m (l.invariant.4 m).0)) c.behind.ensures c.in_ok-count-2.was in (
       first.1 ∙ l.invariant.0,
-      omega (arith, first.2, c.count_of-count-in-loop-k.ensures),
+      first.2,
       l.invariant.2,
       l.invariant.3,
       λ m. let next = from-state.walk-next c.args.plan m.sc c.args.reach.left (c.args.reach.depth - 1) m.d (l.invariant.4 m).1 below in
-          ((l.invariant.4 m).0, rw c.count_of-count-in-loop-k.ensures (passed_on m.sc c.args.reach.left _ _ _ _ next (told (state_clear m (l.invariant.4 m).0)) c.behind-total.ensures clean).0),
+          ((l.invariant.4 m).0, (passed_on m.sc c.args.reach.left _ _ _ _ next (told (state_clear m (l.invariant.4 m).0)) c.behind.ensures c.in_ok-count-2.was).0),
       c.walk_run-found.ensures.remembers,
     )
 
@@ -130,7 +138,7 @@ pub walk_after-keep-requires : goal.walk_after-keep-requires
 walk_after-keep-requires t c =
     let many : length c.args.course.done ≡ 4 = search (rules, c.well_formed) in
     let found = of-move.found_after c.args.reach c.requires.some_step c.perform-after.ensures many c.advance-next.ensures c.walk-found.ensures.finds_from in
-    omega (arith, finds-count _ _ _ _ found, c.count_of.ensures, c.requires.room.budget)
+    omega (arith, finds-size _ _ _ _ (rw c.in-Ok.is at found), c.requires.room.budget)
 
 pub walk_after-write_before-requires : goal.walk_after-write_before-requires
 walk_after-write_before-requires t c =
@@ -143,13 +151,21 @@ walk_after-after_step-requires t c =
     let m = c.requires.some_step in
     (omega (arith, of-move.step-length c.args.reach m c.perform-after.ensures many c.advance-next.ensures c.walk-found.ensures.finds_from), omega (arith, of-move.few-chosen m.of))
 
+pub walk_after-returns-in-Ok : goal.walk_after-returns-in-Ok
+walk_after-returns-in-Ok t c =
+    let many : length c.args.course.done ≡ 4 = search (rules, c.well_formed) in
+    record {
+      finds_step = λ m. of-move.step-finds c.args.reach m c.perform-after.ensures many c.advance-next.ensures c.walk-found.ensures.finds_from c.requires.room.buffer (rw c.in-Ok.is refl) (rw c.in-Ok.is refl);
+      remembers = let found = of-move.found_after c.args.reach c.requires.some_step c.perform-after.ensures many c.advance-next.ensures c.walk-found.ensures.finds_from in
+          known.kept-right c.args.reach c.requires.some_step many c.advance-next.ensures c.walk-found.ensures.remembers c.key_of-key.ensures (rw c.in-Ok.is at found) c.keep.ensures;
+    }
+
 pub walk_after-returns : goal.walk_after-returns
 walk_after-returns t c =
     let many : length c.args.course.done ≡ 4 = search (rules, c.well_formed) in
     record {
       finds_step = λ m. of-move.step-finds c.args.reach m c.perform-after.ensures many c.advance-next.ensures c.walk-found.ensures.finds_from c.requires.room.buffer c.write_before.ensures c.after_step.ensures;
-      remembers = let found = of-move.found_after c.args.reach c.requires.some_step c.perform-after.ensures many c.advance-next.ensures c.walk-found.ensures.finds_from in
-          known.kept-right c.args.reach c.requires.some_step many c.advance-next.ensures c.walk-found.ensures.remembers c.key_of-key.ensures _ found (rw c.count_of.ensures at c.keep.ensures);
+      remembers = c.walk-found.ensures.remembers;
     }
 
 pub walk_move-is_allowed-requires : goal.walk_move-is_allowed-requires
@@ -299,8 +315,8 @@ walk_values-walk_values-found-requires t c =
       (of_values.grown unset c.args.reach m more c.next_value.ensures c.in-Some.is (l.invariant.3 m unset more) c.tried-more_marks.result c.tried-more_marks.ensures.names_after c.tried-more_marks.ensures.refilled c.tried-more_marks.ensures.settled c.with_value.ensures, room-on c.requires.room l.invariant.0 l.invariant.4 _ (omega arith) (omega arith)),
     )
 
-pub walk_values-behind-total-requires : goal.walk_values-behind-total-requires
-walk_values-behind-total-requires t c =
+pub walk_values-behind-requires : goal.walk_values-behind-requires
+walk_values-behind-requires t c =
     let m = c.requires.some_choice in
     let l = c.loop-value in
     let unset = c.next_unset-x.ensures in
@@ -308,12 +324,13 @@ walk_values-behind-total-requires t c =
     let size = of_values.tried-size unset c.args.reach m more c.next_value.ensures c.in-Some.is (l.invariant.3 m unset more) c.tried-more_marks.result c.tried-more_marks.ensures.names_after c.tried-more_marks.ensures.refilled c.tried-more_marks.ensures.settled c.with_value.ensures c.walk_values-found.ensures.finds_choice refl in
     (omega (arith, l.invariant.1, c.requires.room.budget), omega (arith, size, c.requires.room.budget))
 
-pub walk_values-returns-then-not-is_clean : goal.walk_values-returns-then-not-is_clean
-walk_values-returns-then-not-is_clean t c = record {
+pub walk_values-returns-in_err-count : goal.walk_values-returns-in_err-count
+walk_values-returns-in_err-count t c = record {
   finds_choice = λ m. let l = c.loop-value in
+      let left = err_from_is_err_and c.from_residual.result c.from_residual.ensures.1 in
       let unset = c.next_unset-x.ensures in
       let more = c.if-x-plan.false in
-      rw (← l.invariant.0) (of_values.tried-stops unset c.args.reach m more c.next_value.ensures c.in-Some.is (l.invariant.3 m unset more) c.tried-more_marks.result c.tried-more_marks.ensures.names_after c.tried-more_marks.ensures.refilled c.tried-more_marks.ensures.settled c.with_value.ensures c.walk_values-found.ensures.finds_choice c.behind-total.ensures (sym c.is_clean.ensures ∙ c.if-not-is_clean.true));
+      rw (← l.invariant.0, left.1, left.2) (of_values.tried-stops unset c.args.reach m more c.next_value.ensures c.in-Some.is (l.invariant.3 m unset more) c.tried-more_marks.result c.tried-more_marks.ensures.names_after c.tried-more_marks.ensures.refilled c.tried-more_marks.ensures.settled c.with_value.ensures c.walk_values-found.ensures.finds_choice c.behind.ensures c.in_err-count.was);
   remembers = c.walk_values-found.ensures.remembers;
 }
 
@@ -340,11 +357,10 @@ walk_values-loop-value-preserved t c =
     let refilled = c.tried-more_marks.ensures.refilled in
     let settled = c.tried-more_marks.ensures.settled in
     let told = c.walk_values-found.ensures.finds_choice in
-    let clean = sym c.is_clean.ensures ∙ c.if-not-is_clean.false in
-    let first = of_values.tried-on unset c.args.reach m more value c.in-Some.is (l.invariant.3 m unset more) c.tried-more_marks.result put refilled settled c.with_value.ensures told c.behind-total.ensures clean in (
+    let first = of_values.tried-on unset c.args.reach m more value c.in-Some.is (l.invariant.3 m unset more) c.tried-more_marks.result put refilled settled c.with_value.ensures told c.behind.ensures c.in_ok-count.was in (
       first.1 ∙ l.invariant.0,
-      omega (arith, first.2, c.count_of-count.ensures),
+      first.2,
       omega (arith, (of_values.value-within unset c.args.reach m more value c.in-Some.is).0),
-      (λ m unset more. rw c.count_of-count.ensures (of_values.tried-on unset c.args.reach m more value c.in-Some.is (l.invariant.3 m unset more) c.tried-more_marks.result put refilled settled c.with_value.ensures told c.behind-total.ensures clean).0),
+      (λ m unset more. (of_values.tried-on unset c.args.reach m more value c.in-Some.is (l.invariant.3 m unset more) c.tried-more_marks.result put refilled settled c.with_value.ensures told c.behind.ensures c.in_ok-count.was).0),
       c.walk_values-found.ensures.remembers,
     )
