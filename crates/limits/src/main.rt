@@ -4,8 +4,5 @@
 use std::io;
 
 fn main(rt: HostRuntime) -> io::Result<()> {
-    let text = text::limits_text();
-    let bytes = text.bytes;
-    let len = text.len;
-    rt.write_all(&bytes[..len])
+    rt.write_all(text::limits_text().as_bytes())
 }

@@ -1,11 +1,11 @@
 // The text of the verdict on a scenario file by a list, and a program's way from standard input to that text.
 #![tactic(auto)]
 
-ghost use Rattle.std.specs.Prelude.{List, ℕ, ◌<◌, ◌≤◌, length, take, IfOk};
+ghost use Rattle.std.specs.Prelude.{List, ℕ, ◌<◌, ◌≤◌, ◌≡◌, length, take, IfOk};
 ghost use Rattle.std.specs.Io.KnownBytes.{Consumes, IsAtEnd};
 ghost use Rattle.semantics.specs.Verdict.{searched_in};
 ghost use Rattle.search_runs.specs.Runs.{list_as};
-ghost use Rattle.text.specs.Text.{verdict_text, HoldsText};
+ghost use Rattle.text.specs.Text.{verdict_text};
 ghost use Rattle.report.specs.Prints.{Prints};
 
 use answers::Trace;
@@ -16,7 +16,7 @@ use text::Text;
 
 // What Search answers to a scenario file by a list, as text.
 pub fn verdict_text(file: &[u8], list: Listing) -> Text
-    ensures { (buffer : List ℕ) → 128 ≤ length buffer → HoldsText result (verdict_text (searched_in (list_as list) file.now buffer)) }
+    ensures { (buffer : List ℕ) → 128 ≤ length buffer → result ≡ verdict_text (searched_in (list_as list) file.now buffer) }
 {
     let mut trace = [0; Trace::MOST_BYTES];
     let answer = search::search_in(file, &mut trace, list);
@@ -51,6 +51,6 @@ pub fn print_verdict<R: Input + Print>(rt: &R, list: Listing) -> io::Result<Text
     let mut reader = rt.reader();
     let n = read_full(&mut reader, &mut file)?;
     let text = verdict_text(&file[..n], list);
-    rt.write_all(&text.bytes[..text.len])?;
+    rt.write_all(text.as_bytes())?;
     Ok(text)
 }

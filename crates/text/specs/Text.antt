@@ -1,5 +1,5 @@
 -- The text that the programs print: the verdict on a file, and the limits (document 01, 'Scenarios worked out', 'Operations'). Assumes nothing.
-use Rattle.std.specs.Prelude.{ℕ, zero, suc, ◌+◌, ◌/◌, ◌%◌, ◌≤◌, ◌≡◌, true, false, List, [], ◌∷◌, ◌++◌, ltb, length, take}
+use Rattle.std.specs.Prelude.{ℕ, zero, suc, ◌+◌, ◌/◌, ◌%◌, ◌≤◌, ◌≡◌, true, false, List, [], ◌∷◌, ◌++◌, ltb, length}
 use Prim.Native.Char.{code}
 use Prim.Native.String as strings
 use Prim.Native.String.{String}
@@ -10,7 +10,6 @@ use Rattle.semantics.specs.State.{Value}
 use Rattle.semantics.specs.Moves.{Move}
 use Rattle.semantics.specs.Verdict.{Verdict, broken_at, held, stopped, written}
 use Rattle.answers.specs.Answers.{Numbered, Searched, searched_as}
-use Rattle.text.specs.declared.Text.{Text}
 
 -- the bytes of a word, whose letters have one byte each
 abbrev pub word : String → List ℕ
@@ -63,16 +62,6 @@ limits = most_rows ∷ most_variables ∷ most_roles ∷ most_runs ∷ most_even
 
 unfoldable pub limits_text : List ℕ
 limits_text = joined line_text limits
-
--- a text that holds some bytes
-pub record HoldsText (t : Text) (bytes : List ℕ) : Type 0 where
-  pub size : t.len ≡ length bytes
-  pub same : take t.len t.bytes ≡ bytes
-
--- a text with some bytes more
-pub record Adds (t : Text) (bytes : List ℕ) (more : Text) : Type 0 where
-  pub size : more.len ≡ t.len + length bytes
-  pub same : take more.len more.bytes ≡ take t.len t.bytes ++ bytes
 
 -- an answer of Search, and the buffer that it left
 pub record Shown (a : Answer Verdict) (answer : Searched) (after : List ℕ) : Type 0 where

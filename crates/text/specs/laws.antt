@@ -1,6 +1,6 @@
 -- The laws of texts, with their proofs.
 pub mod Decimal
-pub mod Adds
+pub mod Grows
 pub mod Steps
 pub mod Verdict
 pub mod Worked

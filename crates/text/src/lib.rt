@@ -9,156 +9,187 @@ ghost use Rattle.semantics.specs.Moves.{Move};
 ghost use Rattle.semantics.specs.Verdict as verdicts;
 ghost use Rattle.semantics.specs.Verdict.{value_bytes, trace_bytes};
 ghost use Rattle.answers.specs.Answers.{number_of};
-ghost use Rattle.text.specs.Text.{decimal, value_text, line_text, step_text, refused_text, broken_text, verdict_text, limits_text, HoldsText, Adds, Shown};
+ghost use Rattle.text.specs.Text.{decimal, value_text, line_text, step_text, refused_text, broken_text, verdict_text, limits_text, Shown};
 
 use answers::{Break, Refusal, Trace, Verdict};
 use frame::File;
 use records::Limits;
+use std::marker::Model;
 use table::Table;
 
-// Bytes, of which the first are the text.
+// A text of at most 1024 bytes, which a contract sees as the list of its bytes.
 #[derive(Drop)]
 pub struct Text {
-    pub bytes: [u8; 1024],
-    pub len: usize,
+    bytes: [u8; 1024],
+    len: usize,
 }
 
-// An empty text.
-fn empty() -> Text
-    ensures { result.len ≡ 0 }
-{
-    Text {
-        bytes: [0; 1024],
-        len: 0,
+impl Model for Text {
+    ghost use Rattle.std.specs.Prelude.{ℕ, ◌≤◌, List, take};
+
+    ghost Value = { List ℕ };
+
+    ghost view = { λ t. take t.len t.bytes };
+
+    ghost invariant = { λ t. t.len ≤ 1024 };
+}
+
+impl Text {
+    // An empty text.
+    fn new() -> Self
+        ensures { result ≡ [] }
+    {
+        Text {
+            bytes: [0; 1024],
+            len: 0,
+        }
     }
-}
 
-// A text with one byte more.
-fn push(mut t: Text, b: u8) -> Text
-    requires { t.len < 1024 }
-    ensures { Adds t (b ∷ []) result }
-{
-    t.bytes[t.len] = b;
-    t.len += 1;
-    t
-}
-
-// A text with a word more.
-fn put(mut t: Text, word: &[u8]) -> Text
-    requires { t.len + length word.now ≤ 1024 }
-    ensures { Adds t word.now result }
-{
-    let at = t.len;
-    let end = at + word.len();
-    t.bytes[at..end].copy_from_slice(word);
-    t.len = end;
-    t
-}
-
-// A text with a number more.
-fn put_number(t: Text, n: usize) -> Text
-    requires { t.len + length (decimal n) ≤ 1024 }
-    ensures { Adds t (decimal n) result }
-{
-    let last = (48 + n % 10) as u8;
-    if n < 10 {
-        return push(t, last);
+    // The text's bytes.
+    pub fn as_bytes(&self) -> &[u8]
+        ensures { result.now ≡ self.now }
+    {
+        &self.bytes[..self.len]
     }
-    push(put_number(t, n / 10), last)
-}
 
-// A text with a word and a number more.
-fn put_with(t: Text, word: &[u8], n: usize) -> Text
-    requires { t.len + length word.now + 20 ≤ 1024 }
-    ensures { Adds t (word.now ++ decimal n) result × (result.len ≤ t.len + length word.now + 20) }
-{
-    put_number(put(t, word), n)
-}
-
-// A text with a number and the end of its line more.
-fn put_line(t: Text, n: usize) -> Text
-    requires { t.len + 21 ≤ 1024 }
-    ensures { Adds t (line_text n) result × (result.len ≤ t.len + 21) }
-{
-    push(put_number(t, n), b'\n')
-}
-
-// A text with the new values of a step more, each as row.run.
-fn put_values(t: Text, values: &[u8]) -> Text
-    requires { t.len + 4 * length values.now ≤ 1000 }
-    ensures len_bound { result.len ≤ t.len + 4 * length values.now }
-    ensures adds { (vs : List Value) → values.now ≡ value_bytes vs → Adds t (joined value_text vs) result }
-{
-    if values.len() < 2 {
-        return t;
+    // Adds a word.
+    fn push_word(&mut self, word: &[u8])
+        requires { length self.old + length word.now ≤ 1024 }
+        ensures { self.new ≡ self.old ++ word.now }
+    {
+        let end = self.len + word.len();
+        self.bytes[self.len..end].copy_from_slice(word);
+        self.len = end;
     }
-    let row = put_with(t, b" ", usize::from(values[0]));
-    let run = put_with(row, b".", usize::from(values[1]));
-    put_values(run, &values[2..])
-}
 
-// A text with a step more: a run and its new values, on a line.
-fn put_step(t: Text, run: usize, values: &[u8]) -> Text
-    requires { (run < 256) × (t.len + 9 + 4 * length values.now ≤ 1000) }
-    ensures len_bound { result.len ≤ t.len + 9 + 4 * length values.now }
-    ensures adds { (m : Move) → run ≡ m.run → values.now ≡ value_bytes m.values → Adds t (step_text m) result }
-{
-    push(put_values(put_with(t, b"STEP ", run), values), b'\n')
-}
-
-// A text with the steps of a trace more.
-fn put_steps(t: Text, trace: &[u8]) -> Text
-    requires { ((ms : List Move) × (trace.now ≡ trace_bytes ms)) × (t.len + 5 * length trace.now ≤ 1000) }
-    ensures { (ms : List Move) → trace.now ≡ trace_bytes ms → Adds t (joined step_text ms) result }
-{
-    if trace.len() == 0 {
-        return t;
+    // Adds a number.
+    fn push_number(&mut self, n: usize)
+        requires { length self.old + length (decimal n) ≤ 1024 }
+        ensures { self.new ≡ self.old ++ decimal n }
+    {
+        if n >= 10 {
+            self.push_number(n / 10);
+        }
+        self.push_word(&[b'0' + (n % 10) as u8]);
     }
-    let end = 2 + 2 * usize::from(trace[1]);
-    let more = put_step(t, usize::from(trace[0]), &trace[2..end]);
-    put_steps(more, &trace[end..])
+
+    // Adds a word and a number.
+    fn push_with(&mut self, word: &[u8], n: usize)
+        requires { length self.old + length word.now + 20 ≤ 1024 }
+        ensures text { self.new ≡ self.old ++ (word.now ++ decimal n) }
+        ensures len_bound { length self.new ≤ length self.old + length word.now + 20 }
+    {
+        self.push_word(word);
+        self.push_number(n);
+    }
+
+    // Adds a number and the end of its line.
+    fn push_line(&mut self, n: usize)
+        requires { length self.old + 21 ≤ 1024 }
+        ensures text { self.new ≡ self.old ++ line_text n }
+        ensures len_bound { length self.new ≤ length self.old + 21 }
+    {
+        self.push_number(n);
+        self.push_word(b"\n");
+    }
+
+    // Adds the new values of a step, each as row.run.
+    fn push_values(&mut self, values: &[u8])
+        requires { length self.old + 4 * length values.now ≤ 1000 }
+        ensures len_bound { length self.new ≤ length self.old + 4 * length values.now }
+        ensures text { (vs : List Value) → values.now ≡ value_bytes vs → self.new ≡ self.old ++ joined value_text vs }
+    {
+        if values.len() < 2 {
+            return;
+        }
+        self.push_with(b" ", usize::from(values[0]));
+        self.push_with(b".", usize::from(values[1]));
+        self.push_values(&values[2..]);
+    }
+
+    // Adds a step: a run and its new values, on a line.
+    fn push_step(&mut self, run: usize, values: &[u8])
+        requires { (run < 256) × (length self.old + 9 + 4 * length values.now ≤ 1000) }
+        ensures len_bound { length self.new ≤ length self.old + 9 + 4 * length values.now }
+        ensures text { (m : Move) → run ≡ m.run → values.now ≡ value_bytes m.values → self.new ≡ self.old ++ step_text m }
+    {
+        self.push_with(b"STEP ", run);
+        self.push_values(values);
+        self.push_word(b"\n");
+    }
+
+    // Adds the steps of a trace.
+    fn push_steps(&mut self, trace: &[u8])
+        requires { ((ms : List Move) × (trace.now ≡ trace_bytes ms)) × (length self.old + 5 * length trace.now ≤ 1000) }
+        ensures { (ms : List Move) → trace.now ≡ trace_bytes ms → self.new ≡ self.old ++ joined step_text ms }
+    {
+        if trace.is_empty() {
+            return;
+        }
+        let end = 2 + 2 * usize::from(trace[1]);
+        self.push_step(usize::from(trace[0]), &trace[2..end]);
+        self.push_steps(&trace[end..]);
+    }
 }
 
 // The text of a refusal.
+#[tactic(auto, unfolding(crate::specs::Text::refused_text))]
 fn refused(r: Refusal) -> Text
-    ensures { HoldsText result (refused_text (number_of r.reason) r.place) }
+    ensures { result ≡ refused_text (number_of r.reason) r.place }
 {
-    put_line(
-        put(put_with(empty(), b"REFUSED ", r.reason.number()), b" "),
-        r.place,
-    )
+    let mut text = Text::new();
+    text.push_with(b"REFUSED ", r.reason.number());
+    text.push_word(b" ");
+    text.push_line(r.place);
+    text
 }
 
 // The text of a break, with its trace.
+#[tactic(auto, unfolding(crate::specs::Text::broken_text))]
 fn broken(b: Break, trace: &[u8]) -> Text
     requires { ((ms : List Move) × (trace.now ≡ trace_bytes ms)) × (length trace.now ≤ 128) }
-    ensures { (ms : List Move) → trace.now ≡ trace_bytes ms → HoldsText result (broken_text b.place b.claim.run b.claim.event ms) }
+    ensures { (ms : List Move) → trace.now ≡ trace_bytes ms → result ≡ broken_text b.place b.claim.run b.claim.event ms }
 {
-    let place = put_with(empty(), b"BROKEN ", b.place);
     let claim = b.claim;
-    let run = put_with(place, b" RUN ", claim.run);
-    put_steps(push(put_with(run, b" EVENT ", claim.event), b'\n'), trace)
+    let mut text = Text::new();
+    text.push_with(b"BROKEN ", b.place);
+    text.push_with(b" RUN ", claim.run);
+    text.push_with(b" EVENT ", claim.event);
+    text.push_word(b"\n");
+    text.push_steps(trace);
+    text
+}
+
+// A text of a word and a number on one line.
+fn counted(word: &[u8], n: usize) -> Text
+    requires { length word.now ≤ 1000 }
+    ensures { result ≡ word.now ++ line_text n }
+{
+    let mut text = Text::new();
+    text.push_word(word);
+    text.push_line(n);
+    text
 }
 
 // The text of what Search finds, whose trace, if it is BROKEN, stands at the front of a buffer.
 fn found_text(verdict: Verdict, trace: &[u8]) -> Text
     requires { (a : Answer verdicts.Verdict) × Shown a (Ok verdict) trace.now }
-    ensures { (a : Answer verdicts.Verdict) → Shown a (Ok verdict) trace.now → HoldsText result (verdict_text a) }
+    ensures { (a : Answer verdicts.Verdict) → Shown a (Ok verdict) trace.now → result ≡ verdict_text a }
 {
     match verdict {
         Verdict::Broken(b) => {
             let end = b.length;
             broken(b, &trace[..end])
         }
-        Verdict::Held(n) => put_line(put(empty(), b"HELD "), n),
-        Verdict::Stopped(n) => put_line(put(empty(), b"STOPPED "), n),
+        Verdict::Held(n) => counted(b"HELD ", n),
+        Verdict::Stopped(n) => counted(b"STOPPED ", n),
     }
 }
 
 // The text of Search's answer, whose trace, if it is BROKEN, stands at the front of a buffer.
 pub fn answer_text(answer: Result<Verdict, Refusal>, trace: &[u8]) -> Text
     requires { (a : Answer verdicts.Verdict) × Shown a answer trace.now }
-    ensures { (a : Answer verdicts.Verdict) → Shown a answer trace.now → HoldsText result (verdict_text a) }
+    ensures { (a : Answer verdicts.Verdict) → Shown a answer trace.now → result ≡ verdict_text a }
 {
     match answer {
         Err(r) => refused(r),
@@ -167,14 +198,17 @@ pub fn answer_text(answer: Result<Verdict, Refusal>, trace: &[u8]) -> Text
 }
 
 // "prints the limits of this paper from the place where they are enforced, one a line"
+#[tactic(auto, unfolding(crate::specs::Text::limits_text))]
 pub fn limits_text() -> Text
-    ensures { HoldsText result limits_text }
+    ensures { result ≡ limits_text }
 {
-    let rows = put_line(empty(), Table::MOST_ROWS);
-    let variables = put_line(rows, Table::MOST_VARIABLES);
-    let roles = put_line(variables, Table::MOST_ROLES);
-    let runs = put_line(roles, Limits::MOST_RUNS);
-    let events = put_line(runs, Limits::MOST_EVENTS);
-    let file = put_line(events, File::MOST_BYTES);
-    put_line(file, Trace::MOST_BYTES)
+    let mut text = Text::new();
+    text.push_line(Table::MOST_ROWS);
+    text.push_line(Table::MOST_VARIABLES);
+    text.push_line(Table::MOST_ROLES);
+    text.push_line(Limits::MOST_RUNS);
+    text.push_line(Limits::MOST_EVENTS);
+    text.push_line(File::MOST_BYTES);
+    text.push_line(Trace::MOST_BYTES);
+    text
 }
