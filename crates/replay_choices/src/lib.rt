@@ -42,8 +42,8 @@ fn chosen(
         if values.len() <= i + 1 {
             return None;
         }
-        let r = rows::wide(values[i]);
-        let w = rows::wide(values[i + 1]);
+        let r = usize::from(values[i]);
+        let w = usize::from(values[i + 1]);
         if !variables::may_take(t, n, runs, x, r, w) {
             return None;
         }
