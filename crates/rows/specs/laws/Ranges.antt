@@ -49,6 +49,22 @@ module _ {S : Type 0} {steps : S → Option ℕ → S → Type 0} (p : Run steps
         let w = of_place (p.at h.0) (λ x. (x ≡ a + h.0) × (x < b)) (λ x. Called g f (x, tt) (Some y) f) (up.2 h.0) (h.3 keeps).0 in
         (w.0, omega (arith, w.1.0), w.1.1, some w.0 y w.2)
 
+    -- and none of the numbers before it gives anything
+    map_first : (r : Option B) → MapFound g f r p → MatchOption r ((k : ℕ) → a ≤ k → k < b → No k) (λ y. (k : ℕ) × (a ≤ k) × (k < b) × Yes k y × ((j : ℕ) → a ≤ j → j < k → No j))
+    map_first None h = map_found None h
+    map_first (Some y) h =
+        let first = h.3 keeps in
+        let w = of_place (p.at h.0) (λ x. (x ≡ a + h.0) × (x < b)) (λ x. Called g f (x, tt) (Some y) f) (up.2 h.0) first.0 in (
+          w.0,
+          omega (arith, w.1.0),
+          w.1.1,
+          some w.0 y w.2,
+          λ j lo hi.
+              let v = of_place (p.at (j - a)) (λ x. (x ≡ a + (j - a)) × (x < b)) (λ x. Called g f (x, tt) None f) (up.2 (j - a)) (first.1 (j - a) (omega (arith, w.1.0))) in
+              let e : v.0 ≡ j = omega (arith, v.1.0) in
+              none j (subst (λ x. Called g f (x, tt) None f) e v.2),
+        )
+
   module _ {F : Type 0} (g : Mut F (ℕ × Unit {0}) Bool) (f : F) (keeps : CallKeepsClosure g f) (Yes : ℕ → Type 0) (r : Bool) (yes : (x : ℕ) → Called g f (x, tt) r f → Yes x) where
     -- one of them, or each, of which the closure answers alike
     some_gives : AnyItemGives p g f r → (k : ℕ) × (a ≤ k) × (k < b) × Yes k
@@ -91,6 +107,10 @@ module _ {B F : Type 0} {g : Mut F (ℕ × Unit {0}) (Option B)} {f : F} (r : Op
   -- `(a..b).find_map(f)`: no number gives anything, or one gives the result
   pub find_map-range : (s : Range ℕ) → SomeRun nat_range_steps s (MapFound g f r) → (((k : ℕ) → s.start ≤ k → k < s.end → No k) → P) → ((y : B) (k : ℕ) → s.start ≤ k → k < s.end → Yes k y → Q y) → MatchOption r P Q
   find_map-range s h p q = told r (map_found h.0 s.start s.end (counts_below s h.0 h.1) g f keeps Yes No some none r h.2) p (λ y w. q y w.0 w.1 w.2 w.3)
+
+  -- and none before that one
+  pub find_map-first : (s : Range ℕ) → SomeRun nat_range_steps s (MapFound g f r) → (((k : ℕ) → s.start ≤ k → k < s.end → No k) → P) → ((y : B) (k : ℕ) → s.start ≤ k → k < s.end → Yes k y → ((j : ℕ) → s.start ≤ j → j < k → No j) → Q y) → MatchOption r P Q
+  find_map-first s h p q = told r (map_first h.0 s.start s.end (counts_below s h.0 h.1) g f keeps Yes No some none r h.2) p (λ y w. q y w.0 w.1 w.2 w.3 w.4)
 
   -- `(a..=b).find_map(f)`
   pub find_map-range_to : (s : RangeInclusive ℕ) → range_inclusive_exhausted s ≡ false → SomeRun nat_range_inclusive_steps s (MapFound g f r)
