@@ -66,11 +66,5 @@ pub fn broken(
     requires { (sc : Scenario) × (d : definitions.State) × (s : State) × Given file.now t.now n r sc × IsState sc d s × (done ≡ s.done) × (marks ≡ s.marks) }
     ensures { AnswersState file.now t.now n r done marks result }
 {
-    for k in 0..r.count {
-        let found = broken_in_run(file, t, n, r, &marks, done[k], k);
-        if let Some(_) = found {
-            return found;
-        }
-    }
-    None
+    (0..r.count).find_map(|k| broken_in_run(file, t, n, r, &marks, done[k], k))
 }

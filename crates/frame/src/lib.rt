@@ -20,7 +20,7 @@ impl File {
 }
 
 // The length of the block at the front, from its first two bytes.
-fn length_of(s: &[u8]) -> usize
+pub fn length_of(s: &[u8]) -> usize
     requires { 2 ≤ length s.now }
     ensures { (result ≡ block_length s.now) × (result < 65536) }
 {
@@ -28,7 +28,7 @@ fn length_of(s: &[u8]) -> usize
 }
 
 // The bytes of the block at the front, and those after it.
-fn split(s: &[u8]) -> (&[u8], &[u8])
+pub fn split(s: &[u8]) -> (&[u8], &[u8])
     requires { 2 + block_length s.now ≤ length s.now }
     ensures { (result.0.now ≡ take (block_length s.now) (drop 2 s.now)) × (result.1.now ≡ drop (2 + block_length s.now) s.now) }
 {

@@ -65,16 +65,16 @@ fn ill_formed_role(s: &[u8], t: &[u8], n: usize, classes: &Classes, own: usize) 
     requires { Shape t.now n 0 × (RoleClasses (rows_of t.now) classes.now × GoodRecord (rows_of t.now) s.now) }
     ensures { IllRole (rows_of t.now) own s.now result }
 {
-    let count = rows::wide(s[0]);
+    let count = usize::from(s[0]);
     let first = 2 + count;
     let end = 1 + count;
     let mut marks = role_level::marks_of(t, n, classes, &s[1..end]);
-    let events = rows::wide(s[end]);
+    let events = usize::from(s[end]);
     for j in 0..events {
         let at = first + 4 * j;
-        let event = rows::wide(s[at]);
-        let peer = rows::wide(s[at + 2]);
-        let x = rows::wide(s[at + 3]);
+        let event = usize::from(s[at]);
+        let peer = usize::from(s[at + 2]);
+        let x = usize::from(s[at + 3]);
         if !is_well_formed(marks, t, n, classes, own, event, peer, x) {
             return Some(at);
         }

@@ -1,3 +1,2 @@
 -- The laws of needs, with their proofs.
 pub mod Fits
-pub mod Ranges

@@ -90,9 +90,9 @@ fn event_fits(s: &[u8], at: usize, n: usize, roles: usize) -> bool
     let peer = usize::from(s[at + 2]);
     let row = usize::from(s[at + 3]);
     row < n
-        && match s[at] {
-            0 | 1 => peer < roles,
-            2 => peer == 0,
+        && match usize::from(s[at]) {
+            Event::SEND | Event::READ => peer < roles,
+            Event::CLAIM => peer == 0,
             _ => false,
         }
 }

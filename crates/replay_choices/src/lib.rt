@@ -11,6 +11,7 @@ ghost use Rattle.state.specs.State.{NextMove};
 ghost use Rattle.replay_choices.specs.Choices.{Suited, SuitedRead};
 
 use cells::{Cells, Names};
+use records::Event;
 use runs::RunEvent;
 use state::State;
 
@@ -42,8 +43,8 @@ fn chosen(
         if values.len() <= i + 1 {
             return None;
         }
-        let r = rows::wide(values[i]);
-        let w = rows::wide(values[i + 1]);
+        let r = usize::from(values[i]);
+        let w = usize::from(values[i + 1]);
         if !variables::may_take(t, n, runs, x, r, w) {
             return None;
         }
@@ -66,7 +67,7 @@ pub fn valued(
     requires { Shape t.now n runs × ((k < runs) × (e.row < n)) }
     ensures { (sc : Scenario) (d : definitions.State) (a : Active) → NextMove t.now runs k e sc d s a → Suited sc d a (values_in values.now) result }
 {
-    if e.kind == 1 {
+    if e.kind == Event::READ {
         return chosen(s.names, t, n, runs, k, e.row, values);
     }
     if values.len() < 2 {

@@ -47,8 +47,8 @@ pub fn step(file: &[u8], t: &[u8], n: usize, r: Runs, s: State, trace: &[u8]) ->
     if trace.len() < 2 {
         return None;
     }
-    let u = rows::wide(trace[0]);
-    let end = 2 + 2 * rows::wide(trace[1]);
+    let u = usize::from(trace[0]);
+    let end = 2 + 2 * usize::from(trace[1]);
     if trace.len() < end {
         return None;
     }

@@ -43,13 +43,6 @@ impl Kind {
     pub const ENCRYPTED: usize = 12;
 }
 
-// A byte as a number.
-pub fn wide(x: u8) -> usize
-    ensures { (result ≡ x) × (result < 256) }
-{
-    usize::from(x)
-}
-
 // The kind of a row.
 pub fn kind_of(t: &[u8], r: usize) -> usize
     requires { 3 * r + 2 < length t.now }

@@ -45,11 +45,11 @@ fn events_from(file: &[u8], start: usize) -> Events
 {
     let b = frame::block_of(file, 1);
     let base = frame::start_of(file, 1);
-    let at = records::role_at(b, rows::wide(file[start]));
-    let first = at + 2 + rows::wide(b[at]);
+    let at = records::role_at(b, usize::from(file[start]));
+    let first = at + 2 + usize::from(b[at]);
     Events {
         first: base + first,
-        count: rows::wide(b[first - 1]),
+        count: usize::from(b[first - 1]),
     }
 }
 
@@ -85,7 +85,7 @@ fn agent_of(file: &[u8], start: usize, role: usize) -> usize
     requires { start + 1 + role < length file.now }
     ensures { (result ≡ get_or file.now (start + 1 + role) 0) × (result < 256) }
 {
-    rows::wide(file[start + 1 + role])
+    usize::from(file[start + 1 + role])
 }
 
 // Event j of run k.
@@ -96,10 +96,10 @@ pub fn event_of(file: &[u8], r: Runs, k: usize, j: usize) -> RunEvent
     let start = r.starts[k];
     let at = r.firsts[k] + 4 * j;
     RunEvent {
-        kind: rows::wide(file[at]),
-        own: agent_of(file, start, rows::wide(file[start])),
-        peer: agent_of(file, start, rows::wide(file[at + 2])),
-        row: rows::wide(file[at + 3]),
+        kind: usize::from(file[at]),
+        own: agent_of(file, start, usize::from(file[start])),
+        peer: agent_of(file, start, usize::from(file[at + 2])),
+        row: usize::from(file[at + 3]),
     }
 }
 

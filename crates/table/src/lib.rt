@@ -30,8 +30,8 @@ fn agent_like(t: &[u8], i: usize, a: usize) -> bool
 {
     a < i
         && match rows::kind_of(t, a) {
-            1 | 2 | 5 => true,
-            6 => rows::right_of(t, a) == 0,
+            Kind::TRUSTED | Kind::UNTRUSTED | Kind::ROLE => true,
+            Kind::VARIABLE => rows::right_of(t, a) == 0,
             _ => false,
         }
 }
@@ -53,13 +53,13 @@ fn fits_row(t: &[u8], i: usize) -> bool
     let left = rows::left_of(t, i);
     let right = rows::right_of(t, i);
     match kind {
-        1 | 2 | 3 | 4 | 7 => right == 0,
-        5 => left < Table::MOST_ROLES && right == 0,
-        6 => right <= 1,
-        8 | 9 => right == 0 && agent_like(t, i, left),
-        10 => agent_like(t, i, left) && agent_like(t, i, right),
-        11 => no_pair(t, i, left) && right < i,
-        12 => left < i && right < i,
+        Kind::TRUSTED | Kind::UNTRUSTED | Kind::GLOBAL | Kind::INTRUDER | Kind::LOCAL => right == 0,
+        Kind::ROLE => left < Table::MOST_ROLES && right == 0,
+        Kind::VARIABLE => right <= 1,
+        Kind::PUBLIC_KEY | Kind::SECRET_KEY => right == 0 && agent_like(t, i, left),
+        Kind::SHARED_KEY => agent_like(t, i, left) && agent_like(t, i, right),
+        Kind::PAIR => no_pair(t, i, left) && right < i,
+        Kind::ENCRYPTED => left < i && right < i,
         _ => false,
     }
 }

@@ -1,7 +1,7 @@
 -- `found` looks for a cell of a kind with given parts, row by row. Assumes nothing.
 use Rattle.std.proofs.Common.{rules, tests, ℕ, ◌<◌}
 use Rattle.cells.specs.laws.Cells.{row-found, none_found}
-use Rattle.cells.specs.laws.Ranges.{find_map-range}
+use Rattle.rows.specs.laws.Ranges.{find_map-range}
 use Rattle.cells.specs.Cells.{absent, FoundInRow}
 use Rattle.cells.proofs.found.Goals as goal
 

@@ -1,6 +1,6 @@
 -- `matching_run` looks for a run, by what `matches_at` tells of each. Assumes nothing.
 use Rattle.std.proofs.Common.{rules, tests, arith, ℕ}
-use Rattle.cells.specs.laws.Ranges.{find-range_to}
+use Rattle.rows.specs.laws.Ranges.{find-range_to}
 use Rattle.cells.specs.Cells.{Matches}
 use Rattle.cells.proofs.matching_run.Goals as goal
 

@@ -1,17 +1,19 @@
--- `broken` answers the first broken claim of a state. The loop's invariant: none of the first k runs breaks a claim. Assumes nothing.
+-- `broken` answers the first broken claim of a state. What is found in a run, after none, is the state's. Assumes nothing.
 use Prim.Native.Nat.{ℕ}
 use native.Mathlib.Omega.{arith}
 use mathlib.Core.Path.{◌≡◌, sym, subst}
 use mathlib.Core.Bool.{Bool}
 use mathlib.Core.List.{List}
 use borrow.Author.Rules.{rules}
-use lib.ListN.{length}
 use Rattle.semantics.specs.Scenario.{Scenario}
 use Rattle.semantics.specs.State as definitions
 use Rattle.runs.specs.declared.Runs.{Runs}
 use Rattle.state.specs.declared.State.{State}
 use Rattle.state.specs.State.{Given, IsState}
-use Rattle.claims.specs.laws.State.{StandsIn, stands, state-none, state-broken, none-next}
+use Rattle.claims.specs.laws.State.{StandsIn, FoundIn, stands, state-none, state-broken, none-below, answered}
+use Rattle.rows.specs.laws.Ranges.{find_map-first}
+use Rattle.answers.specs.Answers.{Claimed}
+use Rattle.std.proofs.Common.{tests, Some, None}
 use Rattle.claims.proofs.broken.Goals as goal
 
 -- a state whose marks and places these are
@@ -19,24 +21,14 @@ lent : {file t : List ℕ} {n : ℕ} {r : Runs} {sc : Scenario} {d : definitions
 lent {file} {t} {n} {r} {sc} {d} {s} given is {done} same own =
     subst (λ (m : List Bool). StandsIn file t n r m done sc d) (sym own) (subst (λ (l : List ℕ). StandsIn file t n r s.marks l sc d) (sym same) (stands given is))
 
-pub loop-k-init : goal.loop-k-init
-loop-k-init c sc d is i l = absurd (omega arith)
-
-pub broken_in_run-found-requires : goal.broken_in_run-found-requires
-broken_in_run-found-requires c =
-    let marked : length c.args.marks ≡ 480 = search rules in
-    ((c.requires.0, c.requires.3), c.loop-k-test.true)
-
-pub returns-in-Some : goal.returns-in-Some
-returns-in-Some c sc d s' given is same own =
-    state-broken c.args.file.now c.args.t.now c.args.n c.args.r c.args.marks c.args.done c.loop-k.k c.loop-k.invariant c.loop-k-test.true
-    c.broken_in_run-found.result c.broken_in_run-found.ensures _ c.in-Some.is sc d (lent given is same own)
-
-pub loop-k-preserved : goal.loop-k-preserved
-loop-k-preserved c =
-    none-next c.args.file.now c.args.t.now c.args.n c.args.r c.args.marks c.args.done c.loop-k.k c.loop-k.invariant c.loop-k-test.true
-    c.broken_in_run-found.result c.broken_in_run-found.ensures c.in_default.is
-
 pub returns : goal.returns
-returns c sc d s' given is same own =
-    state-none c.args.file.now c.args.t.now c.args.n c.args.r c.args.marks c.args.done c.loop-k.k c.loop-k.invariant c.loop-k-test.false sc d (lent given is same own)
+returns c =
+    let file = c.args.file.now in
+    let t = c.args.t.now in
+    let Found : ℕ → Claimed → Type 0 = FoundIn file t c.args.n c.args.r c.args.marks c.args.done in
+    answered file t c.args.n c.args.r c.args.marks c.args.done c.find_map.result
+    (find_map-first c.find_map.result (λ k y. Found k (Some y)) (λ k. Found k None) (λ x y q k. search (rules, tests)) (λ x y k. search (rules, tests)) (λ x k. search (rules, tests)) _ c.find_map.ensures.runs
+    (λ none sc d s' given is same own.
+    state-none file t c.args.n c.args.r c.args.marks c.args.done c.args.r.count (none-below file t c.args.n c.args.r c.args.marks c.args.done c.args.r.count (omega arith) (λ i l. none i (omega arith) l)) (omega arith) sc d (lent given is same own))
+    (λ y k lo l h before sc d s' given is same own.
+    state-broken file t c.args.n c.args.r c.args.marks c.args.done k (none-below file t c.args.n c.args.r c.args.marks c.args.done k (omega arith) (λ i m. before i (omega arith) m)) l y h sc d (lent given is same own)))

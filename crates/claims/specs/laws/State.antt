@@ -1,6 +1,6 @@
 -- The first broken claim of a state: its runs are looked at in order. Assumes nothing.
-use Rattle.std.specs.Prelude.{ℕ, ◌+◌, ◌<◌, ◌≤◌, ◌≡◌, Bool, List, length, get_or, None, Some}
-use Rattle.std.proofs.Common.{arith, eq-or-lt_of_le, ◌∙◌, ⊎_elim}
+use Rattle.std.specs.Prelude.{ℕ, ◌<◌, ◌≤◌, ◌≡◌, Bool, List, length, get_or, None, Some, MatchOption}
+use Rattle.std.proofs.Common.{arith, ◌∙◌}
 use Rattle.std.proofs.Math.Path.{refl, sym, ap}
 use Rattle.std.proofs.Math.Option.{Option, none, some}
 use Rattle.std.proofs.Math.ListN.{get_elem?}
@@ -15,7 +15,7 @@ use Rattle.runs.specs.declared.Runs.{Runs}
 use Rattle.state.specs.declared.State.{State as CodeState}
 use Rattle.state.specs.Readings.{sets_of, readings}
 use Rattle.state.specs.State.{Given, IsState}
-use Rattle.claims.specs.AtRun.{AnswersRun}
+use Rattle.claims.specs.AtRun.{AnswersRun, AnswersState}
 use Rattle.answers.specs.Answers.{claimed_as}
 use Rattle.answers.specs.declared.Claim.{Claim}
 use Rattle.answers.specs.Answers.{Claimed}
@@ -48,32 +48,34 @@ is-nothing : (o : Option definitions.Claim) → claimed_as o ≡ None → o ≡ 
 is-nothing none e = refl
 is-nothing (some x) e = cc
 
-module _ (file t : List ℕ) (n : ℕ) (r : Runs) (marks : List Bool) (done : List ℕ) (k : ℕ) (before : NoneBelow file t n r marks done k) where
-  -- with all runs passed there is none
-  pub state-none : r.count ≤ k → (sc : Scenario) (d : State) → StandsIn file t n r marks done sc d → None ≡ claimed_as (broken sc d)
-  unfolding broken
-  state-none l sc d is = rw (first-none (broken_in_run sc d) 0 (length sc.runs) (λ i f m. before sc d is i (omega (arith, is.given.runs.count)))) refl
+module _ (file t : List ℕ) (n : ℕ) (r : Runs) (marks : List Bool) (done : List ℕ) where
+  -- what is found in a run is so for the state
+  found_here : (k : ℕ) → k < r.count → (found : Claimed) → FoundIn file t n r marks done k found → (sc : Scenario) (d : State) → StandsIn file t n r marks done sc d → found ≡ claimed_as (broken_in_run sc d k)
+  found_here k below found here sc d is =
+      let run = get_elem-there sc.runs k (omega (arith, is.given.runs.count)) in
+      let p = get_elem-there d.progress k (omega (arith, is.given.runs.count, is.progress)) in
+      here sc d run.0 p.0
+      (record { runs = is.given.runs; good = is.given.good; is_run = run.1; is_progress = p.1; exact = is.exact }) is.given.rows (is.made k p.0 p.1)
 
-  module _ (below : k < r.count) (found : Claimed) (here : FoundIn file t n r marks done k found) where
-    -- what is found is so for the state
-    found_here : (sc : Scenario) (d : State) → StandsIn file t n r marks done sc d → found ≡ claimed_as (broken_in_run sc d k)
-    found_here sc d is =
-        let run = get_elem-there sc.runs k (omega (arith, is.given.runs.count)) in
-        let p = get_elem-there d.progress k (omega (arith, is.given.runs.count, is.progress)) in
-        here sc d run.0 p.0
-        (record { runs = is.given.runs; good = is.given.good; is_run = run.1; is_progress = p.1; exact = is.exact }) is.given.rows (is.made k p.0 p.1)
+  -- runs that are each answered as none break none
+  pub none-below : (k : ℕ) → k ≤ r.count → ((i : ℕ) → i < k → FoundIn file t n r marks done i None) → NoneBelow file t n r marks done k
+  none-below k l each sc d is i m = is-nothing (broken_in_run sc d i) (sym (found_here i (omega arith) None (each i m) sc d is))
+
+  module _ (k : ℕ) (before : NoneBelow file t n r marks done k) where
+    -- with all runs passed there is none
+    pub state-none : r.count ≤ k → (sc : Scenario) (d : State) → StandsIn file t n r marks done sc d → None ≡ claimed_as (broken sc d)
+    unfolding broken
+    state-none l sc d is = rw (first-none (broken_in_run sc d) 0 (length sc.runs) (λ i f m. before sc d is i (omega (arith, is.given.runs.count)))) refl
 
     -- a claim that is found, after none, is the first
-    pub state-broken : (c : Claim) → found ≡ Some c → (sc : Scenario) (d : State) → StandsIn file t n r marks done sc d → found ≡ claimed_as (broken sc d)
+    pub state-broken : k < r.count → (c : Claim) → FoundIn file t n r marks done k (Some c) → (sc : Scenario) (d : State) → StandsIn file t n r marks done sc d → Some c ≡ claimed_as (broken sc d)
     unfolding broken
-    state-broken c e sc d is =
-        let h = found_here sc d is in
-        let x = is-broken (broken_in_run sc d k) c (sym h ∙ e) in
+    state-broken below c here sc d is =
+        let h = found_here k below (Some c) here sc d is in
+        let x = is-broken (broken_in_run sc d k) c (sym h) in
         h ∙ ap claimed_as (x.1 ∙ sym (first_found (broken_in_run sc d) 0 (length sc.runs) k (omega arith) (omega (arith, is.given.runs.count)) (λ i f. before sc d is i) x.1))
 
-    -- a run that breaks none is passed
-    pub none-next : found ≡ None → NoneBelow file t n r marks done (k + 1)
-    none-next e sc d is i l =
-        let m : i ≤ k = omega arith in
-        let last : broken_in_run sc d k ≡ none = is-nothing (broken_in_run sc d k) (sym (found_here sc d is) ∙ e) in
-        ⊎_elim (λ (f : i ≡ k). rw f last) (before sc d is i) (eq-or-lt_of_le m)
+  -- what is answered of none and of a claim is answered
+  pub answered : (c : Claimed) → MatchOption c (AnswersState file t n r done marks None) (λ y. AnswersState file t n r done marks (Some y)) → AnswersState file t n r done marks c
+  answered None h = h
+  answered (Some y) h = h

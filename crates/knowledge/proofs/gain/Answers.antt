@@ -1,6 +1,6 @@
 -- `gain` finds a class that a row gives in a run and that is not marked. Assumes nothing.
 use Rattle.std.proofs.Common.{arith, rules, tests}
-use Rattle.cells.specs.laws.Ranges.{told}
+use Rattle.rows.specs.laws.Ranges.{told}
 use Rattle.knowledge.specs.laws.Steps.{left_below, parts_below, other-idle, gained-at, class-kept}
 use Rattle.knowledge.proofs.gain.Goals as goal
 

@@ -1,7 +1,7 @@
 -- `next_gain` finds a class that a row gives. Assumes nothing.
 use Rattle.std.proofs.Common.{rules, tests, arith, ℕ, ◌<◌}
 use Rattle.cells.specs.Cells.{absent}
-use Rattle.cells.specs.laws.Ranges.{find_map-range}
+use Rattle.rows.specs.laws.Ranges.{find_map-range}
 use Rattle.knowledge.specs.Steps.{RowGained}
 use Rattle.knowledge.specs.laws.Steps.{rows-idle}
 use Rattle.knowledge.proofs.next_gain.Goals as goal

@@ -1,6 +1,6 @@
 -- `opens` tells whether the inverse of a key is marked. Assumes nothing.
 use Rattle.std.proofs.Common.{arith, rules, tests, ◌/◌}
-use Rattle.cells.specs.laws.Ranges.{told}
+use Rattle.rows.specs.laws.Ranges.{told}
 use Rattle.knowledge.specs.laws.Steps.{left_below, inverse-key, opening-other, opening-itself}
 use Rattle.knowledge.proofs.opens.Goals as goal
 

@@ -1,7 +1,7 @@
 -- `row_gain` finds a class that a row gives in some run. Assumes nothing.
 use Rattle.std.proofs.Common.{rules, tests, arith, ℕ, ◌<◌}
 use Rattle.cells.specs.Cells.{absent}
-use Rattle.cells.specs.laws.Ranges.{find_map-range_to}
+use Rattle.rows.specs.laws.Ranges.{find_map-range_to}
 use Rattle.knowledge.specs.Steps.{GainedAt}
 use Rattle.knowledge.specs.laws.Steps.{row-gains, row-idles}
 use Rattle.knowledge.proofs.row_gain.Goals as goal

@@ -8,7 +8,7 @@ use Rattle.semantics.specs.Roles.{knowledge_count}
 use Rattle.rows.specs.Rows.{rows_of, Shape}
 use Rattle.open_wellformed.specs.WellFormed.{IsEvent}
 use Rattle.open_wellformed.specs.laws.IllFormed.{listed-rows, count_of, events-are, role_start, role-none, role-ill, role-more}
-use Rattle.open_wellformed.proofs.ill_formed_role.Goals.{After-wide-events, In-loop-j}
+use Rattle.open_wellformed.proofs.ill_formed_role.Goals.{After-from-events, In-loop-j}
 use Rattle.open_wellformed.proofs.ill_formed_role.Goals as goal
 
 -- the events begin behind the knowledge
@@ -16,15 +16,15 @@ first-is : (s : List ℕ) {k : ℕ} → k ≡ knowledge_count s → 2 + k ≡ 2 
 first-is s e = omega (arith, e)
 
 -- all events of the record lie within the bytes
-whole : (c : After-wide-events) → 2 + c.wide-count.result + 4 * c.wide-events.result ≤ length c.args.s.now
+whole : (c : After-from-events) → 2 + c.from-count.result + 4 * c.from-events.result ≤ length c.args.s.now
 whole c =
-    omega (arith, first-is c.args.s.now c.wide-count.ensures.0, count_of c.args.s.now c.wide-count.result c.wide-events.result c.wide-count.ensures.0 c.wide-events.ensures.0, c.requires.1.1.whole)
+    omega (arith, first-is c.args.s.now c.from-count.ensures, count_of c.args.s.now c.from-count.result c.from-events.result c.from-count.ensures c.from-events.ensures, c.requires.1.1.whole)
 
 -- event j has a kind and a row
-is-event : (c : In-loop-j) → IsEvent (rows_of c.args.t.now) c.args.s.now (2 + c.wide-count.result + 4 * c.loop-j.j)
+is-event : (c : In-loop-j) → IsEvent (rows_of c.args.t.now) c.args.s.now (2 + c.from-count.result + 4 * c.loop-j.j)
 is-event c =
-    events-are c.args.s.now (2 + c.wide-count.result) c.wide-events.result c.requires.1.1 (first-is c.args.s.now c.wide-count.ensures.0)
-    (count_of c.args.s.now c.wide-count.result c.wide-events.result c.wide-count.ensures.0 c.wide-events.ensures.0) c.loop-j.j c.loop-j-test.true
+    events-are c.args.s.now (2 + c.from-count.result) c.from-events.result c.requires.1.1 (first-is c.args.s.now c.from-count.ensures)
+    (count_of c.args.s.now c.from-count.result c.from-events.result c.from-count.ensures c.from-events.ensures) c.loop-j.j c.loop-j-test.true
 
 -- and its row is one of the table's
 row-below : {bytes : List ℕ} {n : ℕ} (s : List ℕ) (at : ℕ) {x : ℕ} → Shape bytes n 0 → IsEvent (rows_of bytes) s at → x ≡ get_or s (at + 3) 0 → x < n
@@ -32,40 +32,40 @@ row-below s at shape is e = omega (arith, is.2, e, shape.count)
 
 pub marks_of-marks-requires : goal.marks_of-marks-requires
 marks_of-marks-requires c =
-    (c.requires.0, (c.requires.1.0, rw (listed-rows c.args.s.now c.wide-count.result c.wide-count.ensures.0) (λ r m. omega (arith, c.requires.1.1.knows r m, c.requires.0.count))))
+    (c.requires.0, (c.requires.1.0, rw (listed-rows c.args.s.now c.from-count.result c.from-count.ensures) (λ r m. omega (arith, c.requires.1.1.knows r m, c.requires.0.count))))
 
 pub loop-j-init : goal.loop-j-init
 loop-j-init c =
-    role_start (rows_of c.args.t.now) c.args.own c.args.s.now (2 + c.wide-count.result) c.wide-events.result (first-is c.args.s.now c.wide-count.ensures.0)
-    (count_of c.args.s.now c.wide-count.result c.wide-events.result c.wide-count.ensures.0 c.wide-events.ensures.0) (rw (listed-rows c.args.s.now c.wide-count.result c.wide-count.ensures.0) at c.marks_of-marks.ensures)
+    role_start (rows_of c.args.t.now) c.args.own c.args.s.now (2 + c.from-count.result) c.from-events.result (first-is c.args.s.now c.from-count.ensures)
+    (count_of c.args.s.now c.from-count.result c.from-events.result c.from-count.ensures c.from-events.ensures) (rw (listed-rows c.args.s.now c.from-count.result c.from-count.ensures) at c.marks_of-marks.ensures)
 
 pub bounds-s-at : goal.bounds-s-at
-bounds-s-at c = omega (arith, whole (goal.at.bounds-s-at c).After-wide-events)
+bounds-s-at c = omega (arith, whole (goal.at.bounds-s-at c).After-from-events)
 
 pub bounds-s-at-in-loop-j : goal.bounds-s-at-in-loop-j
-bounds-s-at-in-loop-j c = omega (arith, whole (goal.at.bounds-s-at-in-loop-j c).After-wide-events)
+bounds-s-at-in-loop-j c = omega (arith, whole (goal.at.bounds-s-at-in-loop-j c).After-from-events)
 
 pub bounds-s-at-in-loop-j-2 : goal.bounds-s-at-in-loop-j-2
-bounds-s-at-in-loop-j-2 c = omega (arith, whole (goal.at.bounds-s-at-in-loop-j-2 c).After-wide-events)
+bounds-s-at-in-loop-j-2 c = omega (arith, whole (goal.at.bounds-s-at-in-loop-j-2 c).After-from-events)
 
 pub is_well_formed-requires : goal.is_well_formed-requires
-is_well_formed-requires c = (c.requires.0, (c.requires.1.0, row-below c.args.s.now (2 + c.wide-count.result + 4 * c.loop-j.j) c.requires.0 (is-event (goal.at.is_well_formed-requires c).In-loop-j) c.wide-x.ensures.0))
+is_well_formed-requires c = (c.requires.0, (c.requires.1.0, row-below c.args.s.now (2 + c.from-count.result + 4 * c.loop-j.j) c.requires.0 (is-event (goal.at.is_well_formed-requires c).In-loop-j) c.from-x.ensures))
 
 pub returns-then-not-is_well_formed : goal.returns-then-not-is_well_formed
 returns-then-not-is_well_formed c =
-    role-ill c.args.t.now c.args.n c.requires.0 c.args.own c.args.s.now (2 + c.wide-count.result) c.wide-events.result (whole (goal.at.returns-then-not-is_well_formed c).After-wide-events)
-    c.loop-j.j c.loop-j.marks c.loop-j.invariant c.loop-j-test.true c.wide-event.ensures.0 c.wide-peer.ensures.0 c.wide-x.ensures.0
+    role-ill c.args.t.now c.args.n c.requires.0 c.args.own c.args.s.now (2 + c.from-count.result) c.from-events.result (whole (goal.at.returns-then-not-is_well_formed c).After-from-events)
+    c.loop-j.j c.loop-j.marks c.loop-j.invariant c.loop-j-test.true c.from-event.ensures c.from-peer.ensures c.from-x.ensures
     (is-event (goal.at.returns-then-not-is_well_formed c).In-loop-j) c.is_well_formed.ensures (c.if-not-is_well_formed.true) (omega arith)
 
 pub event_learned-more-requires : goal.event_learned-more-requires
-event_learned-more-requires c = (c.requires.0, (c.requires.1.0, row-below c.args.s.now (2 + c.wide-count.result + 4 * c.loop-j.j) c.requires.0 (is-event (goal.at.event_learned-more-requires c).In-loop-j) c.wide-x.ensures.0))
+event_learned-more-requires c = (c.requires.0, (c.requires.1.0, row-below c.args.s.now (2 + c.from-count.result + 4 * c.loop-j.j) c.requires.0 (is-event (goal.at.event_learned-more-requires c).In-loop-j) c.from-x.ensures))
 
 pub loop-j-preserved : goal.loop-j-preserved
 loop-j-preserved c =
-    role-more c.args.t.now c.args.n c.requires.0 c.args.own c.args.s.now (2 + c.wide-count.result) c.wide-events.result (whole (goal.at.loop-j-preserved c).After-wide-events)
-    c.loop-j.j c.loop-j.marks c.loop-j.invariant c.loop-j-test.true c.wide-event.ensures.0 c.wide-peer.ensures.0 c.wide-x.ensures.0
+    role-more c.args.t.now c.args.n c.requires.0 c.args.own c.args.s.now (2 + c.from-count.result) c.from-events.result (whole (goal.at.loop-j-preserved c).After-from-events)
+    c.loop-j.j c.loop-j.marks c.loop-j.invariant c.loop-j-test.true c.from-event.ensures c.from-peer.ensures c.from-x.ensures
     (is-event (goal.at.loop-j-preserved c).In-loop-j) c.is_well_formed.ensures (c.if-not-is_well_formed.false) c.event_learned-more.result c.event_learned-more.ensures
 
 pub returns : goal.returns
 returns c =
-    role-none (rows_of c.args.t.now) c.args.own c.args.s.now (2 + c.wide-count.result) c.wide-events.result c.loop-j.j c.loop-j.invariant (omega (arith, c.loop-j-test.false))
+    role-none (rows_of c.args.t.now) c.args.own c.args.s.now (2 + c.from-count.result) c.from-events.result c.loop-j.j c.loop-j.invariant (omega (arith, c.loop-j-test.false))

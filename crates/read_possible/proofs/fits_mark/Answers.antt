@@ -1,9 +1,9 @@
 -- `read_possible::fits_mark` meets its contract: every row of the kind is tried. Assumes nothing.
-use Rattle.std.proofs.Common.{arith, rules}
+use Rattle.std.proofs.Common.{arith, rules, tests}
 use Rattle.read_fits.specs.laws.Fits.{TakesIn}
-use Rattle.read_fits.specs.laws.Ranges.{any-true}
+use Rattle.rows.specs.laws.Ranges.{any-true}
 use Rattle.read_possible.proofs.fits_mark.Goals as goal
 
 pub returns : goal.returns
 returns c = λ y w i e can.
-    any-true _ _ _ c.any.result (TakesIn c.args.t.now c.args.scope.rows c.args.scope.runs c.args.classes.now c.args.scope.run c.args.marks.now c.args.r) c.any.ensures.ran (λ x q k. search rules) y (omega arith) (omega (arith, i.0)) (w, i.1, e, can)
+    any-true c.any.result (TakesIn c.args.t.now c.args.scope.rows c.args.scope.runs c.args.classes.now c.args.scope.run c.args.marks.now c.args.r) (λ x y q k. search (rules, tests)) (λ x k. search (rules, tests)) _ c.any.ensures.runs y (omega arith) (omega (arith, i.0)) (w, i.1, e, can)

@@ -1,12 +1,12 @@
 -- `records::events_fit` meets its contract: all events fit, or there is one that does not. Assumes nothing.
-use Prim.Native.Nat.{◌+◌}
+use Prim.Native.Nat.{◌+◌, ◌<◌}
 use native.Mathlib.Omega.{arith}
 use mathlib.Core.Path.{◌≡◌, refl, ap}
 use lib.ListN.{get_or}
 use Rattle.std.proofs.Common.{rules}
 use Rattle.std.proofs.iter.runs.Sources.{ranges, range_runs}
 use Rattle.semantics.specs.Roles.{event_count}
-use Rattle.rows.specs.laws.Ranges.{walked_number}
+use Rattle.rows.specs.laws.Ranges.{of_place}
 use Rattle.records.specs.laws.Events.{count-read, fits-if}
 use Rattle.records.proofs.events_fit.Goals as goal
 use Rattle.records.proofs.events_fit.Goals.{After-from-count}
@@ -22,7 +22,7 @@ returns c =
     (λ e j l. let z : get_or c.args.s.now j 0 ≡ get_or c.args.s.now j 0 = refl in search (rules, ranges))
     (λ e.
     let run = c.all.ensures.runs.0 in
-    let found = (rw e at c.all.ensures.runs.2) (λ a r f' z. search rules) in
-    let w = walked_number _ _ _ ((range_runs run run.seen).2 found.0) found.2 in
     let end : run.from.end ≡ c.from-count.result = cc in
+    let found = (rw e at c.all.ensures.runs.2) (λ a r f' z. search rules) in
+    let w = of_place (run.at found.0) (λ x. (x ≡ run.from.start + found.0) × (x < run.from.end)) _ ((range_runs run run.seen).2 found.0) found.2 in
     (w.0, omega arith, λ rows place k. let h = w.2 in search rules))

@@ -65,7 +65,7 @@ returns-then-not-may_take c e sc d s a next same row kind =
     let view' : NextUnset (rows_of c.args.t.now) s.names (c.args.k + 1) e.row c.loop-names.from c.next_unset-x.result = rw (← same, ← row) view in
     let more = another next c.requires.0.count c.loop-names.from _ view' c.if-x-n.false in
     let may = c.may_take.ensures more.y (ap (λ (rs : List Row). atom_at rs c.next_unset-x.result) (sym next.rows) ∙ more.is_atom) in
-    let may' : TellsValue sc.rows (length sc.runs) more.y (get_or c.args.values.now c.loop-names.i 0) (get_or c.args.values.now (c.loop-names.i + 1) 0) c.may_take.result = may-carry next.rows next.count c.wide-r.ensures.0 c.wide-w.ensures.0 may in
+    let may' : TellsValue sc.rows (length sc.runs) more.y (get_or c.args.values.now c.loop-names.i 0) (get_or c.args.values.now (c.loop-names.i + 1) 0) c.may_take.result = may-carry next.rows next.count c.from-r.ensures c.from-w.ensures may in
     part-not next kind _ c.loop-names.from c.loop-names.i c.loop-names.more (c.loop-names.invariant.2 e sc d s a next same row kind) more.first c.if-values-i-2.false (no_value may' (c.if-not-may_take.true))
 
 pub put-requires : goal.put-requires
@@ -101,9 +101,9 @@ loop-names-preserved c =
           let view' : NextUnset (rows_of c.args.t.now) s.names (c.args.k + 1) e.row c.loop-names.from c.next_unset-x.result = rw (← same, ← row) view in
           let more = another next c.requires.0.count c.loop-names.from _ view' c.if-x-n.false in
           let may = c.may_take.ensures more.y (ap (λ (rs : List Row). atom_at rs c.next_unset-x.result) (sym next.rows) ∙ more.is_atom) in
-          let may' : TellsValue sc.rows (length sc.runs) more.y (get_or c.args.values.now c.loop-names.i 0) (get_or c.args.values.now (c.loop-names.i + 1) 0) c.may_take.result = may-carry next.rows next.count c.wide-r.ensures.0 c.wide-w.ensures.0 may in
+          let may' : TellsValue sc.rows (length sc.runs) more.y (get_or c.args.values.now c.loop-names.i 0) (get_or c.args.values.now (c.loop-names.i + 1) 0) c.may_take.result = may-carry next.rows next.count c.from-r.ensures c.from-w.ensures may in
           let value = taken-value may' (c.if-not-may_take.false) in
           let part = part-more next kind _ c.loop-names.from c.loop-names.i c.loop-names.more (c.loop-names.invariant.2 e sc d s a next same row kind) _ more.y more.low more.from_on more.is_atom more.is_variable more.unset more.first c.if-values-i-2.false value.0 value.1.1 in
-          part-carry _ _ _ _ _ c.loop-names.more c.put.new.names c.put.ensures c.wide-r.ensures.0 c.wide-w.ensures.0 part,
+          part-carry _ _ _ _ _ c.loop-names.more c.put.new.names c.put.ensures c.from-r.ensures c.from-w.ensures part,
       omega (arith, c.put.auto.names, c.loop-names.invariant.3),
     )

@@ -3,11 +3,11 @@ use mathlib.Core.Path.{refl}
 use Rattle.replay_choices.specs.laws.Values.{none-suit, some-suit-not}
 use Rattle.replay_choices.proofs.valued.Goals as goal
 
-pub returns-then-e-eq1 : goal.returns-then-e-eq1
-returns-then-e-eq1 c sc d a next = c.chosen.ensures _ sc d _ a next refl refl c.if-e-eq1.true
+pub returns-then-e-eq-READ : goal.returns-then-e-eq-READ
+returns-then-e-eq-READ c sc d a next = c.chosen.ensures _ sc d _ a next refl refl c.if-e-eq-READ.true
 
 pub returns-then-values-lt2 : goal.returns-then-values-lt2
-returns-then-values-lt2 c sc d a next = none-suit next c.if-e-eq1.false c.args.values.now c.if-values-lt2.true
+returns-then-values-lt2 c sc d a next = none-suit next c.if-e-eq-READ.false c.args.values.now c.if-values-lt2.true
 
 pub returns-else-values-lt2 : goal.returns-else-values-lt2
-returns-else-values-lt2 c sc d a next = some-suit-not next c.if-e-eq1.false c.args.values.now c.if-values-lt2.false
+returns-else-values-lt2 c sc d a next = some-suit-not next c.if-e-eq-READ.false c.args.values.now c.if-values-lt2.false

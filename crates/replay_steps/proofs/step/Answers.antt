@@ -74,19 +74,19 @@ returns-then-trace-lt2 c sc d given state =
 
 pub returns-then-trace-end : goal.returns-then-trace-end
 returns-then-trace-end c sc d given state =
-    refuses-cut sc d _ c.if-trace-lt2.false c.wide.ensures.0 refl c.if-trace-end.true
+    refuses-cut sc d _ c.if-trace-lt2.false c.from.ensures refl c.if-trace-end.true
 
 pub returns-then-u-eq0 : goal.returns-then-u-eq0
 returns-then-u-eq0 c sc d given state =
-    refuses-inactive sc d _ c.if-trace-lt2.false c.wide.ensures.0 refl c.if-trace-end.false c.wide-u.ensures.0 (ap (active sc d) c.if-u-eq0.true ∙ active-zero sc d)
+    refuses-inactive sc d _ c.if-trace-lt2.false c.from.ensures refl c.if-trace-end.false c.from-u.ensures (ap (active sc d) c.if-u-eq0.true ∙ active-zero sc d)
 
 pub returns-then-r-u : goal.returns-then-r-u
 returns-then-r-u c sc d given state =
-    refuses-inactive sc d _ c.if-trace-lt2.false c.wide.ensures.0 refl c.if-trace-end.false c.wide-u.ensures.0 (active-high sc d _ (omega (arith, c.if-r-u.true, given.runs.count)))
+    refuses-inactive sc d _ c.if-trace-lt2.false c.from.ensures refl c.if-trace-end.false c.from-u.ensures (active-high sc d _ (omega (arith, c.if-r-u.true, given.runs.count)))
 
 pub returns-then-r-k : goal.returns-then-r-k
 returns-then-r-k c sc d given state =
-    refuses-inactive sc d _ c.if-trace-lt2.false c.wide.ensures.0 refl c.if-trace-end.false c.wide-u.ensures.0
+    refuses-inactive sc d _ c.if-trace-lt2.false c.from.ensures refl c.if-trace-end.false c.from-u.ensures
     (ap (active sc d) (sym (run-number c.if-u-eq0.false)) ∙ run-ended given state _ (run-low c.if-u-eq0.false c.if-r-u.false) c.if-r-k.true)
 
 pub event_of-e-requires : goal.event_of-e-requires
@@ -121,26 +121,26 @@ perform-after-requires c =
 pub advance-done-requires : goal.advance-done-requires
 advance-done-requires c =
     let given = c.requires.2 in
-    let low : c.wide-u.result - 1 < 4 = omega (arith, given.runs.few, run-low c.if-u-eq0.false c.if-r-u.false) in
-    (low, omega (arith, c.if-r-k.false, given.runs.small (c.wide-u.result - 1) low))
+    let low : c.from-u.result - 1 < 4 = omega (arith, given.runs.few, run-low c.if-u-eq0.false c.if-r-u.false) in
+    (low, omega (arith, c.if-r-k.false, given.runs.small (c.from-u.result - 1) low))
 
 pub returns : goal.returns
 returns c sc d given state =
-    let values : List ℕ = take (2 + 2 * c.wide.result - 2) (drop 2 c.args.trace.now) in
+    let values : List ℕ = take (2 + 2 * c.from.result - 2) (drop 2 c.args.trace.now) in
     let suited = c.in_ok-names.ensures sc d (coming given state c.if-u-eq0.false c.if-r-u.false c.if-r-k.false c.event_of-e.ensures).0 (next given state c.if-u-eq0.false c.if-r-u.false c.if-r-k.false c.event_of-e.ensures) in
     let m = at-event given state c.if-u-eq0.false c.if-r-u.false c.if-r-k.false c.event_of-e.ensures values suited (search rules) c.worked-more.new.classes c.worked-more.result c.worked-more.ensures in
     let w = told-some (c.is_allowed.ensures _ _ _ m) c.if-not-is_allowed.false in
-    step-performed sc d c.args.trace.now c.if-trace-lt2.false c.wide.ensures.0 refl c.if-trace-end.false c.wide-u.ensures.0 (is-active given state c.if-u-eq0.false c.if-r-u.false c.if-r-k.false c.event_of-e.ensures) values refl suited refl w.1 (rw (c.after.ensures, c.advance-done.ensures) (c.perform-after.ensures m w.0 w.1))
+    step-performed sc d c.args.trace.now c.if-trace-lt2.false c.from.ensures refl c.if-trace-end.false c.from-u.ensures (is-active given state c.if-u-eq0.false c.if-r-u.false c.if-r-k.false c.event_of-e.ensures) values refl suited refl w.1 (rw (c.after.ensures, c.advance-done.ensures) (c.perform-after.ensures m w.0 w.1))
 
 pub returns-then-not-is_allowed : goal.returns-then-not-is_allowed
 returns-then-not-is_allowed c sc d given state =
-    let values : List ℕ = take (2 + 2 * c.wide.result - 2) (drop 2 c.args.trace.now) in
+    let values : List ℕ = take (2 + 2 * c.from.result - 2) (drop 2 c.args.trace.now) in
     let suited = c.in_ok-names.ensures sc d (coming given state c.if-u-eq0.false c.if-r-u.false c.if-r-k.false c.event_of-e.ensures).0 (next given state c.if-u-eq0.false c.if-r-u.false c.if-r-k.false c.event_of-e.ensures) in
     let m = at-event given state c.if-u-eq0.false c.if-r-u.false c.if-r-k.false c.event_of-e.ensures values suited (search rules) c.worked-more.new.classes c.worked-more.result c.worked-more.ensures in
-    step-refused sc d c.args.trace.now c.if-trace-lt2.false c.wide.ensures.0 refl c.if-trace-end.false c.wide-u.ensures.0 (is-active given state c.if-u-eq0.false c.if-r-u.false c.if-r-k.false c.event_of-e.ensures) values refl suited refl (told_none (c.is_allowed.ensures _ _ _ m) c.if-not-is_allowed.true)
+    step-refused sc d c.args.trace.now c.if-trace-lt2.false c.from.ensures refl c.if-trace-end.false c.from-u.ensures (is-active given state c.if-u-eq0.false c.if-r-u.false c.if-r-k.false c.event_of-e.ensures) values refl suited refl (told_none (c.is_allowed.ensures _ _ _ m) c.if-not-is_allowed.true)
 
 pub returns-in_err-names : goal.returns-in_err-names
 returns-in_err-names c sc d given state =
-    let values : List ℕ = take (2 + 2 * c.wide.result - 2) (drop 2 c.args.trace.now) in
+    let values : List ℕ = take (2 + 2 * c.from.result - 2) (drop 2 c.args.trace.now) in
     let suited = c.in_err-names.ensures sc d (coming given state c.if-u-eq0.false c.if-r-u.false c.if-r-k.false c.event_of-e.ensures).0 (next given state c.if-u-eq0.false c.if-r-u.false c.if-r-k.false c.event_of-e.ensures) in
-    rw c.from_residual.ensures (refuses-unsuited sc d c.args.trace.now c.if-trace-lt2.false c.wide.ensures.0 refl c.if-trace-end.false c.wide-u.ensures.0 (is-active given state c.if-u-eq0.false c.if-r-u.false c.if-r-k.false c.event_of-e.ensures) values refl suited refl)
+    rw c.from_residual.ensures (refuses-unsuited sc d c.args.trace.now c.if-trace-lt2.false c.from.ensures refl c.if-trace-end.false c.from-u.ensures (is-active given state c.if-u-eq0.false c.if-r-u.false c.if-r-k.false c.event_of-e.ensures) values refl suited refl)

@@ -1,6 +1,6 @@
 -- `own_names` gives each row its own name. Assumes nothing.
 use Rattle.std.proofs.Common.{rules, tests, arith}
-use Rattle.cells.specs.laws.Ranges.{from_fn-at}
+use Rattle.rows.specs.laws.Ranges.{from_fn-at}
 use Rattle.cells.specs.Cells.{absent}
 use Rattle.role_level.proofs.own_names.Goals as goal
 

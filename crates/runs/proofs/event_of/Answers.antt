@@ -17,7 +17,7 @@ bounds-file-start c = record-inside c.args.file.now c.args.r c.args.k c.args.j c
 
 pub agent_of-requires : goal.agent_of-requires
 agent_of-requires c =
-    own-inside c.args.file.now c.args.r c.args.k c.args.j c.requires c.wide-2.ensures.0
+    own-inside c.args.file.now c.args.r c.args.k c.args.j c.requires c.from-2.ensures
 
 pub overflow_add-at-2 : goal.overflow_add-at-2
 overflow_add-at-2 c = omega (arith, bytes_inside c.args.file.now c.args.r c.args.k c.args.j c.requires)
@@ -27,7 +27,7 @@ bounds-file-at-2 c = omega (arith, bytes_inside c.args.file.now c.args.r c.args.
 
 pub agent_of-requires-2 : goal.agent_of-requires-2
 agent_of-requires-2 c =
-    peer-inside c.args.file.now c.args.r c.args.k c.args.j c.requires c.wide-3.ensures.0
+    peer-inside c.args.file.now c.args.r c.args.k c.args.j c.requires c.from-3.ensures
 
 pub overflow_add-at-3 : goal.overflow_add-at-3
 overflow_add-at-3 c = omega (arith, bytes_inside c.args.file.now c.args.r c.args.k c.args.j c.requires)
@@ -39,4 +39,4 @@ pub returns : goal.returns
 returns c =
     λ sc run ev at g found listed.
     event-read c.args.file.now sc run _ _ _ (at.each c.args.k run found) g c.args.k found c.args.j ev listed
-    c.wide.ensures.0 c.wide-2.ensures.0 c.agent_of.ensures.0 c.wide-3.ensures.0 c.agent_of-2.ensures.0 c.wide-4.ensures.0
+    c.from.ensures c.from-2.ensures c.agent_of.ensures.0 c.from-3.ensures c.agent_of-2.ensures.0 c.from-4.ensures

@@ -15,13 +15,13 @@ bounds-file-start c = start-inside c.args.file.now c.args.start c.requires
 
 pub role_at-at-requires : goal.role_at-at-requires
 role_at-at-requires c =
-    role-recorded c.args.file.now c.args.start c.block_of-b.ensures c.wide.ensures.0 c.requires
+    role-recorded c.args.file.now c.args.start c.block_of-b.ensures c.from.ensures c.requires
 
 pub bounds-b-first : goal.bounds-b-first
 bounds-b-first c =
-    omega (arith, first_read c.args.file.now c.args.start c.block_of-b.ensures c.wide.ensures.0 (c.role_at-at.ensures.upper_bound, c.role_at-at.ensures.role_at) c.wide-2.ensures.0 c.requires)
+    omega (arith, first_read c.args.file.now c.args.start c.block_of-b.ensures c.from.ensures (c.role_at-at.ensures.upper_bound, c.role_at-at.ensures.role_at) c.from-2.ensures c.requires)
 
 pub returns : goal.returns
 returns c =
-    events-read c.args.file.now c.args.start c.block_of-b.ensures c.wide.ensures.0 (c.role_at-at.ensures.upper_bound, c.role_at-at.ensures.role_at) c.wide-2.ensures.0
-    c.start_of-base.ensures.0 c.wide-3.ensures.0
+    events-read c.args.file.now c.args.start c.block_of-b.ensures c.from.ensures (c.role_at-at.ensures.upper_bound, c.role_at-at.ensures.role_at) c.from-2.ensures
+    c.start_of-base.ensures.0 c.from-3.ensures
