@@ -1,7 +1,7 @@
 -- `covers` tells whether marks that are kept stand. Assumes nothing.
 use Rattle.std.proofs.Common.{arith, rules, tests, ◌≡◌, true}
 use Rattle.std.proofs.lemmas.Bool.{false≢true}
-use Rattle.cells.specs.laws.Ranges.{all-range}
+use Rattle.rows.specs.laws.Ranges.{all-range}
 use Rattle.knowledge.specs.Steps.{On}
 use Rattle.open_marks.specs.Sure.{Stand}
 use Rattle.open_marks.proofs.covers.Goals as goal

@@ -1,6 +1,6 @@
 -- `row_marked` tells whether a row with a kind and a left byte is marked. Assumes nothing.
 use Rattle.std.proofs.Common.{arith, rules, tests, ℕ}
-use Rattle.cells.specs.laws.Ranges.{any-range}
+use Rattle.rows.specs.laws.Ranges.{any-range}
 use Rattle.open_marks.specs.Marks.{MarkedAs, RowMarked, is_marked, none_marked}
 use Rattle.open_marks.proofs.row_marked.Goals as goal
 

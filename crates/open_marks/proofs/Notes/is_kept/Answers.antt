@@ -1,7 +1,7 @@
 -- `is_kept` looks for a slot of a row whose marks stand. Assumes nothing.
 use Rattle.std.proofs.Common.{rules, tests, ◌≡◌, true}
 use Rattle.std.proofs.lemmas.Bool.{false≢true}
-use Rattle.cells.specs.laws.Ranges.{any-range}
+use Rattle.rows.specs.laws.Ranges.{any-range}
 use Rattle.open_marks.specs.Sure.{owner_of, SlotStands, KeptFor}
 use Rattle.open_marks.proofs.Notes.is_kept.Goals as goal
 
