@@ -175,13 +175,8 @@ pub fn gives_up(
         return false;
     }
     let mut more = marks;
-<<<<<<< HEAD
     let mut way = [false; 480];
-    let Some(end) = follow(&mut more, &mut way, sure, t, n, notes, x) else {
-=======
-    let mut way = [false; Cells::COUNT];
     let Some(end) = follow(&mut more, &mut way, sure, t, n, &notes.ways, x) else {
->>>>>>> 854ad55dff5e0214bfcbfaaba4ef2f1d117bd1b3
         return false;
     };
     let known = knowledge::settle(more, t, n, 0, classes);
