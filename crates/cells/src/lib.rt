@@ -14,6 +14,7 @@ pub struct Cells {}
 impl Cells {
     pub const COUNT: usize = 480;
     // as a name or a class: no value
+    // stays: an Option<u16> takes twice the room, and these arrays are copied for each value that is tried
     pub const ABSENT: u16 = 480;
 }
 

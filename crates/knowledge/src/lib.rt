@@ -207,6 +207,7 @@ fn rounds(start: Marks, t: &[u8], n: usize, runs: usize, classes: &Classes) -> M
     ensures { Finished t.now n runs classes.now start result }
 {
     let mut marks = start;
+    // stays: a round follows as long as one gains something, so there is no range to go over
     'rounds: loop {
         build(&mut marks, t, n, runs, classes, n);
         match next_gain(&marks, t, n, runs, classes) {

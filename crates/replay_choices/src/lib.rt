@@ -32,6 +32,7 @@ fn chosen(
     let mut more = names;
     let mut from = 0;
     let mut i = 0;
+    // stays: two values are taken for each variable that is found, and the test at the end is of both
     loop {
         let x = variables::next_unset(t, n, &names, &below, k + 1, from);
         if x == n {

@@ -166,6 +166,7 @@ fn walk_values(
     let mut count = 0;
     let mut row = 0;
     let mut run = 0;
+    // stays: each value is found from the one before it
     while let Some(value) = variables::next_value(t, plan.rows, plan.runs.count, x, row, run) {
         let mut more = [0; Cells::COUNT];
         let mut more_classes = [0; Cells::COUNT];
