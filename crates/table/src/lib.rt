@@ -88,7 +88,7 @@ fn with_variable(t: &[u8], i: usize, variables: usize) -> usize
     variables + usize::from(rows::kind_of(t, i) == Kind::VARIABLE)
 }
 
-// The number of the refusal of row i after the rows below it, 4 or 5, if there is one.
+// Why row i is refused after the rows below it, if it is: as a bad row or as a repeated one.
 fn row_refusal(t: &[u8], i: usize, variables: usize) -> Option<Reason>
     requires { (3 * i + 3 ≤ length t.now) × (IsTable (take (3 * i) t.now) × ((variables ≡ length (keep variable_row (rows_of (take (3 * i) t.now)))) × (variables ≤ 8))) }
     ensures { result ≡ reason_as (row_refusal (rows_of (take (3 * i) t.now)) (decoded_at t.now i)) }
