@@ -1,3 +1,2 @@
 -- The laws of cells, with their proofs.
 pub mod Cells
-pub mod Shape

@@ -2,10 +2,9 @@
 #![tactic(auto)]
 
 ghost use Rattle.std.specs.Prelude.{◌≡◌, ℕ, ◌+◌, ◌*◌, ◌<◌, ◌≤◌, length, get_or, MatchOption};
-ghost use Rattle.rows.specs.Rows.{Shape};
 ghost use Rattle.cells.specs.Cells.{cell_of, cell_count, absent, second_of, same_parts, Tells, Matches, Found, FoundInRow};
 
-use rows::Kind;
+use rows::{Kind, Table};
 
 // The cells: 96 rows by runs 0 to 4.
 #[derive(Drop)]
@@ -27,12 +26,12 @@ pub type Classes = [u16; Cells::COUNT];
 // Which cells are marked.
 pub type Marks = [bool; Cells::COUNT];
 
-// A run that is looked at, in a table with so many rows and a scenario with so many runs.
+// A run that is looked at, in a table.
 #[derive(Clone, Copy)]
-pub struct Scope {
-    pub rows: usize,
-    pub runs: usize,
+pub struct Scope<'a> {
+    pub table: Table<'a>,
     pub run: usize,
+    pub ghost within: { run ≤ table.runs },
 }
 
 // The cell of a row in a run.
@@ -63,76 +62,42 @@ fn same_parts(a: u16, b: u16, x: u16, y: u16) -> bool
 }
 
 // Whether row x has a class in run w and its parts have the given classes there.
-fn matches_at(
-    t: &[u8],
-    n: usize,
-    runs: usize,
-    classes: &Classes,
-    x: usize,
-    a: u16,
-    b: u16,
-    w: usize,
-) -> bool
-    requires { Shape t.now n runs × ((x < n) × ((8 ≤ get_or t.now (3 * x) 0) × (w ≤ runs))) }
-    ensures { Tells (Matches t.now classes.now a b x w) result }
+fn matches_at(t: &Table, classes: &Classes, x: usize, a: u16, b: u16, w: usize) -> bool
+    requires { (x < t.now.rows) × ((8 ≤ get_or t.now.bytes.now (3 * x) 0) × (w ≤ t.now.runs)) }
+    ensures { Tells (Matches t.now.bytes.now classes.now a b x w) result }
 {
     if Cells::ABSENT <= classes[cell(x, w)] {
         return false;
     }
-    let first = classes[cell(rows::left_of(t, x), w)];
-    let second = classes[cell(second_of(t, x), w)];
+    let first = classes[cell(t.left_of(x), w)];
+    let second = classes[cell(second_of(t.bytes, x), w)];
     same_parts(a, b, first, second)
 }
 
 // A run in which row x has a class and its parts have the given classes.
-fn matching_run(
-    t: &[u8],
-    n: usize,
-    runs: usize,
-    classes: &Classes,
-    x: usize,
-    a: u16,
-    b: u16,
-) -> Option<usize>
-    requires { Shape t.now n runs × ((x < n) × (8 ≤ get_or t.now (3 * x) 0)) }
-    ensures { MatchOption result ((w : ℕ) → w ≤ runs → Matches t.now classes.now a b x w → ⊥) (λ w. (w ≤ runs) × Matches t.now classes.now a b x w) }
+fn matching_run(t: &Table, classes: &Classes, x: usize, a: u16, b: u16) -> Option<usize>
+    requires { (x < t.now.rows) × (8 ≤ get_or t.now.bytes.now (3 * x) 0) }
+    ensures { MatchOption result ((w : ℕ) → w ≤ t.now.runs → Matches t.now.bytes.now classes.now a b x w → ⊥) (λ w. (w ≤ t.now.runs) × Matches t.now.bytes.now classes.now a b x w) }
 {
-    (0..=runs).find(|&w| matches_at(t, n, runs, classes, x, a, b, w))
+    (0..=t.runs).find(|&w| matches_at(t, classes, x, a, b, w))
 }
 
 // The class of row x, if it has the given kind, in a run in which its parts have the given classes.
-fn found_in_row(
-    t: &[u8],
-    n: usize,
-    runs: usize,
-    classes: &Classes,
-    x: usize,
-    kind: usize,
-    a: u16,
-    b: u16,
-) -> Option<u16>
-    requires { Shape t.now n runs × ((x < n) × (8 ≤ kind)) }
-    ensures { MatchOption result (FoundInRow t.now runs classes.now kind a b x absent) (λ class. (class < absent) × FoundInRow t.now runs classes.now kind a b x class) }
+fn found_in_row(t: &Table, classes: &Classes, x: usize, kind: usize, a: u16, b: u16) -> Option<u16>
+    requires { (x < t.now.rows) × (8 ≤ kind) }
+    ensures { MatchOption result (FoundInRow t.now.bytes.now t.now.runs classes.now kind a b x absent) (λ class. (class < absent) × FoundInRow t.now.bytes.now t.now.runs classes.now kind a b x class) }
 {
-    if rows::kind_of(t, x) != kind {
+    if t.kind_of(x) != kind {
         return None;
     }
-    let w = matching_run(t, n, runs, classes, x, a, b)?;
+    let w = matching_run(t, classes, x, a, b)?;
     Some(classes[cell(x, w)])
 }
 
 // The class of the cells of a kind, 8 to 12, whose parts have the given classes.
-pub fn found(
-    t: &[u8],
-    n: usize,
-    runs: usize,
-    classes: &Classes,
-    kind: usize,
-    a: u16,
-    b: u16,
-) -> Option<u16>
-    requires { Shape t.now n runs × (8 ≤ kind) }
-    ensures { MatchOption result (Found t.now n runs classes.now kind a b absent) (λ class. (class < absent) × Found t.now n runs classes.now kind a b class) }
+pub fn found(t: &Table, classes: &Classes, kind: usize, a: u16, b: u16) -> Option<u16>
+    requires { 8 ≤ kind }
+    ensures { MatchOption result (Found t.now.bytes.now t.now.rows t.now.runs classes.now kind a b absent) (λ class. (class < absent) × Found t.now.bytes.now t.now.rows t.now.runs classes.now kind a b class) }
 {
-    (0..n).find_map(|x| found_in_row(t, n, runs, classes, x, kind, a, b))
+    (0..t.rows).find_map(|x| found_in_row(t, classes, x, kind, a, b))
 }

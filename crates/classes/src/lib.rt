@@ -1,80 +1,63 @@
 // Comparison of values: the class of every cell, equal for equal values.
 #![tactic(auto)]
 
-ghost use Rattle.std.specs.Prelude.{◌≡◌, ◌+◌, ◌<◌, ◌≤◌, length};
-ghost use Rattle.rows.specs.Rows.{rows_of, Shape};
-ghost use Rattle.cells.specs.Cells.{cell_count};
+ghost use Rattle.std.specs.Prelude.{◌+◌, ◌<◌, ◌≤◌};
+ghost use Rattle.rows.specs.Rows.{rows_of};
 ghost use Rattle.classes.specs.Classes.{Refilled};
 ghost use Rattle.classes.specs.Filled.{ClassOf, Filled};
 
 use cells::{Cells, Classes, Names, cell, found, second_of};
-use rows::Kind;
+use rows::{Kind, Table};
 
 // The class of row x in run u, from the classes of its parts: a name, a class that is there already, or the cell itself.
-fn class_of(
-    t: &[u8],
-    n: usize,
-    runs: usize,
-    names: &Names,
-    classes: &Classes,
-    u: usize,
-    x: usize,
-) -> u16
-    requires { Shape t.now n runs × ((u ≤ runs) × (x < n)) }
-    ensures { ClassOf t.now n runs names.now classes.now u x result }
+fn class_of(t: &Table, names: &Names, classes: &Classes, u: usize, x: usize) -> u16
+    requires { (u ≤ t.now.runs) × (x < t.now.rows) }
+    ensures { ClassOf t.now.bytes.now t.now.rows t.now.runs names.now classes.now u x result }
 {
     let c = cell(x, u);
-    let kind = rows::kind_of(t, x);
+    let kind = t.kind_of(x);
     if kind < Kind::FIRST_MADE {
         return names[c];
     }
-    let a = classes[cell(rows::left_of(t, x), u)];
+    let a = classes[cell(t.left_of(x), u)];
     if a == Cells::ABSENT {
         return Cells::ABSENT;
     }
-    let b = classes[cell(second_of(t, x), u)];
+    let b = classes[cell(second_of(t.bytes, x), u)];
     if b == Cells::ABSENT {
         return Cells::ABSENT;
     }
-    found(t, n, runs, classes, kind, a, b).unwrap_or(c as u16)
+    found(t, classes, kind, a, b).unwrap_or(c as u16)
 }
 
 // Gives row x its class in run u, if it has none yet.
-fn fill_row(
-    classes: &mut Classes,
-    t: &[u8],
-    n: usize,
-    runs: usize,
-    names: &Names,
-    u: usize,
-    x: usize,
-)
-    requires { Shape t.now n runs × ((u ≤ runs) × (x < n)) }
-    ensures { Filled (rows_of t.now) runs u names.now x (x + 1) classes.old classes.new }
+fn fill_row(classes: &mut Classes, t: &Table, names: &Names, u: usize, x: usize)
+    requires { (u ≤ t.now.runs) × (x < t.now.rows) }
+    ensures { Filled (rows_of t.now.bytes.now) t.now.runs u names.now x (x + 1) classes.old classes.new }
 {
     let c = cell(x, u);
     if classes[c] == Cells::ABSENT {
-        let class = class_of(t, n, runs, names, classes, u, x);
+        let class = class_of(t, names, classes, u, x);
         classes[c] = class;
     }
 }
 
 // Gives the rows below row r their classes in run u: first those below, then the row itself.
-fn fill(classes: &mut Classes, t: &[u8], n: usize, runs: usize, names: &Names, u: usize, r: usize)
-    requires { Shape t.now n runs × ((u ≤ runs) × (r ≤ n)) }
-    ensures { Filled (rows_of t.now) runs u names.now 0 r classes.old classes.new }
+fn fill(classes: &mut Classes, t: &Table, names: &Names, u: usize, r: usize)
+    requires { (u ≤ t.now.runs) × (r ≤ t.now.rows) }
+    ensures { Filled (rows_of t.now.bytes.now) t.now.runs u names.now 0 r classes.old classes.new }
 {
     if r == 0 {
         return;
     }
-    fill(classes, t, n, runs, names, u, r - 1);
-    fill_row(classes, t, n, runs, names, u, r - 1);
+    fill(classes, t, names, u, r - 1);
+    fill_row(classes, t, names, u, r - 1);
 }
 
 // The classes after the names of run u have grown.
-pub fn refill(classes: &mut Classes, t: &[u8], n: usize, runs: usize, names: &Names, u: usize)
-    requires { Shape t.now n runs × (u ≤ runs) }
-    ensures { Refilled (rows_of t.now) runs u names.now classes.old classes.new }
+pub fn refill(classes: &mut Classes, t: &Table, names: &Names, u: usize)
+    requires { u ≤ t.now.runs }
+    ensures { Refilled (rows_of t.now.bytes.now) t.now.runs u names.now classes.old classes.new }
 {
-    fill(classes, t, n, runs, names, u, n);
+    fill(classes, t, names, u, t.rows);
 }

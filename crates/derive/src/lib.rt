@@ -1,15 +1,16 @@
 // Derive: whether a row's term is derivable from those of listed rows.
 #![tactic(auto)]
 
-ghost use Rattle.std.specs.Prelude.{◌≡◌, ◌<◌, ◌≤◌, length};
+ghost use Rattle.std.specs.Prelude.{◌≡◌, ◌<◌, length};
 ghost use Rattle.semantics.specs.Value.{value_of, as_atoms};
 ghost use Rattle.semantics.specs.Derive.{derived, derivable_row};
-ghost use Rattle.rows.specs.Rows.{rows_of, Shape};
+ghost use Rattle.rows.specs.Rows.{rows_of};
 ghost use Rattle.role_level.specs.RoleLevel.{ListedBelow};
 ghost use Rattle.answers.specs.Answers.{derived_as};
 ghost use Rattle.derive.specs.Absent.{AbsentAt};
 
 use answers::{Reason, Refusal};
+use rows::Table;
 
 // Refusal 11: the place of the first listed row that is absent, or the list's length if the target is.
 fn absent_at(list: &[u8], n: usize, target: u64) -> Option<usize>
@@ -23,12 +24,12 @@ fn absent_at(list: &[u8], n: usize, target: u64) -> Option<usize>
 }
 
 // Whether a row of a table is derivable from listed rows.
-fn is_known(t: &[u8], n: usize, list: &[u8], target: usize) -> bool
-    requires { Shape t.now n 0 × (ListedBelow n list.now × (target < n)) }
-    ensures { result ≡ derivable_row (rows_of t.now) list.now (value_of as_atoms (rows_of t.now) target) }
+fn is_known(t: &Table, list: &[u8], target: usize) -> bool
+    requires { ListedBelow t.now.rows list.now × (target < t.now.rows) }
+    ensures { result ≡ derivable_row (rows_of t.now.bytes.now) list.now (value_of as_atoms (rows_of t.now.bytes.now) target) }
 {
-    let classes = role_level::classes_of(t, n);
-    let marks = role_level::marks_of(t, n, &classes, list);
+    let classes = role_level::classes_of(t);
+    let marks = role_level::marks_of(t, &classes, list);
     marks[target]
 }
 
@@ -43,5 +44,6 @@ pub fn derive(t: &[u8], list: &[u8], target: u64) -> Result<bool, Refusal>
             place,
         });
     }
-    Ok(is_known(t, n, list, target as usize))
+    let t = Table::new(t, n, 0);
+    Ok(is_known(&t, list, target as usize))
 }

@@ -1,15 +1,15 @@
 // Knowledge as marks: one for each row in each run, taken apart and built up until nothing is added.
 #![tactic(auto)]
 
-ghost use Rattle.std.specs.Prelude.{◌≡◌, ◌≢◌, ℕ, false, ◌+◌, ◌*◌, ◌<◌, ◌≤◌, length, get_or, MatchOption};
+ghost use Rattle.std.specs.Prelude.{◌≡◌, ◌≢◌, false, ◌<◌, ◌≤◌, get_or, MatchOption};
 ghost use Rattle.std.specs.Option.{unwrap_or};
-ghost use Rattle.rows.specs.Rows.{rows_of, Shape};
-ghost use Rattle.cells.specs.Cells.{cell_count, absent};
+ghost use Rattle.rows.specs.Rows.{rows_of};
+ghost use Rattle.cells.specs.Cells.{absent};
 ghost use Rattle.knowledge.specs.Marks.{Settled, LearnsCell, Learnt};
 ghost use Rattle.knowledge.specs.Steps.{class_at, Gathered, Spread, InverseKinds, Opening, Gained, GainedAt, RowGained, AllIdle, SomeGained, Reaches, Finished};
 
 use cells::{Cells, Classes, Marks, cell};
-use rows::Kind;
+use rows::{Kind, Table};
 
 // The class of row r in run u.
 pub fn class_at(classes: &Classes, r: usize, u: usize) -> u16
@@ -20,13 +20,12 @@ pub fn class_at(classes: &Classes, r: usize, u: usize) -> u16
 }
 
 // Marks of classes from marks of cells: a class is marked if one of its cells is.
-fn gathered(start: &Marks, n: usize, runs: usize, classes: &Classes) -> Marks
-    requires { (n ≤ 96) × (runs ≤ 4) }
-    ensures { Gathered n runs classes.now start.now result }
+fn gathered(start: &Marks, t: &Table, classes: &Classes) -> Marks
+    ensures { Gathered t.now.rows t.now.runs classes.now start.now result }
 {
     let mut marks = [false; 480];
-    for u in 0..=runs {
-        for r in 0..n {
+    for u in 0..=t.runs {
+        for r in 0..t.rows {
             if start[cell(r, u)] {
                 let class = class_at(classes, r, u);
                 if class < Cells::ABSENT {
@@ -39,13 +38,12 @@ fn gathered(start: &Marks, n: usize, runs: usize, classes: &Classes) -> Marks
 }
 
 // Marks of cells from marks of classes.
-fn spread(marks: &Marks, n: usize, runs: usize, classes: &Classes) -> Marks
-    requires { (n ≤ 96) × (runs ≤ 4) }
-    ensures { Spread n runs classes.now marks.now result }
+fn spread(marks: &Marks, t: &Table, classes: &Classes) -> Marks
+    ensures { Spread t.now.rows t.now.runs classes.now marks.now result }
 {
     let mut out = [false; 480];
-    for u in 0..=runs {
-        for r in 0..n {
+    for u in 0..=t.runs {
+        for r in 0..t.rows {
             if is_marked(marks, class_at(classes, r, u)) {
                 out[cell(r, u)] = true;
             }
@@ -62,16 +60,16 @@ fn is_marked(marks: &Marks, class: u16) -> bool
 }
 
 // Marks a pair or an encryption, row x, in each run in which both its parts are marked.
-fn build_row(marks: &mut Marks, t: &[u8], n: usize, runs: usize, classes: &Classes, x: usize)
-    requires { Shape t.now n runs × (x < n) }
-    ensures { Reaches t.now n runs classes.now marks.old marks.new }
+fn build_row(marks: &mut Marks, t: &Table, classes: &Classes, x: usize)
+    requires { x < t.now.rows }
+    ensures { Reaches t.now.bytes.now t.now.rows t.now.runs classes.now marks.old marks.new }
 {
-    if rows::kind_of(t, x) < Kind::PAIR {
+    if t.kind_of(x) < Kind::PAIR {
         return;
     }
-    let left = rows::left_of(t, x);
-    let right = rows::right_of(t, x);
-    for u in 0..=runs {
+    let left = t.left_of(x);
+    let right = t.right_of(x);
+    for u in 0..=t.runs {
         let class = class_at(classes, x, u);
         if class < Cells::ABSENT
             && is_marked(marks, class_at(classes, left, u))
@@ -95,20 +93,19 @@ pub fn inverse_kind(kind: usize) -> Option<usize>
 
 // Whether the inverse of a key is marked: the other key of that agent, or the key itself.
 // The key is told by its class, whose number is a cell with its kind and parts: a variable's own row does not have them.
-fn opens(marks: &Marks, t: &[u8], n: usize, runs: usize, classes: &Classes, key: u16) -> bool
-    requires { Shape t.now n runs }
-    ensures { Opening t.now n runs classes.now marks.now key result }
+fn opens(marks: &Marks, t: &Table, classes: &Classes, key: u16) -> bool
+    ensures { Opening t.now.bytes.now t.now.rows t.now.runs classes.now marks.now key result }
 {
     let x = usize::from(key) % 96;
     let u = usize::from(key) / 96;
-    if n <= x || runs < u {
+    if t.rows <= x || t.runs < u {
         return false;
     }
-    let Some(other) = inverse_kind(rows::kind_of(t, x)) else {
+    let Some(other) = inverse_kind(t.kind_of(x)) else {
         return is_marked(marks, key);
     };
-    let agent = class_at(classes, rows::left_of(t, x), u);
-    let inverse = cells::found(t, n, runs, classes, other, agent, agent);
+    let agent = class_at(classes, t.left_of(x), u);
+    let inverse = cells::found(t, classes, other, agent, agent);
     inverse.is_some_and(|class| is_marked(marks, class))
 }
 
@@ -116,101 +113,82 @@ fn opens(marks: &Marks, t: &[u8], n: usize, runs: usize, classes: &Classes, key:
 // It gives its parts, and itself where it was passed in building before its parts were marked.
 fn given(
     marks: &Marks,
-    t: &[u8],
-    n: usize,
-    runs: usize,
+    t: &Table,
     classes: &Classes,
     kind: usize,
     whole: u16,
     left: u16,
     right: u16,
 ) -> Option<u16>
-    requires { Shape t.now n runs × (11 ≤ kind) }
-    ensures { Gained t.now n runs classes.now marks.now kind whole left right (unwrap_or result absent) }
+    requires { 11 ≤ kind }
+    ensures { Gained t.now.bytes.now t.now.rows t.now.runs classes.now marks.now kind whole left right (unwrap_or result absent) }
 {
     let has_left = is_marked(marks, left);
     if !is_marked(marks, whole) {
         (has_left && is_marked(marks, right)).then_some(whole)
     } else if !has_left {
-        (kind == Kind::PAIR || opens(marks, t, n, runs, classes, right)).then_some(left)
+        (kind == Kind::PAIR || opens(marks, t, classes, right)).then_some(left)
     } else {
         (kind == Kind::PAIR && !is_marked(marks, right)).then_some(right)
     }
 }
 
 // A class that row x gives in run u and that is not marked yet.
-fn gain(
-    marks: &Marks,
-    t: &[u8],
-    n: usize,
-    runs: usize,
-    classes: &Classes,
-    x: usize,
-    u: usize,
-) -> Option<u16>
-    requires { Shape t.now n runs × ((x < n) × (u ≤ runs)) }
-    ensures { MatchOption result (GainedAt t.now n runs classes.now marks.now x u absent) (λ class. (class < absent) × GainedAt t.now n runs classes.now marks.now x u class) }
+fn gain(marks: &Marks, t: &Table, classes: &Classes, x: usize, u: usize) -> Option<u16>
+    requires { (x < t.now.rows) × (u ≤ t.now.runs) }
+    ensures { MatchOption result (GainedAt t.now.bytes.now t.now.rows t.now.runs classes.now marks.now x u absent) (λ class. (class < absent) × GainedAt t.now.bytes.now t.now.rows t.now.runs classes.now marks.now x u class) }
 {
-    let kind = rows::kind_of(t, x);
+    let kind = t.kind_of(x);
     if kind < Kind::PAIR {
         return None;
     }
     let whole = class_at(classes, x, u);
-    let left = class_at(classes, rows::left_of(t, x), u);
-    let right = class_at(classes, rows::right_of(t, x), u);
+    let left = class_at(classes, t.left_of(x), u);
+    let right = class_at(classes, t.right_of(x), u);
     // what is given may have no class
-    let class = given(marks, t, n, runs, classes, kind, whole, left, right);
+    let class = given(marks, t, classes, kind, whole, left, right);
     class.filter(|&class| class < Cells::ABSENT)
 }
 
 // A class that row x gives in some run and that is not marked yet.
-fn row_gain(
-    marks: &Marks,
-    t: &[u8],
-    n: usize,
-    runs: usize,
-    classes: &Classes,
-    x: usize,
-) -> Option<u16>
-    requires { Shape t.now n runs × (x < n) }
-    ensures { MatchOption result (RowGained t.now n runs classes.now marks.now x absent) (λ class. (class < absent) × RowGained t.now n runs classes.now marks.now x class) }
+fn row_gain(marks: &Marks, t: &Table, classes: &Classes, x: usize) -> Option<u16>
+    requires { x < t.now.rows }
+    ensures { MatchOption result (RowGained t.now.bytes.now t.now.rows t.now.runs classes.now marks.now x absent) (λ class. (class < absent) × RowGained t.now.bytes.now t.now.rows t.now.runs classes.now marks.now x class) }
 {
-    (0..=runs).find_map(|u| gain(marks, t, n, runs, classes, x, u))
+    (0..=t.runs).find_map(|u| gain(marks, t, classes, x, u))
 }
 
 // A class that some row gives and that is not marked yet.
-fn next_gain(marks: &Marks, t: &[u8], n: usize, runs: usize, classes: &Classes) -> Option<u16>
-    requires { Shape t.now n runs }
-    ensures { MatchOption result (AllIdle t.now n runs classes.now marks.now) (λ class. (class < absent) × SomeGained t.now n runs classes.now marks.now class) }
+fn next_gain(marks: &Marks, t: &Table, classes: &Classes) -> Option<u16>
+    ensures { MatchOption result (AllIdle t.now.bytes.now t.now.rows t.now.runs classes.now marks.now) (λ class. (class < absent) × SomeGained t.now.bytes.now t.now.rows t.now.runs classes.now marks.now class) }
 {
-    (0..n).find_map(|x| row_gain(marks, t, n, runs, classes, x))
+    (0..t.rows).find_map(|x| row_gain(marks, t, classes, x))
 }
 
 // Marks what can be built among the rows below row r: first those below the last 16 of them, then these in order.
-fn build(marks: &mut Marks, t: &[u8], n: usize, runs: usize, classes: &Classes, r: usize)
-    requires { Shape t.now n runs × (r ≤ n) }
-    ensures { Reaches t.now n runs classes.now marks.old marks.new }
+fn build(marks: &mut Marks, t: &Table, classes: &Classes, r: usize)
+    requires { r ≤ t.now.rows }
+    ensures { Reaches t.now.bytes.now t.now.rows t.now.runs classes.now marks.old marks.new }
 {
     if r == 0 {
         return;
     }
     let below = r.saturating_sub(16);
-    build(marks, t, n, runs, classes, below);
+    build(marks, t, classes, below);
     for x in below..r {
-        build_row(marks, t, n, runs, classes, x);
+        build_row(marks, t, classes, x);
     }
 }
 
 // The marks of classes when nothing can be built or taken apart any more.
-fn rounds(start: Marks, t: &[u8], n: usize, runs: usize, classes: &Classes) -> Marks
-    requires { Shape t.now n runs }
-    ensures { Finished t.now n runs classes.now start result }
+fn rounds(start: Marks, t: &Table, classes: &Classes) -> Marks
+    ensures { Finished t.now.bytes.now t.now.rows t.now.runs classes.now start result }
 {
     let mut marks = start;
     // stays: a round follows as long as one gains something, so there is no range to go over
     'rounds: loop {
-        build(&mut marks, t, n, runs, classes, n);
-        match next_gain(&marks, t, n, runs, classes) {
+        build(&mut marks, t, classes, t.rows);
+        match next_gain(&marks, t, classes) {
             Some(gained) => marks[usize::from(gained)] = true,
             None => break 'rounds marks,
         }
@@ -218,33 +196,24 @@ fn rounds(start: Marks, t: &[u8], n: usize, runs: usize, classes: &Classes) -> M
 }
 
 // Marks worked on until they are exact, from marks that are sound and cover what is known.
-pub fn settle(start: Marks, t: &[u8], n: usize, runs: usize, classes: &Classes) -> Marks
-    requires { Shape t.now n runs }
-    ensures { Settled (rows_of t.now) runs classes.now start result }
+pub fn settle(start: Marks, t: &Table, classes: &Classes) -> Marks
+    ensures { Settled (rows_of t.now.bytes.now) t.now.runs classes.now start result }
 {
-    let gathered_marks = gathered(&start, n, runs, classes);
-    let done = rounds(gathered_marks, t, n, runs, classes);
-    spread(&done, n, runs, classes)
+    let gathered_marks = gathered(&start, t, classes);
+    let done = rounds(gathered_marks, t, classes);
+    spread(&done, t, classes)
 }
 
 // The marks when the value of row r in run u is known too.
-pub fn learn(
-    mut marks: Marks,
-    t: &[u8],
-    n: usize,
-    runs: usize,
-    classes: &Classes,
-    r: usize,
-    u: usize,
-) -> Marks
-    requires { Shape t.now n runs × ((r < n) × (u ≤ runs)) }
-    ensures learnt { Learnt (rows_of t.now) runs classes.now r u marks result }
-    ensures learns_cell { LearnsCell (rows_of t.now) runs classes.now r u marks result }
+pub fn learn(mut marks: Marks, t: &Table, classes: &Classes, r: usize, u: usize) -> Marks
+    requires { (r < t.now.rows) × (u ≤ t.now.runs) }
+    ensures learnt { Learnt (rows_of t.now.bytes.now) t.now.runs classes.now r u marks result }
+    ensures learns_cell { LearnsCell (rows_of t.now.bytes.now) t.now.runs classes.now r u marks result }
 {
     let c = cell(r, u);
     if marks[c] {
         return marks;
     }
     marks[c] = true;
-    settle(marks, t, n, runs, classes)
+    settle(marks, t, classes)
 }

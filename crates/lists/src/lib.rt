@@ -1,35 +1,34 @@
 // Lists of rows: which rows have a value if some atoms have none, and the first of a rising list that has none; refusal 9.
 #![tactic(auto)]
 
-ghost use Rattle.std.specs.Prelude.{◌≡◌, ◌<◌, ◌≤◌, length};
+ghost use Rattle.std.specs.Prelude.{◌≡◌, ◌<◌, ◌≤◌};
 ghost use Rattle.semantics.specs.Basic.{unfit_from};
 ghost use Rattle.semantics.specs.Value.{Reading};
 ghost use Rattle.semantics.specs.Runs.{bad_knowledge_from};
-ghost use Rattle.rows.specs.Rows.{place_as, rows_of, Sized};
+ghost use Rattle.rows.specs.Rows.{place_as, rows_of};
 ghost use Rattle.lists.specs.Lists.{Bars, Valued, clear_at, has_value};
 
-use rows::Kind;
+use rows::{Kind, Table};
 
 // Whether a row has a value if atoms of the kinds from low to high have none, given which of the rows below it have one.
-fn clear_row(t: &[u8], n: usize, clear: &[bool; 96], r: usize, low: usize, high: usize) -> bool
-    requires { Sized t.now n × (r < n) }
-    ensures { result ≡ clear_at low high t.now clear.now r }
+fn clear_row(t: &Table, clear: &[bool; 96], r: usize, low: usize, high: usize) -> bool
+    requires { r < t.now.rows }
+    ensures { result ≡ clear_at low high t.now.bytes.now clear.now r }
 {
-    let kind = rows::kind_of(t, r);
+    let kind = t.kind_of(r);
     if kind < Kind::FIRST_MADE {
         return kind < low || high < kind;
     }
-    clear[rows::left_of(t, r)] && (kind < Kind::SHARED_KEY || clear[rows::right_of(t, r)])
+    clear[t.left_of(r)] && (kind < Kind::SHARED_KEY || clear[t.right_of(r)])
 }
 
 // Which rows have a value if atoms of the kinds from low to high have none.
-pub fn clear_rows(t: &[u8], n: usize, low: usize, high: usize) -> [bool; 96]
-    requires { Sized t.now n }
-    ensures { (reading : Reading) → Bars low high reading → Valued (rows_of t.now) reading result }
+pub fn clear_rows(t: &Table, low: usize, high: usize) -> [bool; 96]
+    ensures { (reading : Reading) → Bars low high reading → Valued (rows_of t.now.bytes.now) reading result }
 {
     let mut clear = [false; 96];
-    for r in 0..n {
-        clear[r] = clear_row(t, n, &clear, r, low, high);
+    for r in 0..t.rows {
+        clear[r] = clear_row(t, &clear, r, low, high);
     }
     clear
 }
@@ -51,10 +50,10 @@ pub fn unfit_row(b: &[u8], base: usize, n: usize, clear: &[bool; 96]) -> Option<
 }
 
 // Refusal 9: the place of the first knowledge byte against its rule, in a block that begins at a place.
-pub fn bad_knowledge(b: &[u8], base: usize, t: &[u8], n: usize) -> Option<usize>
-    requires { Sized t.now n × (base ≤ 65536) }
-    ensures { result ≡ place_as (bad_knowledge_from (rows_of t.now) base 0 b.now) }
+pub fn bad_knowledge(b: &[u8], base: usize, t: &Table) -> Option<usize>
+    requires { base ≤ 65536 }
+    ensures { result ≡ place_as (bad_knowledge_from (rows_of t.now.bytes.now) base 0 b.now) }
 {
-    let clear = clear_rows(t, n, Kind::ROLE, Kind::LOCAL);
-    unfit_row(b, base, n, &clear)
+    let clear = clear_rows(t, Kind::ROLE, Kind::LOCAL);
+    unfit_row(b, base, t.rows, &clear)
 }

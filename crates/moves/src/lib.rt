@@ -1,14 +1,13 @@
 // Moves: whether one is allowed, with no work on the marks, and the marks after one that is.
 #![tactic(auto)]
 
-ghost use Rattle.std.specs.Prelude.{◌≡◌, ◌<◌, length};
-ghost use Rattle.rows.specs.Rows.{Shape};
-ghost use Rattle.cells.specs.Cells.{cell_count};
+ghost use Rattle.std.specs.Prelude.{◌<◌};
 ghost use Rattle.state.specs.State.{Due};
 ghost use Rattle.moves.specs.Moves.{TellsAllowed, MarksAfter};
 
 use cells::{Cells, Classes, Marks, cell};
 use records::Event;
+use rows::Table;
 use runs::RunEvent;
 
 // Whether the next event of run k is allowed: a claim always, a send if its term has a value, a read if sender, receiver and pattern are derivable. Classes
@@ -27,22 +26,14 @@ pub fn is_allowed(classes: &Classes, marks: &Marks, k: usize, e: RunEvent) -> bo
 
 // The marks after the next event of run k, if it is allowed: a send makes term, receiver and sender known, a read and a claim nothing. Classes and marks are
 // those with the new values of a read.
-pub fn perform(
-    classes: &Classes,
-    marks: Marks,
-    t: &[u8],
-    n: usize,
-    runs: usize,
-    k: usize,
-    e: RunEvent,
-) -> Marks
-    requires { Shape t.now n runs × Due n runs k e.own e.peer e.row }
-    ensures { MarksAfter t.now n runs k e classes.now marks result }
+pub fn perform(classes: &Classes, marks: Marks, t: &Table, k: usize, e: RunEvent) -> Marks
+    requires { Due t.now.rows t.now.runs k e.own e.peer e.row }
+    ensures { MarksAfter t.now.bytes.now t.now.rows t.now.runs k e classes.now marks result }
 {
     if e.kind != Event::SEND {
         return marks;
     }
-    let term = knowledge::learn(marks, t, n, runs, classes, e.row, k + 1);
-    let receiver = knowledge::learn(term, t, n, runs, classes, e.peer, 0);
-    knowledge::learn(receiver, t, n, runs, classes, e.own, 0)
+    let term = knowledge::learn(marks, t, classes, e.row, k + 1);
+    let receiver = knowledge::learn(term, t, classes, e.peer, 0);
+    knowledge::learn(receiver, t, classes, e.own, 0)
 }

@@ -1,15 +1,15 @@
 // Marks at role level: whether a name or a key's inverse is derivable, marks with more known, marks that two have in common, and marks that are kept in notes.
 #![tactic(auto)]
 
-ghost use Rattle.std.specs.Prelude.{◌≡◌, true, ℕ, ◌<◌, ◌≤◌, length, IfSome};
-ghost use Rattle.rows.specs.Rows.{rows_of, Shape};
+ghost use Rattle.std.specs.Prelude.{◌≡◌, true, ◌<◌, ◌≤◌, IfSome};
+ghost use Rattle.rows.specs.Rows.{rows_of};
 ghost use Rattle.cells.specs.Cells.{cell_count};
 ghost use Rattle.role_level.specs.RoleLevel.{RoleClasses};
 ghost use Rattle.open_marks.specs.Marks.{RowMarked, NameKnown, InverseKnown, Learns};
 ghost use Rattle.open_marks.specs.Sure.{Gains, Opens, InBoth, Shared, Added, Stand, KeptFor, SlotFilled, NoNotes, KeptIn};
 
 use cells::{Cells, Classes, Marks};
-use rows::Kind;
+use rows::{Kind, Table};
 
 // What a row's last reading shows of its way: it goes on in the first or the second part of a pair, with the other part known, or
 // it ends at an encryption that does not open.
@@ -31,38 +31,36 @@ pub struct Notes {
 }
 
 // Whether there is a row with the given kind and left byte that is marked.
-fn row_marked(marks: &Marks, t: &[u8], n: usize, kind: usize, left: usize) -> bool
-    requires { Shape t.now n 0 }
-    ensures { RowMarked t.now n marks.now kind left result }
+fn row_marked(marks: &Marks, t: &Table, kind: usize, left: usize) -> bool
+    ensures { RowMarked t.now.bytes.now t.now.rows marks.now kind left result }
 {
-    (0..n).any(|x| marks[x] && rows::kind_of(t, x) == kind && rows::left_of(t, x) == left)
+    (0..t.rows).any(|x| marks[x] && t.kind_of(x) == kind && t.left_of(x) == left)
 }
 
 // Whether the name of role i is derivable.
-pub fn name_known(marks: &Marks, t: &[u8], n: usize, i: usize) -> bool
-    requires { Shape t.now n 0 }
-    ensures { NameKnown (rows_of t.now) marks.now i result }
+pub fn name_known(marks: &Marks, t: &Table, i: usize) -> bool
+    ensures { NameKnown (rows_of t.now.bytes.now) marks.now i result }
 {
-    row_marked(marks, t, n, Kind::ROLE, i)
+    row_marked(marks, t, Kind::ROLE, i)
 }
 
 // Whether the inverse of the term of row k is derivable: the other key of that agent, or the term itself.
-pub fn inverse_known(marks: &Marks, t: &[u8], n: usize, k: usize) -> bool
-    requires { Shape t.now n 0 × (k < n) }
-    ensures { InverseKnown (rows_of t.now) marks.now k result × Opens (rows_of t.now) marks.now k result }
+pub fn inverse_known(marks: &Marks, t: &Table, k: usize) -> bool
+    requires { k < t.now.rows }
+    ensures { InverseKnown (rows_of t.now.bytes.now) marks.now k result × Opens (rows_of t.now.bytes.now) marks.now k result }
 {
-    let Some(other) = knowledge::inverse_kind(rows::kind_of(t, k)) else {
+    let Some(other) = knowledge::inverse_kind(t.kind_of(k)) else {
         return marks[k];
     };
-    row_marked(marks, t, n, other, rows::left_of(t, k))
+    row_marked(marks, t, other, t.left_of(k))
 }
 
 // The marks when the term of row x is known too.
-pub fn learned(marks: Marks, t: &[u8], n: usize, classes: &Classes, x: usize) -> Marks
-    requires { Shape t.now n 0 × (RoleClasses (rows_of t.now) classes.now × (x < n)) }
-    ensures { Learns (rows_of t.now) x marks result × Gains (rows_of t.now) x marks result }
+pub fn learned(marks: Marks, t: &Table, classes: &Classes, x: usize) -> Marks
+    requires { RoleClasses (rows_of t.now.bytes.now) classes.now × (x < t.now.rows) }
+    ensures { Learns (rows_of t.now.bytes.now) x marks result × Gains (rows_of t.now.bytes.now) x marks result }
 {
-    knowledge::learn(marks, t, n, 0, classes, x, 0)
+    knowledge::learn(marks, &t.at_role_level(), classes, x, 0)
 }
 
 // Whether row x is marked in both.
@@ -104,17 +102,17 @@ fn meets(one: &Marks, other: &Marks, n: usize) -> bool
 }
 
 // The row beneath the encryptions of row x; row 0, an atom, where row x is marked or is no encryption.
-pub fn content_of(marks: &Marks, t: &[u8], n: usize, x: usize) -> usize
-    requires { Shape t.now n 0 × (x < n) }
+pub fn content_of(marks: &Marks, t: &Table, x: usize) -> usize
+    requires { x < t.now.rows }
     ensures { result ≤ x }
 {
-    if marks[x] || rows::kind_of(t, x) != Kind::ENCRYPTED {
+    if marks[x] || t.kind_of(x) != Kind::ENCRYPTED {
         return 0;
     }
-    let mut y = rows::left_of(t, x);
+    let mut y = t.left_of(x);
     // stays: the way goes down a chain of parts, so there is no range to go over
-    while rows::kind_of(t, y) == Kind::ENCRYPTED {
-        y = rows::left_of(t, y);
+    while t.kind_of(y) == Kind::ENCRYPTED {
+        y = t.left_of(y);
     }
     y
 }
@@ -125,20 +123,19 @@ fn follow(
     more: &mut Marks,
     way: &mut Marks,
     sure: &Marks,
-    t: &[u8],
-    n: usize,
+    t: &Table,
     ways: &[Way; 96],
     mut x: usize,
 ) -> Option<usize>
-    requires { Shape t.now n 0 × (x < n) }
-    ensures { IfSome result (λ end. end < n) }
+    requires { x < t.now.rows }
+    ensures { IfSome result (λ end. end < t.now.rows) }
 {
     // stays: the way goes down a chain of parts, so there is no range to go over
     while !more[x] && !sure[x] {
         way[x] = true;
-        let left = rows::left_of(t, x);
-        let right = rows::right_of(t, x);
-        x = match rows::kind_of(t, x) {
+        let left = t.left_of(x);
+        let right = t.right_of(x);
+        x = match t.kind_of(x) {
             Kind::PAIR => match ways[x] {
                 Way::First => {
                     more[right] = true;
@@ -161,14 +158,13 @@ fn follow(
 pub fn gives_up(
     marks: Marks,
     sure: &Marks,
-    t: &[u8],
-    n: usize,
+    t: &Table,
     classes: &Classes,
     notes: &Notes,
     quick: bool,
     x: usize,
 ) -> bool
-    requires { Shape t.now n 0 × (RoleClasses (rows_of t.now) classes.now × (x < n)) }
+    requires { RoleClasses (rows_of t.now.bytes.now) classes.now × (x < t.now.rows) }
     ensures { result ≡ true → quick ≡ true }
 {
     if !quick {
@@ -176,15 +172,15 @@ pub fn gives_up(
     }
     let mut more = marks;
     let mut way = [false; 480];
-    let Some(end) = follow(&mut more, &mut way, sure, t, n, &notes.ways, x) else {
+    let Some(end) = follow(&mut more, &mut way, sure, t, &notes.ways, x) else {
         return false;
     };
-    let known = knowledge::settle(more, t, n, 0, classes);
-    if meets(&known, &way, n) {
+    let known = knowledge::settle(more, &t.at_role_level(), classes);
+    if meets(&known, &way, t.rows) {
         return false;
     }
-    match rows::kind_of(t, end) {
-        Kind::ENCRYPTED => !inverse_known(&known, t, n, rows::right_of(t, end)),
+    match t.kind_of(end) {
+        Kind::ENCRYPTED => !inverse_known(&known, t, t.right_of(end)),
         kind => kind != Kind::VARIABLE,
     }
 }

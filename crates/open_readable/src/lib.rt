@@ -2,13 +2,13 @@
 #![tactic(auto)]
 
 ghost use Rattle.std.specs.Prelude.{◌<◌};
-ghost use Rattle.rows.specs.Rows.{rows_of, Shape};
+ghost use Rattle.rows.specs.Rows.{rows_of};
 ghost use Rattle.role_level.specs.RoleLevel.{RoleClasses};
 ghost use Rattle.open_marks.specs.Sure.{SureRows, Noted, Answers};
 
 use cells::{Classes, Marks};
 use open_marks::{Notes, Way};
-use rows::Kind;
+use rows::{Kind, Table};
 
 // Whether the term of row x is readable: derivable, a variable, a pair of which each part is readable with the other known,
 // or an encryption whose key's inverse is derivable and whose content is readable. A row is sure if it is readable with these
@@ -17,65 +17,55 @@ use rows::Kind;
 pub fn is_readable(
     marks: Marks,
     sure: Marks,
-    t: &[u8],
-    n: usize,
+    t: &Table,
     classes: &Classes,
     notes: &mut Notes,
     quick: bool,
     x: usize,
 ) -> bool
-    requires { Shape t.now n 0 × (RoleClasses (rows_of t.now) classes.now × (SureRows (rows_of t.now) marks sure × (Noted (rows_of t.now) notes.old × (x < n)))) }
-    ensures { Answers (rows_of t.now) marks x quick result × Noted (rows_of t.now) notes.new }
+    requires { RoleClasses (rows_of t.now.bytes.now) classes.now × (SureRows (rows_of t.now.bytes.now) marks sure × (Noted (rows_of t.now.bytes.now) notes.old × (x < t.now.rows))) }
+    ensures { Answers (rows_of t.now.bytes.now) marks x quick result × Noted (rows_of t.now.bytes.now) notes.new }
 {
     if marks[x] || sure[x] {
         return true;
     }
-    let kind = rows::kind_of(t, x);
+    let kind = t.kind_of(x);
     if kind == Kind::VARIABLE {
         return true;
     }
     if kind == Kind::PAIR {
-        if notes.is_kept(&marks, n, x) {
+        if notes.is_kept(&marks, t.rows, x) {
             return true;
         }
-        if open_marks::gives_up(marks, &sure, t, n, classes, notes, quick, x) {
+        if open_marks::gives_up(marks, &sure, t, classes, notes, quick, x) {
             return false;
         }
-        let l = rows::left_of(t, x);
-        let s = rows::right_of(t, x);
-        let with_second = open_marks::learned(marks, t, n, classes, s);
-        let with_first = open_marks::learned(marks, t, n, classes, l);
-        let both = open_marks::shared(&with_second, &with_first, n);
-        let c = open_marks::content_of(&with_second, t, n, l);
-        let found = is_readable(both, sure, t, n, classes, notes, true, c);
+        let l = t.left_of(x);
+        let s = t.right_of(x);
+        let with_second = open_marks::learned(marks, t, classes, s);
+        let with_first = open_marks::learned(marks, t, classes, l);
+        let both = open_marks::shared(&with_second, &with_first, t.rows);
+        let c = open_marks::content_of(&with_second, t, l);
+        let found = is_readable(both, sure, t, classes, notes, true, c);
         let more = open_marks::added(sure, found.then_some(c));
-        let d = open_marks::content_of(&with_first, t, n, s);
-        let found_too = is_readable(both, more, t, n, classes, notes, true, d);
+        let d = open_marks::content_of(&with_first, t, s);
+        let found_too = is_readable(both, more, t, classes, notes, true, d);
         let most = open_marks::added(more, found_too.then_some(d));
-        if !is_readable(with_second, most, t, n, classes, notes, quick, l) {
+        if !is_readable(with_second, most, t, classes, notes, quick, l) {
             notes.ways[x] = Way::First;
             return false;
         }
-        if !is_readable(with_first, most, t, n, classes, notes, quick, s) {
+        if !is_readable(with_first, most, t, classes, notes, quick, s) {
             notes.ways[x] = Way::Second;
             return false;
         }
-        notes.keep(&marks, n, x);
+        notes.keep(&marks, t.rows, x);
         return true;
     }
     if kind == Kind::ENCRYPTED {
-        if open_marks::inverse_known(&marks, t, n, rows::right_of(t, x)) {
+        if open_marks::inverse_known(&marks, t, t.right_of(x)) {
             notes.ways[x] = Way::Unknown;
-            return is_readable(
-                marks,
-                sure,
-                t,
-                n,
-                classes,
-                notes,
-                quick,
-                rows::left_of(t, x),
-            );
+            return is_readable(marks, sure, t, classes, notes, quick, t.left_of(x));
         }
         notes.ways[x] = Way::Shut;
         return false;

@@ -1,26 +1,17 @@
 -- Completions of a partial choice of values, and sets of classes that miss none of those that a variable gets. Assumes nothing.
-use Rattle.std.specs.Prelude.{ℕ, ◌<◌, ◌≤◌, ◌≡◌, Bool, true, List, Option, IsSomeAnd, T, length, get_or}
+use Rattle.std.specs.Prelude.{ℕ, ◌<◌, ◌≡◌, Bool, true, List, Option, IsSomeAnd, T, length, get_or}
 use Rattle.semantics.specs.Term.{Term}
 use Rattle.semantics.specs.Inference.{Derives}
 use Rattle.semantics.specs.Value.{beneath}
-use Rattle.rows.specs.Rows.{rows_of, Shape}
+use Rattle.rows.specs.Rows.{rows_of}
 use Rattle.cells.specs.Cells.{cell_of, cell_count, absent}
 use Rattle.knowledge.specs.Marks.{Has, Marked, Exact, Celled}
 use Rattle.knowledge.specs.Steps.{class_at, kind_at, Inside}
 use Rattle.read_fits.specs.Fits.{Extension, Gets, Needed}
-use Rattle.variables.specs.declared.VariableRows.{VariableRows}
-use Rattle.variables.specs.Variables.{In, AreVariables}
+use Rattle.variables.specs.declared.found.VariableRows.{VariableRows}
+use Rattle.variables.specs.Variables.{In}
 use Rattle.read_domains.specs.Domains.{InRow, Candidate}
-use Rattle.read_completions.specs.declared.Pattern.{Pattern}
-
--- the table, classes and marks of a partial choice, and the pattern that is read
-pub record Scene (bytes classes : List ℕ) (marks : List Bool) (pattern : Pattern) : Type 0 where
-  pub shape : Shape bytes pattern.scope.rows pattern.scope.runs
-  pub classed : length classes ≡ cell_count
-  pub marked : length marks ≡ cell_count
-  pub run : pattern.scope.run ≤ pattern.scope.runs
-  pub row : pattern.row < pattern.scope.rows
-  pub low : AreVariables bytes pattern.scope.rows pattern.vars
+use Rattle.read_completions.specs.declared.scene.Pattern.{Pattern}
 
 -- the new value of a row is that of a cell which its variable may take
 pub record TakesCell {bytes : List ℕ} {n runs : ℕ} {classes : List ℕ} {u : ℕ} (s : Extension bytes n runs classes u) (q : ℕ) : Type 0 where
@@ -33,14 +24,14 @@ pub record TakesCell {bytes : List ℕ} {n runs : ℕ} {classes : List ℕ} {u :
   pub has : Has bytes s.old row run term
 
 -- A completion: readings that grow from those for which classes and marks are right, and give each variable a value that it may take.
-pub record Completion (bytes classes : List ℕ) (marks : List Bool) (pattern : Pattern) : Type 0 where
-  pub extension : Extension bytes pattern.scope.rows pattern.scope.runs classes pattern.scope.run
+pub record Completion (pattern : Pattern) : Type 0 where
+  pub extension : Extension pattern.scope.table.bytes.now pattern.scope.table.rows pattern.scope.table.runs pattern.classes.now pattern.scope.run
   pub known : List Term
-  pub exact : Exact (rows_of bytes) pattern.scope.runs extension.old known marks
-  pub celled : Celled (rows_of bytes) pattern.scope.runs extension.old known
+  pub exact : Exact (rows_of pattern.scope.table.bytes.now) pattern.scope.table.runs extension.old known pattern.marks.now
+  pub celled : Celled (rows_of pattern.scope.table.bytes.now) pattern.scope.table.runs extension.old known
   pub filled : (i : ℕ) → i < pattern.vars.count → TakesCell extension (get_or pattern.vars.rows i 0)
 
-module _ {bytes classes : List ℕ} {marks : List Bool} {pattern : Pattern} (k : Completion bytes classes marks pattern) where
+module _ {pattern : Pattern} (k : Completion pattern) where
   -- a variable gets a class
   abbrev pub GetsClass : ℕ → ℕ → Type 0
   GetsClass i c = Gets k.extension (get_or pattern.vars.rows i 0) c
@@ -51,41 +42,36 @@ module _ {bytes classes : List ℕ} {marks : List Bool} {pattern : Pattern} (k :
 
   -- the new value of a row is derivable
   abbrev pub GetsDerivable : ℕ → Type 0
-  GetsDerivable r = (t : Term) × Has bytes k.extension.new r pattern.scope.run t × Derives k.known t
+  GetsDerivable r = (t : Term) × Has pattern.scope.table.bytes.now k.extension.new r pattern.scope.run t × Derives k.known t
 
   -- a row gets the value of a marked cell of its kind that stands for its own value
   pub record FromMark (r y w : ℕ) : Type 0 where
-    pub inside : Inside pattern.scope.rows pattern.scope.runs y w
-    pub kind : kind_at bytes y ≡ kind_at bytes r
-    pub marked : Marked marks y w
-    pub own : class_at classes y w ≡ cell_of y w
+    pub inside : Inside pattern.scope.table.rows pattern.scope.table.runs y w
+    pub kind : kind_at pattern.scope.table.bytes.now y ≡ kind_at pattern.scope.table.bytes.now r
+    pub marked : Marked pattern.marks.now y w
+    pub own : class_at pattern.classes.now y w ≡ cell_of y w
     pub gets : Gets k.extension r (cell_of y w)
 
-module _ (bytes classes : List ℕ) (marks : List Bool) (pattern : Pattern) where
+module _ (pattern : Pattern) where
   -- the classes of variables that are derivable themselves
   abbrev pub MarkedDomains : List (List Bool) → Type 0
   MarkedDomains marked =
-      (k : Completion bytes classes marks pattern) (i : ℕ) → i < pattern.vars.count → GetsDerivable k (get_or pattern.vars.rows i 0) → (c : ℕ) → GetsClass k i c → InRow marked i c
-
-  -- what the search for completions begins with
-  pub record MarkedScene (marked : List (List Bool)) : Type 0 where
-    pub scene : Scene bytes classes marks pattern
-    pub known : MarkedDomains marked
+      (k : Completion pattern) (i : ℕ) → i < pattern.vars.count → GetsDerivable k (get_or pattern.vars.rows i 0) → (c : ℕ) → GetsClass k i c → InRow marked i c
 
   module _ (dom : List (List Bool)) where
     -- what rows need where row r gets the value of a marked cell: no need is refused, and each is met
     abbrev pub NeedsAt : ℕ → ℕ → Option (List ℕ) → Type 0
     NeedsAt r cell needs =
-        (k : Completion bytes classes marks pattern) → InDomains k dom → (y w : ℕ) → cell_of y w ≡ cell → FromMark k r y w → IsSomeAnd needs (Needed k.extension)
+        (k : Completion pattern) → InDomains k dom → (y w : ℕ) → cell_of y w ≡ cell → FromMark k r y w → IsSomeAnd needs (Needed k.extension)
 
     -- the classes that variable i gets where row r gets the value of a marked cell
     abbrev pub Matched : ℕ → ℕ → List Bool → Type 0
     Matched i r set =
-        (k : Completion bytes classes marks pattern) → InDomains k dom → (y w : ℕ) → FromMark k r y w → (c : ℕ) → GetsClass k i c → In set c
+        (k : Completion pattern) → InDomains k dom → (y w : ℕ) → FromMark k r y w → (c : ℕ) → GetsClass k i c → In set c
 
     -- something holds of each class that it gets where row r is derivable
     abbrev pub MissesNone : ℕ → ℕ → (ℕ → Type 0) → Type 0
-    MissesNone i r P = (k : Completion bytes classes marks pattern) → InDomains k dom → GetsDerivable k r → (c : ℕ) → GetsClass k i c → P c
+    MissesNone i r P = (k : Completion pattern) → InDomains k dom → GetsDerivable k r → (c : ℕ) → GetsClass k i c → P c
 
     -- a set for each row
     pub record RowsMissNone (i : ℕ) (sets : List (List Bool)) : Type 0 where
@@ -94,20 +80,19 @@ module _ (bytes classes : List ℕ) (marks : List Bool) (pattern : Pattern) wher
 
     -- what the set of row r is made of: those of its parts
     abbrev pub SetsBelow : List (List Bool) → ℕ → ℕ → List (List Bool) → Type 0
-    SetsBelow marked i r sets = MarkedScene marked × (RowsMissNone i sets × ((i < pattern.vars.count) × (r < pattern.scope.rows)))
+    SetsBelow marked i r sets = MarkedDomains marked × (RowsMissNone i sets × ((i < pattern.vars.count) × (r < pattern.scope.table.rows)))
 
     -- domains that miss no completion with which the pattern is derivable, where those before miss none
     abbrev pub CompletionsKept : List (List Bool) → Type 0
-    CompletionsKept less = (k : Completion bytes classes marks pattern) → InDomains k dom → GetsDerivable k pattern.row → InDomains k less
+    CompletionsKept less = (k : Completion pattern) → InDomains k dom → GetsDerivable k pattern.row → InDomains k less
 
     -- a test that is true where there is such a completion
     abbrev pub Completable : Bool → Type 0
-    Completable answer = (k : Completion bytes classes marks pattern) → InDomains k dom → GetsDerivable k pattern.row → answer ≡ true
+    Completable answer = (k : Completion pattern) → InDomains k dom → GetsDerivable k pattern.row → answer ≡ true
 
--- the classes that variable i gets where row r, a variable too, is derivable, whatever the table, its classes and marks
+-- the classes that variable i gets where row r, a variable too, is derivable
 abbrev pub VariableSet : Pattern → List (List Bool) → List (List Bool) → ℕ → ℕ → List Bool → Type 0
-VariableSet pattern dom marked i r set =
-    (bytes classes : List ℕ) (marks : List Bool) → MarkedScene bytes classes marks pattern marked → MissesNone bytes classes marks pattern dom i r (In set)
+VariableSet pattern dom marked i r set = MarkedDomains pattern marked → MissesNone pattern dom i r (In set)
 
 -- each domain has a class
 abbrev pub NoneEmpty : VariableRows → List (List Bool) → Type 0

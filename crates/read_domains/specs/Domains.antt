@@ -6,12 +6,11 @@ use Rattle.semantics.specs.Term.{Atom}
 use Rattle.semantics.specs.Runs.{atom_at}
 use Rattle.semantics.specs.Moves.{candidates}
 use Rattle.semantics.specs.Replay.{is_value_of}
-use Rattle.rows.specs.Rows.{rows_of, Shape}
+use Rattle.rows.specs.Rows.{rows_of}
 use Rattle.cells.specs.Cells.{cell_of, cell_count, absent}
 use Rattle.knowledge.specs.Marks.{Marked}
 use Rattle.knowledge.specs.Steps.{class_at, Inside}
-use Rattle.cells.specs.declared.Scope.{Scope}
-use Rattle.variables.specs.declared.VariableRows.{VariableRows}
+use Rattle.variables.specs.declared.found.VariableRows.{VariableRows}
 use Rattle.variables.specs.Variables.{In}
 
 -- a class is in the domain of a variable, or in the set of a row
@@ -25,10 +24,6 @@ Marks marks = MatchOption marks (Unit {0}) (λ m. length m.now ≡ cell_count)
 -- a cell counts: where there are marks, it is marked
 abbrev pub Counts : Option (Bor (List Bool)) → ℕ → ℕ → Type 0
 Counts marks y w = MatchOption marks (Unit {0}) (λ m. Marked m.now y w)
-
--- the table, classes and marks of a scope
-abbrev pub Scoped : List ℕ → List ℕ → Option (Bor (List Bool)) → Scope → Type 0
-Scoped bytes classes marks scope = Shape bytes scope.rows scope.runs × ((length classes ≡ cell_count) × Marks marks)
 
 -- row y with run w is among the values that the variable of row q may take
 abbrev pub Candidate : List ℕ → ℕ → ℕ → ℕ → ℕ → Type 0

@@ -1,11 +1,11 @@
 // The classes of the values that variables may take, and sets of classes: what a test of partial choices narrows.
 #![tactic(auto)]
 
-ghost use Rattle.std.specs.Prelude.{◌≡◌, true, List, ℕ, ◌<◌, ◌≤◌, length, get_or, count_by, IfSome};
+ghost use Rattle.std.specs.Prelude.{◌≡◌, true, List, ℕ, ◌<◌, get_or, count_by, IfSome};
 ghost use Rattle.cells.specs.Cells.{cell_count};
 ghost use Rattle.knowledge.specs.Steps.{kind_at};
 ghost use Rattle.variables.specs.Variables.{In, AreVariables};
-ghost use Rattle.read_domains.specs.Domains.{Marks, Counts, Scoped, InRow, Listed, ListedAt, Narrows, NarrowsTo, Joins, Fit, AtSlot};
+ghost use Rattle.read_domains.specs.Domains.{Marks, Counts, InRow, Listed, ListedAt, Narrows, NarrowsTo, Joins, Fit, AtSlot};
 
 use cells::{Cells, Classes, Marks, Scope};
 use variables::VariableRows;
@@ -33,13 +33,13 @@ fn add_value(set: &mut ClassSet, classes: &Classes, marks: Option<&Marks>, c: us
 }
 
 // The classes of the values that the variable of row q may take, or of those that are marked.
-fn values_of(t: &[u8], classes: &Classes, marks: Option<&Marks>, scope: Scope, q: usize) -> ClassSet
-    requires { Scoped t.now classes.now marks scope × ((q < scope.rows) × (kind_at t.now q ≡ 6)) }
-    ensures { Listed t.now scope.rows scope.runs classes.now (Counts marks.entry) q (In result) }
+fn values_of(classes: &Classes, marks: Option<&Marks>, scope: &Scope, q: usize) -> ClassSet
+    requires { Marks marks × ((q < scope.now.table.rows) × (kind_at scope.now.table.bytes.now q ≡ 6)) }
+    ensures { Listed scope.now.table.bytes.now scope.now.table.rows scope.now.table.runs classes.now (Counts marks.entry) q (In result) }
 {
     let mut set = [false; Cells::COUNT];
     for c in 0..Cells::COUNT {
-        if variables::may_take(t, scope.rows, scope.runs, q, c % 96, c / 96) {
+        if variables::may_take(&scope.table, q, c % 96, c / 96) {
             add_value(&mut set, classes, marks, c);
         }
     }
@@ -72,18 +72,17 @@ pub fn narrow_to(dom: Domains, i: usize, class: usize) -> Domains
 
 // For each variable the classes of the values that it may take, or of those that are marked.
 pub fn of_variables(
-    t: &[u8],
     classes: &Classes,
     marks: Option<&Marks>,
-    scope: Scope,
+    scope: &Scope,
     vars: VariableRows,
 ) -> Domains
-    requires { Scoped t.now classes.now marks scope × AreVariables t.now scope.rows vars }
-    ensures { (i : ℕ) → i < vars.count → Listed t.now scope.rows scope.runs classes.now (Counts marks.entry) (get_or vars.rows i 0) (InRow result i) }
+    requires { Marks marks × AreVariables scope.now.table.bytes.now scope.now.table.rows vars }
+    ensures { (i : ℕ) → i < vars.count → Listed scope.now.table.bytes.now scope.now.table.rows scope.now.table.runs classes.now (Counts marks.entry) (get_or vars.rows i 0) (InRow result i) }
 {
     let mut dom = [[true; Cells::COUNT]; 8];
     for i in 0..vars.count {
-        dom[i] = values_of(t, classes, marks, scope, vars.rows[i]);
+        dom[i] = values_of(classes, marks, scope, vars.rows[i]);
     }
     dom
 }
@@ -103,7 +102,6 @@ pub fn join(set: ClassSet, left: &ClassSet, right: &ClassSet) -> ClassSet
 
 // Whether what each variable needs is in its domain.
 pub fn fit(dom: &Domains, vars: VariableRows, need: &[u16; 96]) -> bool
-    requires { (vars.count ≤ 8) × ((j : ℕ) → j < vars.count → get_or vars.rows j 0 < 96) }
     ensures { Fit vars dom.now need.now → result ≡ true }
 {
     for j in 0..vars.count {
@@ -117,7 +115,6 @@ pub fn fit(dom: &Domains, vars: VariableRows, need: &[u16; 96]) -> bool
 
 // The place of row q among the variables, if it is one of them.
 pub fn slot_of(vars: VariableRows, q: usize) -> Option<usize>
-    requires { vars.count ≤ 8 }
     ensures { IfSome result (AtSlot vars q) }
 {
     vars.rows[..vars.count].iter().position(|row| *row == q)

@@ -2,19 +2,10 @@
 use Rattle.std.specs.Prelude.{ℕ, ◌<◌, ◌≤◌, ◌≡◌, Bool, true, List, Option, IsSomeAnd, length, get_or}
 use Rattle.semantics.specs.Term.{Term}
 use Rattle.rows.specs.Rows.{rows_of, Shape}
-use Rattle.cells.specs.Cells.{cell_of, cell_count, absent, Readings, cell_value, second_of}
+use Rattle.cells.specs.Cells.{cell_of, absent, Readings, cell_value, second_of}
 use Rattle.classes.specs.Classes.{Classes, Grows}
 use Rattle.knowledge.specs.Marks.{Has, Marked}
-use Rattle.knowledge.specs.Steps.{class_at, kind_at, left_at, Inside}
-use Rattle.cells.specs.declared.Scope.{Scope}
-
--- a row of a run that is looked at
-abbrev pub InScope : List ℕ → List ℕ → Scope → ℕ → Type 0
-InScope bytes classes scope q = Shape bytes scope.rows scope.runs × ((length classes ≡ cell_count) × ((scope.run ≤ scope.runs) × (q < scope.rows)))
-
--- one that is made of parts, and another such row in some run
-abbrev pub MadeInScope : List ℕ → List ℕ → Scope → ℕ → ℕ → ℕ → Type 0
-MadeInScope bytes classes scope q y w = InScope bytes classes scope q × ((8 ≤ kind_at bytes q) × ((y < scope.rows) × ((8 ≤ kind_at bytes y) × (w ≤ scope.runs))))
+use Rattle.knowledge.specs.Steps.{class_at, left_at, Inside}
 
 -- Old readings for which the classes are right, and new ones that grow from them in a run.
 pub record Extension (bytes : List ℕ) (n runs : ℕ) (classes : List ℕ) (u : ℕ) : Type 0 where

@@ -1,9 +1,9 @@
 // Whether a row can still get the value of a class once more variables of its run are set: what it and the rows below it need.
 #![tactic(auto)]
 
-ghost use Rattle.std.specs.Prelude.{◌≡◌, ◌<◌, ◌≤◌, length};
-ghost use Rattle.cells.specs.Cells.{cell_count};
-ghost use Rattle.read_fits.specs.Fits.{InScope, MadeInScope, Asked, PartsAsked, PassedDown, NeedsMet};
+ghost use Rattle.std.specs.Prelude.{◌<◌, ◌≤◌};
+ghost use Rattle.knowledge.specs.Steps.{kind_at};
+ghost use Rattle.read_fits.specs.Fits.{Asked, PartsAsked, PassedDown, NeedsMet};
 
 use cells::{Cells, Classes, Scope};
 use rows::Kind;
@@ -27,55 +27,56 @@ fn ask(need: &mut [u16; 96], classes: &Classes, u: usize, q: usize, class: u16) 
 // Notes that the parts of row q need the classes of the parts of row y in run w.
 fn share(
     need: &mut [u16; 96],
-    t: &[u8],
     classes: &Classes,
-    scope: Scope,
+    scope: &Scope,
     q: usize,
     y: usize,
     w: usize,
 ) -> bool
-    requires { MadeInScope t.now classes.now scope q y w }
-    ensures { PartsAsked t.now scope.rows scope.runs classes.now scope.run need.old need.new q y w result }
+    requires { (q < scope.now.table.rows) × ((8 ≤ kind_at scope.now.table.bytes.now q) × ((y < scope.now.table.rows) × ((8 ≤ kind_at scope.now.table.bytes.now y) × (w ≤ scope.now.table.runs)))) }
+    ensures { PartsAsked scope.now.table.bytes.now scope.now.table.rows scope.now.table.runs classes.now scope.now.run need.old need.new q y w result }
 {
-    let first = knowledge::class_at(classes, rows::left_of(t, y), w);
-    let second = knowledge::class_at(classes, cells::second_of(t, y), w);
-    ask(need, classes, scope.run, rows::left_of(t, q), first)
-        && ask(need, classes, scope.run, cells::second_of(t, q), second)
+    let t = &scope.table;
+    let first = knowledge::class_at(classes, t.left_of(y), w);
+    let second = knowledge::class_at(classes, cells::second_of(t.bytes, y), w);
+    ask(need, classes, scope.run, t.left_of(q), first)
+        && ask(
+            need,
+            classes,
+            scope.run,
+            cells::second_of(t.bytes, q),
+            second,
+        )
 }
 
 // Passes on to the parts of row q what the row needs: false where it cannot get that.
-fn follow(need: &mut [u16; 96], t: &[u8], classes: &Classes, scope: Scope, q: usize) -> bool
-    requires { InScope t.now classes.now scope q }
-    ensures { PassedDown t.now scope.rows scope.runs classes.now scope.run need.old need.new result }
+fn follow(need: &mut [u16; 96], classes: &Classes, scope: &Scope, q: usize) -> bool
+    requires { q < scope.now.table.rows }
+    ensures { PassedDown scope.now.table.bytes.now scope.now.table.rows scope.now.table.runs classes.now scope.now.run need.old need.new result }
 {
+    let t = &scope.table;
     let class = need[q];
-    let kind = rows::kind_of(t, q);
+    let kind = t.kind_of(q);
     if Cells::ABSENT <= class || kind < Kind::FIRST_MADE {
         return true;
     }
     let y = usize::from(class) % 96;
     let w = usize::from(class) / 96;
-    if scope.rows <= y || scope.runs < w || rows::kind_of(t, y) != kind {
+    if t.rows <= y || t.runs < w || t.kind_of(y) != kind {
         return false;
     }
-    share(need, t, classes, scope, q, y, w)
+    share(need, classes, scope, q, y, w)
 }
 
 // What row r and the rows below it need so that it gets the value of a class, unless one of them is refused that: one pass from the row down.
-pub fn needs_of(
-    t: &[u8],
-    classes: &Classes,
-    scope: Scope,
-    r: usize,
-    class: u16,
-) -> Option<[u16; 96]>
-    requires { InScope t.now classes.now scope r }
-    ensures { NeedsMet t.now scope.rows scope.runs classes.now scope.run r class result }
+pub fn needs_of(classes: &Classes, scope: &Scope, r: usize, class: u16) -> Option<[u16; 96]>
+    requires { r < scope.now.table.rows }
+    ensures { NeedsMet scope.now.table.bytes.now scope.now.table.rows scope.now.table.runs classes.now scope.now.run r class result }
 {
     let mut need = [Cells::ABSENT; 96];
     need[r] = class;
     for q in (0..=r).rev() {
-        if !follow(&mut need, t, classes, scope, q) {
+        if !follow(&mut need, classes, scope, q) {
             return None;
         }
     }

@@ -7,12 +7,12 @@ ghost use Rattle.semantics.specs.Table.{Row};
 ghost use Rattle.semantics.specs.Value.{without_variables};
 ghost use Rattle.semantics.specs.Roles.{role_length, role_records, roles_present, knowledge_fits, knowledge_in, event_fits, events_in, good_role, bad_role, absent_role_from};
 ghost use Rattle.semantics.specs.Runs.{run_length, run_records, atom_at, is_agent, good_run, bad_run};
-ghost use Rattle.rows.specs.Rows.{place_as, rows_of, Sized};
+ghost use Rattle.rows.specs.Rows.{place_as, rows_of};
 ghost use Rattle.lists.specs.Lists.{Valued};
 ghost use Rattle.records.specs.Records.{part_at, record_at, event_at, agents_in, RoleAt, TellsGood};
 
-use rows::Kind;
-use table::Table;
+use rows::{Kind, Table};
+use table::TableLimits;
 
 // The limits of a scenario, beside those of its table.
 #[derive(Drop)]
@@ -51,13 +51,13 @@ pub fn roles_present(b: &[u8]) -> usize
     ensures { (at : ℕ) → result ≡ roles_present (role_records (part_at at b.now)) }
 {
     let mut at = 0;
-    for i in 0..Table::MOST_ROLES {
+    for i in 0..TableLimits::MOST_ROLES {
         if b.len() <= at {
             return i;
         }
         at += role_length(&b[at..]);
     }
-    Table::MOST_ROLES
+    TableLimits::MOST_ROLES
 }
 
 // Where role record i begins in a block.
@@ -115,7 +115,7 @@ fn good_role(s: &[u8], n: usize, clear: &[bool; 96], roles: usize, i: usize) -> 
     if s.len() < role_length(s) {
         return false;
     }
-    if Table::MOST_ROLES <= i {
+    if TableLimits::MOST_ROLES <= i {
         return false;
     }
     if Limits::MOST_EVENTS < usize::from(s[1 + usize::from(s[0])]) {
@@ -128,18 +128,18 @@ fn good_role(s: &[u8], n: usize, clear: &[bool; 96], roles: usize, i: usize) -> 
 }
 
 // Refusal 6 of records: the place of the first role record against the rules, in a block that begins at a place.
-pub fn bad_role(b: &[u8], base: usize, t: &[u8], n: usize) -> Option<usize>
-    requires { Sized t.now n × (base ≤ 65536) }
-    ensures { result ≡ place_as (bad_role (rows_of t.now) (role_records (part_at base b.now))) }
+pub fn bad_role(b: &[u8], base: usize, t: &Table) -> Option<usize>
+    requires { base ≤ 65536 }
+    ensures { result ≡ place_as (bad_role (rows_of t.now.bytes.now) (role_records (part_at base b.now))) }
 {
-    let clear = lists::clear_rows(t, n, Kind::VARIABLE, Kind::VARIABLE);
+    let clear = lists::clear_rows(t, Kind::VARIABLE, Kind::VARIABLE);
     let roles = roles_present(b);
     let mut i = 0;
     let mut at = 0;
     // stays: records differ in length, so there is no range to go over
     while at < b.len() {
         let s = &b[at..];
-        if !good_role(s, n, &clear, roles, i) {
+        if !good_role(s, t.rows, &clear, roles, i) {
             return Some(base + at);
         }
         at += role_length(s);
@@ -149,12 +149,12 @@ pub fn bad_role(b: &[u8], base: usize, t: &[u8], n: usize) -> Option<usize>
 }
 
 // Refusal 6 of rows: the place of the first row that names an absent role, in a table that begins at a place.
-pub fn absent_role(t: &[u8], n: usize, roles: usize, base: usize) -> Option<usize>
-    requires { Sized t.now n × (base ≤ 65536) }
-    ensures { result ≡ place_as (absent_role_from roles base (rows_of t.now)) }
+pub fn absent_role(t: &Table, roles: usize, base: usize) -> Option<usize>
+    requires { base ≤ 65536 }
+    ensures { result ≡ place_as (absent_role_from roles base (rows_of t.now.bytes.now)) }
 {
-    for r in 0..n {
-        if rows::kind_of(t, r) == Kind::ROLE && roles <= rows::left_of(t, r) {
+    for r in 0..t.rows {
+        if t.kind_of(r) == Kind::ROLE && roles <= t.left_of(r) {
             return Some(base + 3 * r);
         }
     }
@@ -162,19 +162,19 @@ pub fn absent_role(t: &[u8], n: usize, roles: usize, base: usize) -> Option<usiz
 }
 
 // Whether the agent bytes of a run record are agents' rows.
-fn agents_fit(s: &[u8], t: &[u8], n: usize, roles: usize) -> bool
-    requires { Sized t.now n × ((1 + roles ≤ length s.now) × (roles ≤ 4)) }
-    ensures { result ≡ every (λ r. is_agent (atom_at (rows_of t.now) r)) (agents_in roles s.now) }
+fn agents_fit(s: &[u8], t: &Table, roles: usize) -> bool
+    requires { (1 + roles ≤ length s.now) × (roles ≤ 4) }
+    ensures { result ≡ every (λ r. is_agent (atom_at (rows_of t.now.bytes.now) r)) (agents_in roles s.now) }
 {
     s[1..1 + roles]
         .iter()
-        .all(|&agent| rows::is_agent(t, n, usize::from(agent)))
+        .all(|&agent| t.is_agent(usize::from(agent)))
 }
 
 // Whether run record i, which begins at the front, is within the rules.
-fn good_run(s: &[u8], t: &[u8], n: usize, roles: usize, i: usize) -> bool
-    requires { Sized t.now n × ((1 ≤ length s.now) × (roles ≤ 4)) }
-    ensures { (start : ℕ) → result ≡ good_run (rows_of t.now) roles i (record_at (run_length roles) start s.now) }
+fn good_run(s: &[u8], t: &Table, roles: usize, i: usize) -> bool
+    requires { (1 ≤ length s.now) × (roles ≤ 4) }
+    ensures { (start : ℕ) → result ≡ good_run (rows_of t.now.bytes.now) roles i (record_at (run_length roles) start s.now) }
 {
     if s.len() < 1 + roles {
         return false;
@@ -185,18 +185,18 @@ fn good_run(s: &[u8], t: &[u8], n: usize, roles: usize, i: usize) -> bool
     if roles <= usize::from(s[0]) {
         return false;
     }
-    agents_fit(s, t, n, roles)
+    agents_fit(s, t, roles)
 }
 
 // Refusal 8: the place of the first run record against the rules, in a block that begins at a place.
-pub fn bad_run(b: &[u8], base: usize, t: &[u8], n: usize, roles: usize) -> Option<usize>
-    requires { Sized t.now n × ((base ≤ 65536) × (roles ≤ 4)) }
-    ensures { result ≡ place_as (bad_run (rows_of t.now) roles (run_records roles (part_at base b.now))) }
+pub fn bad_run(b: &[u8], base: usize, t: &Table, roles: usize) -> Option<usize>
+    requires { (base ≤ 65536) × (roles ≤ 4) }
+    ensures { result ≡ place_as (bad_run (rows_of t.now.bytes.now) roles (run_records roles (part_at base b.now))) }
 {
     let size = 1 + roles;
     for i in 0..b.len().div_ceil(size) {
         let start = i * size;
-        if !good_run(&b[start..], t, n, roles, i) {
+        if !good_run(&b[start..], t, roles, i) {
             return Some(base + start);
         }
     }

@@ -1,75 +1,57 @@
 // The new values of a step of a trace: whether they suit its event, and the names with them.
 #![tactic(auto)]
 
-ghost use Rattle.std.specs.Prelude.{◌≡◌, ◌<◌};
+ghost use Rattle.std.specs.Prelude.{◌<◌};
 ghost use Rattle.semantics.specs.Scenario.{Scenario};
 ghost use Rattle.semantics.specs.State as definitions;
 ghost use Rattle.semantics.specs.State.{Active};
 ghost use Rattle.semantics.specs.Replay.{values_in};
-ghost use Rattle.rows.specs.Rows.{Shape};
 ghost use Rattle.state.specs.State.{NextMove};
 ghost use Rattle.replay_choices.specs.Choices.{Suited, SuitedRead};
 
 use cells::{Cells, Names};
 use records::Event;
+use rows::Table;
 use runs::RunEvent;
 use state::State;
 
 // The names with the new values of a read of run k, if they are as many as its unset variables and each may be taken.
-fn chosen(
-    names: Names,
-    t: &[u8],
-    n: usize,
-    runs: usize,
-    k: usize,
-    row: usize,
-    values: &[u8],
-) -> Option<Names>
-    requires { Shape t.now n runs × ((k < runs) × (row < n)) }
-    ensures { SuitedRead t.now runs k row names values.now result }
+fn chosen(names: Names, t: &Table, k: usize, row: usize, values: &[u8]) -> Option<Names>
+    requires { (k < t.now.runs) × (row < t.now.rows) }
+    ensures { SuitedRead t.now.bytes.now t.now.runs k row names values.now result }
 {
-    let below = variables::beneath(t, n, row);
+    let below = variables::beneath(t, row);
     let mut more = names;
     let mut from = 0;
     let mut i = 0;
     // stays: two values are taken for each variable that is found, and the test at the end is of both
-    loop {
-        let x = variables::next_unset(t, n, &names, &below, k + 1, from);
-        if x == n {
-            if values.len() <= i + 1 {
-                return Some(more);
-            }
-            return None;
-        }
+    while let Some(x) = variables::next_unset(t, &names, &below, k + 1, from) {
         if values.len() <= i + 1 {
             return None;
         }
         let r = usize::from(values[i]);
         let w = usize::from(values[i + 1]);
-        if !variables::may_take(t, n, runs, x, r, w) {
+        if !variables::may_take(t, x, r, w) {
             return None;
         }
         values::put(&mut more, x, k + 1, r, w);
         from = x + 1;
         i += 2;
     }
+    if values.len() <= i + 1 {
+        Some(more)
+    } else {
+        None
+    }
 }
 
 // The names with the new values of a step of run k, if they suit it: those of a read, and none of any other event.
-pub fn valued(
-    s: State,
-    t: &[u8],
-    n: usize,
-    runs: usize,
-    k: usize,
-    e: RunEvent,
-    values: &[u8],
-) -> Option<Names>
-    requires { Shape t.now n runs × ((k < runs) × (e.row < n)) }
-    ensures { (sc : Scenario) (d : definitions.State) (a : Active) → NextMove t.now runs k e sc d s a → Suited sc d a (values_in values.now) result }
+pub fn valued(s: State, t: &Table, k: usize, e: RunEvent, values: &[u8]) -> Option<Names>
+    requires { (k < t.now.runs) × (e.row < t.now.rows) }
+    ensures { (sc : Scenario) (d : definitions.State) (a : Active) → NextMove t.now.bytes.now t.now.runs k e sc d s a → Suited sc d a (values_in values.now) result }
 {
     if e.kind == Event::READ {
-        return chosen(s.names, t, n, runs, k, e.row, values);
+        return chosen(s.names, t, k, e.row, values);
     }
     if values.len() < 2 {
         Some(s.names)

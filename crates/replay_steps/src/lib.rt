@@ -1,18 +1,16 @@
 // One step of a trace: whether it is allowed, and the state after it.
 #![tactic(auto)]
 
-ghost use Rattle.std.specs.Prelude.{◌≡◌, ◌≤◌, length};
 ghost use Rattle.semantics.specs.Scenario.{Scenario};
 ghost use Rattle.semantics.specs.State as definitions;
-ghost use Rattle.rows.specs.Rows.{rows_of, Shape};
-ghost use Rattle.cells.specs.Cells.{cell_count};
+ghost use Rattle.rows.specs.Rows.{rows_of};
 ghost use Rattle.state.specs.State.{Given, IsState};
 ghost use Rattle.replay_steps.specs.Steps.{StepDone, Worked};
 
 use cells::{Cells, Classes, Marks, Names, Scope};
 use records::Event;
-use runs::{RunEvent, Runs};
-use state::State;
+use runs::RunEvent;
+use state::{Opened, State};
 
 // A step that is allowed: how many bytes it takes, and the state after it.
 #[derive(Drop)]
@@ -22,27 +20,19 @@ pub struct Stepped {
 }
 
 // The marks for an event with its new values, and its classes: worked on for a read, which alone has new values.
-fn worked(
-    classes: &mut Classes,
-    marks: Marks,
-    names: &Names,
-    t: &[u8],
-    scope: Scope,
-    kind: usize,
-) -> Marks
-    requires { Shape t.now scope.rows scope.runs × (scope.run ≤ scope.runs) }
-    ensures { Worked (rows_of t.now) scope.runs scope.run kind names.now classes.old marks classes.new result }
+fn worked(classes: &mut Classes, marks: Marks, names: &Names, scope: &Scope, kind: usize) -> Marks
+    ensures { Worked (rows_of scope.now.table.bytes.now) scope.now.table.runs scope.now.run kind names.now classes.old marks classes.new result }
 {
     if kind == Event::READ {
-        return state::with_names(classes, marks, names, t, scope);
+        return state::with_names(classes, marks, names, scope);
     }
     marks
 }
 
 // The step at the front of some bytes, if it is allowed: run, count of new values, two bytes for each.
-pub fn step(file: &[u8], t: &[u8], n: usize, r: Runs, s: State, trace: &[u8]) -> Option<Stepped>
-    requires { (sc : Scenario) × (d : definitions.State) × Given file.now t.now n r sc × IsState sc d s }
-    ensures { (sc : Scenario) (d : definitions.State) → Given file.now t.now n r sc → IsState sc d s → StepDone sc d trace.now result }
+pub fn step(opened: &Opened, s: State, trace: &[u8]) -> Option<Stepped>
+    requires { (sc : Scenario) × (d : definitions.State) × Given opened.now.file.now opened.now.table.bytes.now opened.now.table.rows opened.now.runs sc × IsState sc d s }
+    ensures { (sc : Scenario) (d : definitions.State) → Given opened.now.file.now opened.now.table.bytes.now opened.now.table.rows opened.now.runs sc → IsState sc d s → StepDone sc d trace.now result }
 {
     if trace.len() < 2 {
         return None;
@@ -55,6 +45,7 @@ pub fn step(file: &[u8], t: &[u8], n: usize, r: Runs, s: State, trace: &[u8]) ->
     if u == 0 {
         return None;
     }
+    let r = opened.runs;
     if r.count < u {
         return None;
     }
@@ -63,21 +54,20 @@ pub fn step(file: &[u8], t: &[u8], n: usize, r: Runs, s: State, trace: &[u8]) ->
     if r.events[k] <= j {
         return None;
     }
-    let e = runs::event_of(file, r, k, j);
-    let names = replay_choices::valued(s, t, n, r.count, k, e, &trace[2..end])?;
+    let e = runs::event_of(opened.file, r, k, j);
+    let names = replay_choices::valued(s, &opened.table, k, e, &trace[2..end])?;
     let before = s.done;
     let marks = s.marks;
     let mut classes = s.classes;
     let scope = Scope {
-        rows: n,
-        runs: r.count,
+        table: opened.table,
         run: k + 1,
     };
-    let more = worked(&mut classes, marks, &names, t, scope, e.kind);
+    let more = worked(&mut classes, marks, &names, &scope, e.kind);
     if !moves::is_allowed(&classes, &more, k, e) {
         return None;
     }
-    let after = moves::perform(&classes, more, t, n, r.count, k, e);
+    let after = moves::perform(&classes, more, &opened.table, k, e);
     let done = state::advance(before, k);
     Some(Stepped {
         length: end,

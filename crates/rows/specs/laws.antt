@@ -1,6 +1,7 @@
 -- The laws of rows, with their proofs.
 pub mod Decode
 pub mod Table
+pub mod Shape
 pub mod Places
 pub mod Agents
 pub mod Ranges

@@ -3,7 +3,7 @@
 
 ghost use Rattle.std.specs.Prelude.{◌≡◌, ◌+◌, ◌*◌, ◌<◌, length, get_or};
 ghost use Rattle.semantics.specs.Runs.{atom_at, is_agent, is_trusted};
-ghost use Rattle.rows.specs.Rows.{rows_of, Sized};
+ghost use Rattle.rows.specs.Rows.{rows_of, Shape};
 
 // The kinds of rows: atoms first, then what is made of other rows.
 #[derive(Drop)]
@@ -67,18 +67,70 @@ pub fn right_of(t: &[u8], r: usize) -> usize
     usize::from(t[3 * r + 2])
 }
 
-// Whether a row is an agent's.
-pub fn is_agent(t: &[u8], n: usize, r: usize) -> bool
-    requires { Sized t.now n }
-    ensures { result ≡ is_agent (atom_at (rows_of t.now) r) }
-{
-    r < n && kind_of(t, r) <= Kind::UNTRUSTED
+// The table of a scenario: the bytes of its rows, three for each, how many rows there are, and how many runs there are, none at role level.
+#[derive(Clone, Copy)]
+pub struct Table<'a> {
+    pub bytes: &'a [u8],
+    pub rows: usize,
+    pub runs: usize,
+    pub ghost shape: { Shape bytes.now rows runs },
 }
 
-// Whether a row is a trusted agent's.
-pub fn is_trusted(t: &[u8], n: usize, r: usize) -> bool
-    requires { Sized t.now n }
-    ensures { result ≡ is_trusted (atom_at (rows_of t.now) r) }
-{
-    r < n && kind_of(t, r) == Kind::TRUSTED
+impl<'a> Table<'a> {
+    // The table of some bytes that are one.
+    pub fn new(bytes: &'a [u8], rows: usize, runs: usize) -> Table<'a>
+        requires { Shape bytes.now rows runs }
+        ensures { (result.bytes.now ≡ bytes.now) × ((result.rows ≡ rows) × (result.runs ≡ runs)) }
+    {
+        Table { bytes, rows, runs }
+    }
+
+    // The table at role level, where there are no runs.
+    pub fn at_role_level(&self) -> Table<'a>
+        ensures { (result.bytes.now ≡ self.now.bytes.now) × ((result.rows ≡ self.now.rows) × (result.runs ≡ 0)) }
+    {
+        Table {
+            bytes: self.bytes,
+            rows: self.rows,
+            runs: 0,
+        }
+    }
+
+    // The kind of a row.
+    pub fn kind_of(&self, r: usize) -> usize
+        requires { r < self.now.rows }
+        ensures { (result ≡ get_or self.now.bytes.now (3 * r) 0) × (result < 256) }
+    {
+        kind_of(self.bytes, r)
+    }
+
+    // The left byte of a row.
+    pub fn left_of(&self, r: usize) -> usize
+        requires { r < self.now.rows }
+        ensures { (result ≡ get_or self.now.bytes.now (3 * r + 1) 0) × (result < 256) }
+    {
+        left_of(self.bytes, r)
+    }
+
+    // The right byte of a row.
+    pub fn right_of(&self, r: usize) -> usize
+        requires { r < self.now.rows }
+        ensures { (result ≡ get_or self.now.bytes.now (3 * r + 2) 0) × (result < 256) }
+    {
+        right_of(self.bytes, r)
+    }
+
+    // Whether a row is an agent's.
+    pub fn is_agent(&self, r: usize) -> bool
+        ensures { result ≡ is_agent (atom_at (rows_of self.now.bytes.now) r) }
+    {
+        r < self.rows && self.kind_of(r) <= Kind::UNTRUSTED
+    }
+
+    // Whether a row is a trusted agent's.
+    pub fn is_trusted(&self, r: usize) -> bool
+        ensures { result ≡ is_trusted (atom_at (rows_of self.now.bytes.now) r) }
+    {
+        r < self.rows && self.kind_of(r) == Kind::TRUSTED
+    }
 }

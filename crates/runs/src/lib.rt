@@ -6,11 +6,12 @@ ghost use Rattle.semantics.specs.Basic.{every};
 ghost use Rattle.semantics.specs.Runs.{atom_at, is_trusted};
 ghost use Rattle.semantics.specs.Guarantee.{Guarantee};
 ghost use Rattle.semantics.specs.Scenario.{Scenario};
-ghost use Rattle.rows.specs.Rows.{rows_of, Sized};
+ghost use Rattle.rows.specs.Rows.{rows_of};
 ghost use Rattle.answers.specs.Answers.{scenario_in, Accepts};
 ghost use Rattle.runs.specs.Runs.{RunsAt, IsRun, AgentsAt, FindsEvents, ReadsEvent, TellsTrusted};
 
 use answers::Layout;
+use rows::Table;
 
 // Where the runs stand: how many, how many agents each names; for each the offset of its record, that of its role's first event, and how many events it has.
 #[derive(Clone, Copy)]
@@ -104,18 +105,18 @@ pub fn event_of(file: &[u8], r: Runs, k: usize, j: usize) -> RunEvent
 }
 
 // Whether all agents of the run whose record begins at an offset are trusted.
-fn trusted_from(file: &[u8], t: &[u8], n: usize, start: usize, roles: usize) -> bool
-    requires { Sized t.now n × (start + roles < length file.now) }
-    ensures { (agents : List ℕ) → AgentsAt file.now start roles agents → result ≡ every (λ a. is_trusted (atom_at (rows_of t.now) a)) agents }
+fn trusted_from(file: &[u8], t: &Table, start: usize, roles: usize) -> bool
+    requires { start + roles < length file.now }
+    ensures { (agents : List ℕ) → AgentsAt file.now start roles agents → result ≡ every (λ a. is_trusted (atom_at (rows_of t.now.bytes.now) a)) agents }
 {
-    (0..roles).all(|i| rows::is_trusted(t, n, agent_of(file, start, i)))
+    (0..roles).all(|i| t.is_trusted(agent_of(file, start, i)))
 }
 
 // Whether all agents of run k are trusted.
-pub fn all_trusted(file: &[u8], t: &[u8], n: usize, r: Runs, k: usize) -> bool
-    requires { Sized t.now n × ((sc : Scenario) × RunsAt file.now sc r × Guarantee sc × (k < r.count)) }
-    ensures { TellsTrusted file.now t.now r k result }
+pub fn all_trusted(file: &[u8], t: &Table, r: Runs, k: usize) -> bool
+    requires { (sc : Scenario) × RunsAt file.now sc r × Guarantee sc × (k < r.count) }
+    ensures { TellsTrusted file.now t.now.bytes.now r k result }
 {
     let start = r.starts[k];
-    trusted_from(file, t, n, start, r.roles)
+    trusted_from(file, t, start, r.roles)
 }

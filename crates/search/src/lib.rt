@@ -15,7 +15,7 @@ use runs::Runs;
 use search_breaks::{Course, Plan, Reach};
 use search_memory::Memory;
 use search_runs::Listing;
-use state::State;
+use state::{Opened, State};
 
 // How many events the runs have together.
 fn event_count(r: Runs) -> usize
@@ -35,25 +35,20 @@ fn walk_all(trace: &mut [u8], file: &[u8], l: Layout, left: usize, list: Listing
     requires { Accepts file.now l × ((128 ≤ length trace.old) × (left < 4294967296)) }
     ensures { FindsAll (list_as list) (scenario_in file.now) left trace.old trace.new result }
 {
-    let runs = runs::runs_of(file, l);
-    let rows = l.terms.count;
-    let t = frame::block_of(file, 0);
-    let s = State::initial(file, t, rows, runs, frame::block_of(file, 3));
+    let opened = Opened::of(file, l);
+    let s = State::initial(&opened, frame::block_of(file, 3));
     let done = [State::NONE_DONE; 4];
     let names = s.names;
     let classes = s.classes;
     let marks = s.marks;
-    let variables = search_memory::variable_rows(t, rows);
+    let variables = search_memory::variable_rows(&opened.table);
     let mut memory = [0; Memory::WORDS];
     search_walk::walk(
         trace,
         &mut memory,
-        file,
-        t,
-        Plan {
+        &Plan {
             list,
-            rows,
-            runs,
+            opened,
             variables,
         },
         Course { done },
@@ -63,7 +58,7 @@ fn walk_all(trace: &mut [u8], file: &[u8], l: Layout, left: usize, list: Listing
         Reach {
             left,
             at: 0,
-            depth: event_count(runs),
+            depth: event_count(opened.runs),
         },
     )
 }

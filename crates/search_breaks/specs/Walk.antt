@@ -105,29 +105,29 @@ abbrev pub state_of : Course → List ℕ → List ℕ → List Bool → State
 state_of course names classes marks = record { done = course.done; names = names; classes = classes; marks = marks }
 
 -- a state of an accepted file that an allowed trace reaches
-pub record ReachedBy (file t : List ℕ) (plan : Plan) (sc : Scenario) (d : definitions.State) (ms : List Move) : Type 0 where
-  pub is_opened : opened file ≡ accepted sc
-  pub given : Given file t plan.rows plan.runs sc
+pub record ReachedBy (plan : Plan) (sc : Scenario) (d : definitions.State) (ms : List Move) : Type 0 where
+  pub is_opened : opened plan.opened.file.now ≡ accepted sc
+  pub given : Given plan.opened.file.now plan.opened.table.bytes.now plan.opened.table.rows plan.opened.runs sc
   pub allowed : AllowedTrace sc ms d
 
 -- as the code has it, with the place at which the trace's bytes end
-pub record Here (file t : List ℕ) (plan : Plan) (sc : Scenario) (d : definitions.State) (s : State) (ms : List Move) (at : ℕ) : Type 0 where
-  pub reached : ReachedBy file t plan sc d ms
+pub record Here (plan : Plan) (sc : Scenario) (d : definitions.State) (s : State) (ms : List Move) (at : ℕ) : Type 0 where
+  pub reached : ReachedBy plan sc d ms
   pub state : IsState sc d s
   -- also the positions of runs that the scenario does not have
   pub low : (k : ℕ) → k < 4 → get_or s.done k 0 ≤ 8
   pub place : at ≡ length (trace_bytes ms)
 
 -- one whose own trace breaks no claim
-pub record Clear (file t : List ℕ) (plan : Plan) (sc : Scenario) (d : definitions.State) (s : State) (ms : List Move) (at : ℕ) : Type 0 where
-  pub here : Here file t plan sc d s ms at
+pub record Clear (plan : Plan) (sc : Scenario) (d : definitions.State) (s : State) (ms : List Move) (at : ℕ) : Type 0 where
+  pub here : Here plan sc d s ms at
   pub unbroken : broken sc d ≡ none
 
 -- the next event of a run in it
-pub record AtMove (file t : List ℕ) (plan : Plan) (sc : Scenario) (d : definitions.State) (s : State) (ms : List Move) (at k : ℕ) (e : RunEvent) (a : Active) : Type 0 where
-  pub clear : Clear file t plan sc d s ms at
-  pub next : NextMove t plan.runs.count k e sc d s a
-  pub due : Due plan.rows plan.runs.count k e.own e.peer e.row
+pub record AtMove (plan : Plan) (sc : Scenario) (d : definitions.State) (s : State) (ms : List Move) (at k : ℕ) (e : RunEvent) (a : Active) : Type 0 where
+  pub clear : Clear plan sc d s ms at
+  pub next : NextMove plan.opened.table.bytes.now plan.opened.runs.count k e sc d s a
+  pub due : Due plan.opened.table.rows plan.opened.runs.count k e.own e.peer e.row
   pub few : get_or s.done k 0 < 8
 
 -- values chosen for the first of the variables that it sets
@@ -144,86 +144,86 @@ pub record Chosen (sc : Scenario) (d : definitions.State) (a : Active) (vs : Lis
   pub are : ValuesAre vs values
 
 -- What the functions of the walk are given. A state of some scenario, and one whose own trace breaks no claim:
-pub record SomeState (file t : List ℕ) (plan : Plan) (s : State) (at : ℕ) : Type 0 where
+pub record SomeState (plan : Plan) (s : State) (at : ℕ) : Type 0 where
   pub sc : Scenario
   pub d : definitions.State
   pub ms : List Move
-  pub here : Here file t plan sc d s ms at
+  pub here : Here plan sc d s ms at
 
-pub record SomeClear (file t : List ℕ) (plan : Plan) (s : State) (at : ℕ) : Type 0 where
+pub record SomeClear (plan : Plan) (s : State) (at : ℕ) : Type 0 where
   pub sc : Scenario
   pub d : definitions.State
   pub ms : List Move
-  pub clear : Clear file t plan sc d s ms at
+  pub clear : Clear plan sc d s ms at
 
-abbrev pub state_clear : {file t : List ℕ} {plan : Plan} {s : State} {at : ℕ} (m : SomeState file t plan s at) → broken m.sc m.d ≡ none → SomeClear file t plan s at
+abbrev pub state_clear : {plan : Plan} {s : State} {at : ℕ} (m : SomeState plan s at) → broken m.sc m.d ≡ none → SomeClear plan s at
 state_clear m unbroken = record { sc = m.sc; d = m.d; ms = m.ms; clear = record { here = m.here; unbroken = unbroken } }
 
 -- a read, with the state's own names:
-pub record SomeRead (file t : List ℕ) (plan : Plan) (course : Course) (own : List ℕ) (at : ℕ) (choice : Choice) : Type 0 where
+pub record SomeRead (plan : Plan) (course : Course) (own : List ℕ) (at : ℕ) (choice : Choice) : Type 0 where
   pub sc : Scenario
   pub d : definitions.State
   pub s : State
   pub ms : List Move
   pub a : Active
-  pub move : AtMove file t plan sc d s ms at choice.turn.run choice.turn.event a
+  pub move : AtMove plan sc d s ms at choice.turn.run choice.turn.event a
   pub is_done : course.done ≡ s.done
   pub is_own : own ≡ s.names
   pub is_read : choice.turn.event.kind ≡ 1
-  pub inside : choice.from ≤ plan.rows
-  pub under : Beneath (rows_of t) choice.turn.event.row choice.under
+  pub inside : choice.from ≤ plan.opened.table.rows
+  pub under : Beneath (rows_of plan.opened.table.bytes.now) choice.turn.event.row choice.under
 
 -- one of which some values are chosen, with the arrays that have them:
-pub record SomeChoice (file t : List ℕ) (plan : Plan) (course : Course) (own names classes : List ℕ) (marks : List Bool) (at : ℕ) (choice : Choice) : Type 0 where
-  pub read : SomeRead file t plan course own at choice
+pub record SomeChoice (plan : Plan) (course : Course) (own names classes : List ℕ) (marks : List Bool) (at : ℕ) (choice : Choice) : Type 0 where
+  pub read : SomeRead plan course own at choice
   pub xs : List Atom
   pub vs : List Value
   pub choosing : Choosing read.sc read.d read.s read.a choice.from xs vs names classes marks choice.turn.values
 
 -- a move of which all values are chosen, and one that is allowed:
-pub record SomeMove (file t : List ℕ) (plan : Plan) (course : Course) (names classes : List ℕ) (marks : List Bool) (at : ℕ) (turn : Turn) : Type 0 where
+pub record SomeMove (plan : Plan) (course : Course) (names classes : List ℕ) (marks : List Bool) (at : ℕ) (turn : Turn) : Type 0 where
   pub sc : Scenario
   pub d : definitions.State
   pub s : State
   pub ms : List Move
   pub a : Active
   pub vs : List Value
-  pub move : AtMove file t plan sc d s ms at turn.run turn.event a
+  pub move : AtMove plan sc d s ms at turn.run turn.event a
   pub is_done : course.done ≡ s.done
   pub chosen : Chosen sc d a vs names classes marks turn.values
 
-pub record SomeStep (file t : List ℕ) (plan : Plan) (course : Course) (names classes : List ℕ) (marks : List Bool) (at : ℕ) (turn : Turn) : Type 0 where
-  pub of : SomeMove file t plan course names classes marks at turn
+pub record SomeStep (plan : Plan) (course : Course) (names classes : List ℕ) (marks : List Bool) (at : ℕ) (turn : Turn) : Type 0 where
+  pub of : SomeMove plan course names classes marks at turn
   pub d' : definitions.State
   pub allowed : performed of.sc of.d of.a of.vs ≡ some d'
 
 -- What they find: the entries from the state on,
-abbrev pub FindsFrom : List ℕ → List ℕ → Plan → State → Reach → List ℕ → List ℕ → Walked → Type 0
-FindsFrom file t plan s reach before after w = (m : SomeState file t plan s reach.at) → Finds m.sc reach.left (entries_from plan reach.depth m.sc m.d) before reach.at after w
+abbrev pub FindsFrom : Plan → State → Reach → List ℕ → List ℕ → Walked → Type 0
+FindsFrom plan s reach before after w = (m : SomeState plan s reach.at) → Finds m.sc reach.left (entries_from plan reach.depth m.sc m.d) before reach.at after w
 
 -- those that go on with a run, from 0,
-abbrev pub FindsRun : List ℕ → List ℕ → Plan → State → Reach → ℕ → List ℕ → List ℕ → Walked → Type 0
-FindsRun file t plan s reach k before after w = (m : SomeClear file t plan s reach.at) → Finds m.sc reach.left (below plan m.sc reach.depth (of_run m.sc m.d k)) before reach.at after w
+abbrev pub FindsRun : Plan → State → Reach → ℕ → List ℕ → List ℕ → Walked → Type 0
+FindsRun plan s reach k before after w = (m : SomeClear plan s reach.at) → Finds m.sc reach.left (below plan m.sc reach.depth (of_run m.sc m.d k)) before reach.at after w
 
 -- those that go on with a read and the values chosen so far,
 abbrev pub read_branches : Scenario → definitions.State → Active → Choice → List Value → List (Move × definitions.State)
 read_branches sc d a choice vs = branches sc d (suc choice.turn.run) a vs (unset_from sc.rows a.progress.values a.event.row choice.from)
 
-abbrev pub FindsRead : {file t own : List ℕ} {plan : Plan} {course : Course} {at : ℕ} {choice : Choice} → SomeRead file t plan course own at choice → List Value → Reach → List ℕ → List ℕ → Walked → Type 0
+abbrev pub FindsRead : {own : List ℕ} {plan : Plan} {course : Course} {at : ℕ} {choice : Choice} → SomeRead plan course own at choice → List Value → Reach → List ℕ → List ℕ → Walked → Type 0
 FindsRead {plan = plan} {choice = choice} m vs reach before after w = Finds m.sc reach.left (below plan m.sc reach.depth (read_branches m.sc m.d m.a choice vs)) before reach.at after w
 
-abbrev pub FindsChoice : List ℕ → List ℕ → Plan → Course → List ℕ → List ℕ → List ℕ → List Bool → Reach → Choice → List ℕ → List ℕ → Walked → Type 0
-FindsChoice file t plan course own names classes marks reach choice before after w = (m : SomeChoice file t plan course own names classes marks reach.at choice) → FindsRead m.read m.vs reach before after w
+abbrev pub FindsChoice : Plan → Course → List ℕ → List ℕ → List ℕ → List Bool → Reach → Choice → List ℕ → List ℕ → Walked → Type 0
+FindsChoice plan course own names classes marks reach choice before after w = (m : SomeChoice plan course own names classes marks reach.at choice) → FindsRead m.read m.vs reach before after w
 
 -- and those that go on with one move
 abbrev pub move_branches : Scenario → definitions.State → Active → Turn → List Value → List (Move × definitions.State)
 move_branches sc d a turn vs = branches sc d (suc turn.run) a vs []
 
-abbrev pub FindsAfter : {file t names classes : List ℕ} {plan : Plan} {course : Course} {marks : List Bool} {at : ℕ} {turn : Turn} → SomeMove file t plan course names classes marks at turn → Reach → List ℕ → List ℕ → Walked → Type 0
+abbrev pub FindsAfter : {names classes : List ℕ} {plan : Plan} {course : Course} {marks : List Bool} {at : ℕ} {turn : Turn} → SomeMove plan course names classes marks at turn → Reach → List ℕ → List ℕ → Walked → Type 0
 FindsAfter {plan = plan} {turn = turn} m reach before after w = Finds m.sc reach.left (below plan m.sc reach.depth (move_branches m.sc m.d m.a turn m.vs)) before reach.at after w
 
-abbrev pub FindsMove : List ℕ → List ℕ → Plan → Course → List ℕ → List ℕ → List Bool → Reach → Turn → List ℕ → List ℕ → Walked → Type 0
-FindsMove file t plan course names classes marks reach turn before after w = (m : SomeMove file t plan course names classes marks reach.at turn) → FindsAfter m reach before after w
+abbrev pub FindsMove : Plan → Course → List ℕ → List ℕ → List Bool → Reach → Turn → List ℕ → List ℕ → Walked → Type 0
+FindsMove plan course names classes marks reach turn before after w = (m : SomeMove plan course names classes marks reach.at turn) → FindsAfter m reach before after w
 
-abbrev pub FindsStep : List ℕ → List ℕ → Plan → Course → List ℕ → List ℕ → List Bool → Reach → Turn → List ℕ → List ℕ → Walked → Type 0
-FindsStep file t plan course names classes marks reach turn before after w = (m : SomeStep file t plan course names classes marks reach.at turn) → FindsAfter m.of reach before after w
+abbrev pub FindsStep : Plan → Course → List ℕ → List ℕ → List Bool → Reach → Turn → List ℕ → List ℕ → Walked → Type 0
+FindsStep plan course names classes marks reach turn before after w = (m : SomeStep plan course names classes marks reach.at turn) → FindsAfter m.of reach before after w

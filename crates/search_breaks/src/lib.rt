@@ -6,15 +6,15 @@ ghost use Rattle.semantics.specs.State.{Value};
 ghost use Rattle.search_breaks.specs.Walk.{over, ValuesAre, StepFits, step_before};
 
 use answers::{End, Walked};
-use runs::{RunEvent, Runs};
+use runs::RunEvent;
 use search_runs::Listing;
+use state::Opened;
 
-// What a walk goes by: which list it goes through, how many rows the table has, the runs, and the rows of the table's variables.
+// What a walk goes by: which list it goes through, the file, and the rows of its table's variables.
 #[derive(Clone, Copy)]
-pub struct Plan {
+pub struct Plan<'a> {
     pub list: Listing,
-    pub rows: usize,
-    pub runs: Runs,
+    pub opened: Opened<'a>,
     pub variables: [usize; 8],
 }
 

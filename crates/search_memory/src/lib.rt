@@ -2,11 +2,10 @@
 #![tactic(auto)]
 
 ghost use Rattle.std.specs.Prelude.{◌≡◌, true, ℕ, IfSome, ◌+◌, ◌*◌, ◌/◌, ◌%◌, ◌<◌, ◌≤◌, length, get_or};
-ghost use Rattle.rows.specs.Rows.{Sized};
-ghost use Rattle.cells.specs.Cells.{cell_count};
-ghost use Rattle.search_memory.specs.Memory.{word_count, slot_count, key_size, count_end, Variables, name_of, IsKey, HoldsKey, count_at, LookedUp, Stored, Kept, Written};
+ghost use Rattle.search_memory.specs.Memory.{slot_count, key_size, count_end, Variables, name_of, IsKey, HoldsKey, count_at, LookedUp, Stored, Kept, Written};
 
 use cells::{Names, cell};
+use rows::Table;
 
 // The words of the memory: sets of slots, in each slot the words of a key and two for the count.
 #[derive(Drop)]
@@ -41,12 +40,11 @@ impl Memory {
 pub type Words = [u16; Memory::WORDS];
 
 // The rows of a table's variables; unused places hold row 0.
-pub fn variable_rows(t: &[u8], n: usize) -> [usize; 8]
-    requires { Sized t.now n }
-    ensures { Variables t.now n result }
+pub fn variable_rows(t: &Table) -> [usize; 8]
+    ensures { Variables t.now.bytes.now t.now.rows result }
 {
     let every = [true; 96];
-    let found = variables::variable_rows(t, n, &every);
+    let found = variables::variable_rows(t, &every);
     found.rows
 }
 

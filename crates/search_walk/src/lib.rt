@@ -17,33 +17,29 @@ use search_memory::Words;
 pub fn walk(
     trace: &mut [u8],
     memory: &mut Words,
-    file: &[u8],
-    t: &[u8],
-    plan: Plan,
+    plan: &Plan,
     course: Course,
     names: &Names,
     classes: &Classes,
     marks: Marks,
     reach: Reach,
 ) -> Walked
-    requires some_state { SomeState file.now t.now plan (state_of course names.now classes.now marks) reach.at }
-    requires room { Room file.now t.now plan trace.old memory.old reach }
-    ensures finds_from { FindsFrom file.now t.now plan (state_of course names.now classes.now marks) reach trace.old trace.new result }
-    ensures remembers { Remembers file.now t.now plan memory.new }
+    requires some_state { SomeState plan.now (state_of course names.now classes.now marks) reach.at }
+    requires room { Room plan.now trace.old memory.old reach }
+    ensures finds_from { FindsFrom plan.now (state_of course names.now classes.now marks) reach trace.old trace.new result }
+    ensures remembers { Remembers plan.now memory.new }
 {
     let done = course.done;
-    let claimed = claims::broken(file, t, plan.rows, plan.runs, done, marks);
+    let claimed = claims::broken(&plan.opened, done, marks);
     let mut count = search_findings::own(reach.left, claimed)?;
     if reach.depth == 0 {
         return Ok(count);
     }
-    let span = search_runs::runs_in(plan.list, file, plan.runs, done);
+    let span = search_runs::runs_in(plan.list, plan.opened.file, plan.opened.runs, done);
     for k in span.from..span.end {
         let found = walk_run(
             trace,
             memory,
-            file,
-            t,
             plan,
             course,
             names,
@@ -66,9 +62,7 @@ pub fn walk(
 fn walk_run(
     trace: &mut [u8],
     memory: &mut Words,
-    file: &[u8],
-    t: &[u8],
-    plan: Plan,
+    plan: &Plan,
     course: Course,
     names: &Names,
     classes: &Classes,
@@ -76,31 +70,29 @@ fn walk_run(
     reach: Reach,
     k: usize,
 ) -> Walked
-    requires some_clear { SomeClear file.now t.now plan (state_of course names.now classes.now marks) reach.at }
-    requires room { Room file.now t.now plan trace.old memory.old reach }
-    requires k_lt_count { k < plan.runs.count }
-    ensures finds_run { FindsRun file.now t.now plan (state_of course names.now classes.now marks) reach k trace.old trace.new result }
-    ensures remembers { Remembers file.now t.now plan memory.new }
+    requires some_clear { SomeClear plan.now (state_of course names.now classes.now marks) reach.at }
+    requires room { Room plan.now trace.old memory.old reach }
+    requires k_lt_count { k < plan.now.opened.runs.count }
+    ensures finds_run { FindsRun plan.now (state_of course names.now classes.now marks) reach k trace.old trace.new result }
+    ensures remembers { Remembers plan.now memory.new }
 {
-    let runs = plan.runs;
+    let runs = plan.opened.runs;
     let done = course.done;
     let j = done[k];
     if runs.events[k] <= j {
         return Ok(0);
     }
-    let event = runs::event_of(file, runs, k, j);
+    let event = runs::event_of(plan.opened.file, runs, k, j);
     let turn = Turn {
         run: k,
         event,
         values: search_breaks::no_values(),
     };
     if event.kind == Event::READ {
-        let under = variables::beneath(t, plan.rows, event.row);
+        let under = variables::beneath(&plan.opened.table, event.row);
         return walk_values(
             trace,
             memory,
-            file,
-            t,
             plan,
             course,
             names,
@@ -116,7 +108,7 @@ fn walk_run(
         );
     }
     walk_move(
-        trace, memory, file, t, plan, course, names, classes, marks, reach, turn,
+        trace, memory, plan, course, names, classes, marks, reach, turn,
     )
 }
 
@@ -125,9 +117,7 @@ fn walk_run(
 fn walk_values(
     trace: &mut [u8],
     memory: &mut Words,
-    file: &[u8],
-    t: &[u8],
-    plan: Plan,
+    plan: &Plan,
     course: Course,
     own: &Names,
     names: &Names,
@@ -136,38 +126,29 @@ fn walk_values(
     reach: Reach,
     choice: Choice,
 ) -> Walked
-    requires some_choice { SomeChoice file.now t.now plan course own.now names.now classes.now marks reach.at choice }
-    requires room { Room file.now t.now plan trace.old memory.old reach }
-    ensures finds_choice { FindsChoice file.now t.now plan course own.now names.now classes.now marks reach choice
-        trace.old trace.new result }
-    ensures remembers { Remembers file.now t.now plan memory.new }
+    requires some_choice { SomeChoice plan.now course own.now names.now classes.now marks reach.at choice }
+    requires room { Room plan.now trace.old memory.old reach }
+    ensures finds_choice { FindsChoice plan.now course own.now names.now classes.now marks reach choice trace.old trace.new result }
+    ensures remembers { Remembers plan.now memory.new }
 {
     let turn = choice.turn;
     let event = turn.event;
     let values = turn.values;
     let under = choice.under;
-    let x = variables::next_unset(t, plan.rows, own, &under, turn.run + 1, choice.from);
-    if x == plan.rows {
+    let t = &plan.opened.table;
+    let Some(x) = variables::next_unset(t, own, &under, turn.run + 1, choice.from) else {
         return walk_move(
-            trace, memory, file, t, plan, course, names, classes, marks, reach, turn,
+            trace, memory, plan, course, names, classes, marks, reach, turn,
         );
-    }
-    if !read_partial::may_be_read(
-        classes,
-        &marks,
-        t,
-        plan.rows,
-        plan.runs.count,
-        turn.run,
-        event,
-    ) {
+    };
+    if !read_partial::may_be_read(classes, &marks, t, turn.run, event) {
         return Ok(0);
     }
     let mut count = 0;
     let mut row = 0;
     let mut run = 0;
     // stays: each value is found from the one before it
-    while let Some(value) = variables::next_value(t, plan.rows, plan.runs.count, x, row, run) {
+    while let Some(value) = variables::next_value(t, x, row, run) {
         let mut more = [0; Cells::COUNT];
         let mut more_classes = [0; Cells::COUNT];
         let more_marks = values::tried(
@@ -176,10 +157,8 @@ fn walk_values(
             names,
             classes,
             marks,
-            t,
-            Scope {
-                rows: plan.rows,
-                runs: plan.runs.count,
+            &Scope {
+                table: *t,
                 run: choice.turn.run + 1,
             },
             x,
@@ -189,8 +168,6 @@ fn walk_values(
         let found = walk_values(
             trace,
             memory,
-            file,
-            t,
             plan,
             course,
             own,
@@ -224,9 +201,7 @@ fn walk_values(
 fn walk_move(
     trace: &mut [u8],
     memory: &mut Words,
-    file: &[u8],
-    t: &[u8],
-    plan: Plan,
+    plan: &Plan,
     course: Course,
     names: &Names,
     classes: &Classes,
@@ -234,16 +209,16 @@ fn walk_move(
     reach: Reach,
     turn: Turn,
 ) -> Walked
-    requires some_move { SomeMove file.now t.now plan course names.now classes.now marks reach.at turn }
-    requires room { Room file.now t.now plan trace.old memory.old reach }
-    ensures finds_move { FindsMove file.now t.now plan course names.now classes.now marks reach turn trace.old trace.new result }
-    ensures remembers { Remembers file.now t.now plan memory.new }
+    requires some_move { SomeMove plan.now course names.now classes.now marks reach.at turn }
+    requires room { Room plan.now trace.old memory.old reach }
+    ensures finds_move { FindsMove plan.now course names.now classes.now marks reach turn trace.old trace.new result }
+    ensures remembers { Remembers plan.now memory.new }
 {
     if !moves::is_allowed(classes, &marks, turn.run, turn.event) {
         return Ok(0);
     }
     walk_after(
-        trace, memory, file, t, plan, course, names, classes, marks, reach, turn,
+        trace, memory, plan, course, names, classes, marks, reach, turn,
     )
 }
 
@@ -253,9 +228,7 @@ fn walk_move(
 fn walk_after(
     trace: &mut [u8],
     memory: &mut Words,
-    file: &[u8],
-    t: &[u8],
-    plan: Plan,
+    plan: &Plan,
     course: Course,
     names: &Names,
     classes: &Classes,
@@ -263,10 +236,10 @@ fn walk_after(
     reach: Reach,
     turn: Turn,
 ) -> Walked
-    requires some_step { SomeStep file.now t.now plan course names.now classes.now marks reach.at turn }
-    requires room { Room file.now t.now plan trace.old memory.old reach }
-    ensures finds_step { FindsStep file.now t.now plan course names.now classes.now marks reach turn trace.old trace.new result }
-    ensures remembers { Remembers file.now t.now plan memory.new }
+    requires some_step { SomeStep plan.now course names.now classes.now marks reach.at turn }
+    requires room { Room plan.now trace.old memory.old reach }
+    ensures finds_step { FindsStep plan.now course names.now classes.now marks reach turn trace.old trace.new result }
+    ensures remembers { Remembers plan.now memory.new }
 {
     let done = course.done;
     let variables = plan.variables;
@@ -275,21 +248,11 @@ fn walk_after(
     if let Some(known) = search_memory::look_up(memory, &key) {
         return search_findings::known(reach.left, known);
     }
-    let after = moves::perform(
-        classes,
-        marks,
-        t,
-        plan.rows,
-        plan.runs.count,
-        turn.run,
-        turn.event,
-    );
+    let after = moves::perform(classes, marks, &plan.opened.table, turn.run, turn.event);
     let bytes = 2 + 2 * turn.values.count;
     let found = walk(
         trace,
         memory,
-        file,
-        t,
         plan,
         Course { done: next },
         names,

@@ -5,16 +5,40 @@ ghost use Rattle.std.specs.Prelude.{◌≡◌, ◌+◌, ◌<◌, ◌≤◌, leng
 ghost use Rattle.semantics.specs.State as definitions;
 ghost use Rattle.semantics.specs.Scenario.{Scenario};
 ghost use Rattle.semantics.specs.Guarantee.{Guarantee};
-ghost use Rattle.rows.specs.Rows.{rows_of, Shape};
-ghost use Rattle.cells.specs.Cells.{cell_count};
+ghost use Rattle.rows.specs.Rows.{rows_of};
+ghost use Rattle.answers.specs.Answers.{scenario_in, Accepts};
 ghost use Rattle.classes.specs.Classes.{Refilled};
 ghost use Rattle.knowledge.specs.Marks.{Settled};
 ghost use Rattle.runs.specs.Runs.{RunsAt};
 ghost use Rattle.state.specs.Start.{Agents};
 ghost use Rattle.state.specs.State.{Given, IsState};
 
+use answers::Layout;
 use cells::{Cells, Classes, Marks, Names, Scope};
+use rows::Table;
 use runs::Runs;
+
+// An accepted file: its bytes, its table, and where its runs stand.
+#[derive(Clone, Copy)]
+pub struct Opened<'a> {
+    pub file: &'a [u8],
+    pub table: Table<'a>,
+    pub runs: Runs,
+    pub ghost counted: { table.runs ≡ runs.count },
+}
+
+impl<'a> Opened<'a> {
+    // A file that Open accepts with a layout.
+    pub fn of(file: &'a [u8], l: Layout) -> Opened<'a>
+        requires { Accepts file.now l }
+        ensures file { result.file.now ≡ file.now }
+        ensures given { Given result.file.now result.table.bytes.now result.table.rows result.runs (scenario_in file.now) }
+    {
+        let runs = runs::runs_of(file, l);
+        let table = Table::new(frame::block_of(file, 0), l.terms.count, runs.count);
+        Opened { file, table, runs }
+    }
+}
 
 // How far each run has come, what its atoms stand for, the classes of values, and the marks, taken apart.
 #[derive(Clone, Copy)]
@@ -43,21 +67,12 @@ pub fn copy(to: &mut [u16; Cells::COUNT], from: &[u16; Cells::COUNT])
 }
 
 // The marks once the names of a run have grown; the classes are filled anew.
-pub fn with_names(
-    classes: &mut Classes,
-    marks: Marks,
-    names: &Names,
-    t: &[u8],
-    scope: Scope,
-) -> Marks
-    requires { Shape t.now scope.rows scope.runs × (scope.run ≤ scope.runs) }
-    ensures refilled { Refilled (rows_of t.now) scope.runs scope.run names.now classes.old classes.new }
-    ensures settled { Settled (rows_of t.now) scope.runs classes.new marks result }
+pub fn with_names(classes: &mut Classes, marks: Marks, names: &Names, scope: &Scope) -> Marks
+    ensures refilled { Refilled (rows_of scope.now.table.bytes.now) scope.now.table.runs scope.now.run names.now classes.old classes.new }
+    ensures settled { Settled (rows_of scope.now.table.bytes.now) scope.now.table.runs classes.new marks result }
 {
-    let n = scope.rows;
-    let runs = scope.runs;
-    classes::refill(classes, t, n, runs, names, scope.run);
-    knowledge::settle(marks, t, n, runs, classes)
+    classes::refill(classes, &scope.table, names, scope.run);
+    knowledge::settle(marks, &scope.table, classes)
 }
 
 // The agents of run u as the file has them, and none for run 0.
@@ -92,19 +107,19 @@ impl State {
     }
 
     // The state before any move: what is known is the file's list and all intruder constants.
-    pub fn initial(file: &[u8], t: &[u8], n: usize, r: Runs, list: &[u8]) -> State
-        requires { (sc : Scenario) × (Given file.now t.now n r sc × (list.now ≡ sc.knowledge)) }
-        ensures { (sc : Scenario) → Given file.now t.now n r sc → list.now ≡ sc.knowledge → IsState sc (definitions.initial sc) result }
+    pub fn initial(opened: &Opened, list: &[u8]) -> State
+        requires { (sc : Scenario) × (Given opened.now.file.now opened.now.table.bytes.now opened.now.table.rows opened.now.runs sc × (list.now ≡ sc.knowledge)) }
+        ensures { (sc : Scenario) → Given opened.now.file.now opened.now.table.bytes.now opened.now.table.rows opened.now.runs sc → list.now ≡ sc.knowledge → IsState sc (definitions.initial sc) result }
     {
-        let runs = r.count;
+        let t = &opened.table;
         let mut names = [Cells::ABSENT; Cells::COUNT];
         let mut classes = [Cells::ABSENT; Cells::COUNT];
-        for u in 0..runs + 1 {
-            let agents = agents_of(file, r, u);
-            names = state_start::entered(names, t, n, u, agents);
-            classes::refill(&mut classes, t, n, runs, &names, u);
+        for u in 0..t.runs + 1 {
+            let agents = agents_of(opened.file, opened.runs, u);
+            names = state_start::entered(names, t, u, agents);
+            classes::refill(&mut classes, t, &names, u);
         }
-        let marks = knowledge::settle(state_start::start_marks(t, n, list), t, n, runs, &classes);
+        let marks = knowledge::settle(state_start::start_marks(t, list), t, &classes);
         State {
             done: [State::NONE_DONE; 4],
             names,

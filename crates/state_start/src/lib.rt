@@ -2,19 +2,19 @@
 #![tactic(auto)]
 
 ghost use Rattle.std.specs.Prelude.{[], ◌<◌, ◌≤◌};
-ghost use Rattle.rows.specs.Rows.{rows_of, Shape};
+ghost use Rattle.rows.specs.Rows.{rows_of};
 ghost use Rattle.role_level.specs.RoleLevel.{ListedBelow};
 ghost use Rattle.state_start.specs.Start.{AreAgents, FirstName, Entered, StartMarks};
 
 use cells::{Cells, Marks, Names, cell};
-use rows::Kind;
+use rows::{Kind, Table};
 
 // The name of row r in run u, for the agents of that run and before any variable is set.
-fn name_of(t: &[u8], n: usize, r: usize, u: usize, agents: &[u8]) -> u16
-    requires { Shape t.now n 0 × ((r < n) × ((u ≤ 4) × AreAgents (rows_of t.now) agents.now)) }
-    ensures { FirstName (rows_of t.now) u agents.now r result }
+fn name_of(t: &Table, r: usize, u: usize, agents: &[u8]) -> u16
+    requires { (r < t.now.rows) × ((u ≤ 4) × AreAgents (rows_of t.now.bytes.now) agents.now) }
+    ensures { FirstName (rows_of t.now.bytes.now) u agents.now r result }
 {
-    let kind = rows::kind_of(t, r);
+    let kind = t.kind_of(r);
     if kind < Kind::ROLE {
         return r as u16;
     }
@@ -22,7 +22,7 @@ fn name_of(t: &[u8], n: usize, r: usize, u: usize, agents: &[u8]) -> u16
         return Cells::ABSENT;
     }
     if kind == Kind::ROLE {
-        return match agents.get(rows::left_of(t, r)) {
+        return match agents.get(t.left_of(r)) {
             Some(agent) => u16::from(*agent),
             None => Cells::ABSENT,
         };
@@ -34,25 +34,24 @@ fn name_of(t: &[u8], n: usize, r: usize, u: usize, agents: &[u8]) -> u16
 }
 
 // The names with those of run u filled in.
-pub fn entered(names: Names, t: &[u8], n: usize, u: usize, agents: &[u8]) -> Names
-    requires { Shape t.now n 0 × ((u ≤ 4) × AreAgents (rows_of t.now) agents.now) }
-    ensures { Entered (rows_of t.now) u agents.now names result }
+pub fn entered(names: Names, t: &Table, u: usize, agents: &[u8]) -> Names
+    requires { (u ≤ 4) × AreAgents (rows_of t.now.bytes.now) agents.now }
+    ensures { Entered (rows_of t.now.bytes.now) u agents.now names result }
 {
     let mut more = names;
-    for r in 0..n {
-        more[cell(r, u)] = name_of(t, n, r, u, agents);
+    for r in 0..t.rows {
+        more[cell(r, u)] = name_of(t, r, u, agents);
     }
     more
 }
 
 // The marks of the intruder constants.
-fn intruder_marks(t: &[u8], n: usize) -> Marks
-    requires { Shape t.now n 0 }
-    ensures { StartMarks t.now n [] result }
+fn intruder_marks(t: &Table) -> Marks
+    ensures { StartMarks t.now.bytes.now t.now.rows [] result }
 {
     let mut marks = [false; 480];
-    for r in 0..n {
-        if rows::kind_of(t, r) == Kind::INTRUDER {
+    for r in 0..t.rows {
+        if t.kind_of(r) == Kind::INTRUDER {
             marks[r] = true;
         }
     }
@@ -60,11 +59,11 @@ fn intruder_marks(t: &[u8], n: usize) -> Marks
 }
 
 // The marks of the intruder constants and of the listed rows.
-pub fn start_marks(t: &[u8], n: usize, list: &[u8]) -> Marks
-    requires { Shape t.now n 0 × ListedBelow n list.now }
-    ensures { StartMarks t.now n list.now result }
+pub fn start_marks(t: &Table, list: &[u8]) -> Marks
+    requires { ListedBelow t.now.rows list.now }
+    ensures { StartMarks t.now.bytes.now t.now.rows list.now result }
 {
-    let mut marks = intruder_marks(t, n);
+    let mut marks = intruder_marks(t);
     for r in list {
         marks[usize::from(*r)] = true;
     }

@@ -13,9 +13,9 @@ use rows::Kind;
 
 // The limits of a table.
 #[derive(Drop)]
-pub struct Table {}
+pub struct TableLimits {}
 
-impl Table {
+impl TableLimits {
     pub const MOST_ROWS: usize = 96;
 
     pub const MOST_VARIABLES: usize = 8;
@@ -54,7 +54,7 @@ fn fits_row(t: &[u8], i: usize) -> bool
     let right = rows::right_of(t, i);
     match kind {
         Kind::TRUSTED | Kind::UNTRUSTED | Kind::GLOBAL | Kind::INTRUDER | Kind::LOCAL => right == 0,
-        Kind::ROLE => left < Table::MOST_ROLES && right == 0,
+        Kind::ROLE => left < TableLimits::MOST_ROLES && right == 0,
         Kind::VARIABLE => right <= 1,
         Kind::PUBLIC_KEY | Kind::SECRET_KEY => right == 0 && agent_like(t, i, left),
         Kind::SHARED_KEY => agent_like(t, i, left) && agent_like(t, i, right),
@@ -93,7 +93,7 @@ fn row_refusal(t: &[u8], i: usize, variables: usize) -> Option<Reason>
     requires { (3 * i + 3 ≤ length t.now) × (IsTable (take (3 * i) t.now) × ((variables ≡ length (keep variable_row (rows_of (take (3 * i) t.now)))) × (variables ≤ 8))) }
     ensures { result ≡ reason_as (row_refusal (rows_of (take (3 * i) t.now)) (decoded_at t.now i)) }
 {
-    if Table::MOST_ROWS <= i || Table::MOST_VARIABLES < with_variable(t, i, variables) {
+    if TableLimits::MOST_ROWS <= i || TableLimits::MOST_VARIABLES < with_variable(t, i, variables) {
         return Some(Reason::Row);
     }
     if !fits_row(t, i) {

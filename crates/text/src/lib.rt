@@ -1,7 +1,7 @@
 // What the programs print, as bytes: Search's answer with its trace, and the limits.
 #![tactic(auto)]
 
-ghost use Rattle.std.specs.Prelude.{Ok, ◌≡◌, List, [], ◌∷◌, ◌++◌, ◌+◌, ◌*◌, ◌<◌, ◌≤◌, length};
+ghost use Rattle.std.specs.Prelude.{Ok, ◌≡◌, List, [], ◌++◌, ◌+◌, ◌*◌, ◌<◌, ◌≤◌, length};
 ghost use Rattle.semantics.specs.Basic.{joined};
 ghost use Rattle.semantics.specs.Answer.{Answer};
 ghost use Rattle.semantics.specs.State.{Value};
@@ -15,7 +15,7 @@ use answers::{Break, Refusal, Trace, Verdict};
 use frame::File;
 use records::Limits;
 use std::marker::Model;
-use table::Table;
+use table::TableLimits;
 
 // A text of at most 1024 bytes, which a contract sees as the list of its bytes.
 #[derive(Drop)]
@@ -203,9 +203,9 @@ pub fn limits_text() -> Text
     ensures { result ≡ limits_text }
 {
     let mut text = Text::new();
-    text.push_line(Table::MOST_ROWS);
-    text.push_line(Table::MOST_VARIABLES);
-    text.push_line(Table::MOST_ROLES);
+    text.push_line(TableLimits::MOST_ROWS);
+    text.push_line(TableLimits::MOST_VARIABLES);
+    text.push_line(TableLimits::MOST_ROLES);
     text.push_line(Limits::MOST_RUNS);
     text.push_line(Limits::MOST_EVENTS);
     text.push_line(File::MOST_BYTES);

@@ -1,9 +1,9 @@
 // New values of a read, given to its variables one after the other: each is one store into the names.
 #![tactic(auto)]
 
-ghost use Rattle.std.specs.Prelude.{◌≡◌, ◌<◌, ◌≤◌, length, set};
-ghost use Rattle.rows.specs.Rows.{rows_of, Shape};
-ghost use Rattle.cells.specs.Cells.{cell_of, cell_count};
+ghost use Rattle.std.specs.Prelude.{◌≡◌, ◌<◌, ◌≤◌, set};
+ghost use Rattle.rows.specs.Rows.{rows_of};
+ghost use Rattle.cells.specs.Cells.{cell_of};
 ghost use Rattle.classes.specs.Classes.{Refilled};
 ghost use Rattle.knowledge.specs.Marks.{Settled};
 
@@ -25,19 +25,18 @@ pub fn tried(
     before: &Names,
     filled: &Classes,
     marks: Marks,
-    t: &[u8],
-    scope: Scope,
+    scope: &Scope,
     x: usize,
     r: usize,
     w: usize,
 ) -> Marks
-    requires { Shape t.now scope.rows scope.runs × ((scope.run ≤ scope.runs) × ((x < 96) × ((r < 96) × (w ≤ 4)))) }
-    ensures names_after { names.new ≡ set before.now (cell_of x scope.run) (cell_of r w) }
-    ensures refilled { Refilled (rows_of t.now) scope.runs scope.run names.new filled.now classes.new }
-    ensures settled { Settled (rows_of t.now) scope.runs classes.new marks result }
+    requires { (x < 96) × ((r < 96) × (w ≤ 4)) }
+    ensures names_after { names.new ≡ set before.now (cell_of x scope.now.run) (cell_of r w) }
+    ensures refilled { Refilled (rows_of scope.now.table.bytes.now) scope.now.table.runs scope.now.run names.new filled.now classes.new }
+    ensures settled { Settled (rows_of scope.now.table.bytes.now) scope.now.table.runs classes.new marks result }
 {
     state::copy(names, before);
     put(names, x, scope.run, r, w);
     state::copy(classes, filled);
-    state::with_names(classes, marks, names, t, scope)
+    state::with_names(classes, marks, names, scope)
 }

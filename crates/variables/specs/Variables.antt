@@ -14,7 +14,7 @@ use Rattle.semantics.specs.Replay.{is_value_of}
 use Rattle.semantics.specs.Guarantee.{refers_to}
 use Rattle.cells.specs.Cells.{cell_of, absent, Canonical}
 use Rattle.variables.specs.declared.Value.{Value as CodeValue}
-use Rattle.variables.specs.declared.VariableRows.{VariableRows}
+use Rattle.variables.specs.declared.found.VariableRows.{VariableRows}
 
 -- which rows lie beneath a row
 pub record Beneath (rows : List Row) (x : ℕ) (below : List Bool) : Type 0 where

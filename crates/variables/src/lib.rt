@@ -1,16 +1,19 @@
 // The variables that a read sets, in order of their rows, and the values that a variable may take, in order of row and run.
 #![tactic(auto)]
 
-ghost use Rattle.std.specs.Prelude.{◌≡◌, false, ◌&&◌, ℕ, ◌+◌, ◌*◌, ◌<◌, ◌≤◌, eqb, length, get_or, IsTrue, ◌↔◌};
+ghost use Rattle.std.specs.Prelude.{◌≡◌, false, ◌&&◌, ℕ, ◌+◌, ◌*◌, ◌<◌, ◌≤◌, eqb, get_or, IsTrue, ◌↔◌, MatchOption};
 ghost use Rattle.std.proofs.Math.Option.{some};
 ghost use Rattle.semantics.specs.Term.{VariableType, Atom, variable};
 ghost use Rattle.semantics.specs.Runs.{atom_at};
-ghost use Rattle.rows.specs.Rows.{rows_of, Sized, Shape};
-ghost use Rattle.cells.specs.Cells.{cell_count, cell_of, absent};
+ghost use Rattle.rows.specs.Rows.{rows_of};
+ghost use Rattle.cells.specs.Cells.{cell_of, absent};
 ghost use Rattle.variables.specs.Variables.{Beneath, ClosedFrom, NextUnset, first_run, run_count, TellsValue, NextOf, NotNamed, Among, Unset};
 
+mod found;
+
 use cells::{Cells, Names};
-use rows::Kind;
+pub use found::VariableRows;
+use rows::{Kind, Table};
 
 // A value of a variable: a row, and the run in which it is read.
 #[derive(Clone, Copy, PartialEq, Eq)]
@@ -19,72 +22,61 @@ pub struct Value {
     pub run: usize,
 }
 
-// Rows of variables, and how many they are; unused places hold row 0.
-#[derive(Clone, Copy)]
-pub struct VariableRows {
-    pub rows: [usize; 8],
-    pub count: usize,
-}
-
 // Marks the parts of row r, if it is marked itself.
-fn mark_parts(below: &mut [bool; 96], t: &[u8], n: usize, r: usize)
-    requires { Sized t.now n × (r < n) }
-    ensures { (x : ℕ) → ClosedFrom (rows_of t.now) x (r + 1) below.old → ClosedFrom (rows_of t.now) x r below.new }
+fn mark_parts(below: &mut [bool; 96], t: &Table, r: usize)
+    requires { r < t.now.rows }
+    ensures { (x : ℕ) → ClosedFrom (rows_of t.now.bytes.now) x (r + 1) below.old → ClosedFrom (rows_of t.now.bytes.now) x r below.new }
 {
-    if !below[r] || rows::kind_of(t, r) < Kind::FIRST_MADE {
+    if !below[r] || t.kind_of(r) < Kind::FIRST_MADE {
         return;
     }
-    below[rows::left_of(t, r)] = true;
-    below[cells::second_of(t, r)] = true;
+    below[t.left_of(r)] = true;
+    below[cells::second_of(t.bytes, r)] = true;
 }
 
 // Which rows lie beneath row x: the row itself, and what lies beneath the rows that it refers to.
-pub fn beneath(t: &[u8], n: usize, x: usize) -> [bool; 96]
-    requires { Sized t.now n × (x < n) }
-    ensures { Beneath (rows_of t.now) x result }
+pub fn beneath(t: &Table, x: usize) -> [bool; 96]
+    requires { x < t.now.rows }
+    ensures { Beneath (rows_of t.now.bytes.now) x result }
 {
     let mut below = [false; 96];
     below[x] = true;
     for r in (0..=x).rev() {
-        mark_parts(&mut below, t, n, r);
+        mark_parts(&mut below, t, r);
     }
     below
 }
 
 // Whether row y is an unset variable of run u that is marked.
-fn is_unset(t: &[u8], names: &Names, below: &[bool; 96], u: usize, y: usize) -> bool
-    requires { (y < 96) × ((3 * y + 2 < length t.now) × (u ≤ 4)) }
-    ensures { IsTrue result ↔ NotNamed t.now names.now u below.now y }
+fn is_unset(t: &Table, names: &Names, below: &[bool; 96], u: usize, y: usize) -> bool
+    requires { (y < t.now.rows) × (u ≤ 4) }
+    ensures { IsTrue result ↔ NotNamed t.now.bytes.now names.now u below.now y }
 {
-    below[y] && rows::kind_of(t, y) == Kind::VARIABLE && names[cells::cell(y, u)] == Cells::ABSENT
+    below[y] && t.kind_of(y) == Kind::VARIABLE && names[cells::cell(y, u)] == Cells::ABSENT
 }
 
-// The first row, not below a given one, that is an unset variable of run u beneath the pattern, or n.
+// The first row, not below a given one, that is an unset variable of run u beneath the pattern, if there is one.
 pub fn next_unset(
-    t: &[u8],
-    n: usize,
+    t: &Table,
     names: &Names,
     below: &[bool; 96],
     u: usize,
     from: usize,
-) -> usize
-    requires { Sized t.now n × ((u ≤ 4) × (from ≤ n)) }
-    ensures { (pattern : ℕ) → Beneath (rows_of t.now) pattern below.now → NextUnset (rows_of t.now) names.now u pattern from result }
+) -> Option<usize>
+    requires { (u ≤ 4) × (from ≤ t.now.rows) }
+    ensures { (pattern : ℕ) → Beneath (rows_of t.now.bytes.now) pattern below.now → MatchOption result (NextUnset (rows_of t.now.bytes.now) names.now u pattern from t.now.rows) (λ x. (x < t.now.rows) × NextUnset (rows_of t.now.bytes.now) names.now u pattern from x) }
 {
-    (from..n)
-        .find(|y| is_unset(t, names, below, u, *y))
-        .unwrap_or(n)
+    (from..t.rows).find(|y| is_unset(t, names, below, u, *y))
 }
 
 // The variables of a table among the rows of a set.
-pub fn variable_rows(t: &[u8], n: usize, set: &[bool; 96]) -> VariableRows
-    requires { Sized t.now n }
-    ensures { Among t.now n set.now result }
+pub fn variable_rows(t: &Table, set: &[bool; 96]) -> VariableRows
+    ensures { Among t.now.bytes.now t.now.rows set.now result }
 {
     let mut found = [0; 8];
     let mut count = 0;
-    for x in 0..n {
-        if set[x] && rows::kind_of(t, x) == Kind::VARIABLE {
+    for x in 0..t.rows {
+        if set[x] && t.kind_of(x) == Kind::VARIABLE {
             found[count] = x;
             count += 1;
         }
@@ -108,16 +100,15 @@ fn without_value(set: [bool; 96], values: &[u16; Cells::COUNT], u: usize) -> [bo
 
 // The variables without a value in run u, by their names or classes, among the rows of a set.
 pub fn unset_rows(
-    t: &[u8],
-    n: usize,
+    t: &Table,
     values: &[u16; Cells::COUNT],
     set: [bool; 96],
     u: usize,
 ) -> VariableRows
-    requires { Sized t.now n × (u ≤ 4) }
-    ensures { Unset t.now n values.now u set result }
+    requires { u ≤ 4 }
+    ensures { Unset t.now.bytes.now t.now.rows values.now u set result }
 {
-    variable_rows(t, n, &without_value(set, values, u))
+    variable_rows(t, &without_value(set, values, u))
 }
 
 // The first run with which a row of a kind is a value: 1 for a local constant, 0 for every other.
@@ -144,38 +135,38 @@ fn run_count(kind: usize, fresh: bool, runs: usize) -> usize
 }
 
 // Whether the variable of row x is a fresh one.
-fn is_fresh(t: &[u8], x: usize) -> bool
-    requires { 3 * x + 2 < length t.now }
-    ensures { result ≡ eqb (get_or t.now (3 * x + 2) 0) 1 }
+fn is_fresh(t: &Table, x: usize) -> bool
+    requires { x < t.now.rows }
+    ensures { result ≡ eqb (get_or t.now.bytes.now (3 * x + 2) 0) 1 }
 {
-    rows::right_of(t, x) == 1
+    t.right_of(x) == 1
 }
 
 // Whether row r with run w is a value that the variable of row x may take.
-pub fn may_take(t: &[u8], n: usize, runs: usize, x: usize, r: usize, w: usize) -> bool
-    requires { Shape t.now n runs × ((x < n) × (get_or t.now (3 * x) 0 ≡ 6)) }
-    ensures { (a : Atom) → atom_at (rows_of t.now) x ≡ some a → TellsValue (rows_of t.now) runs a r w result }
+pub fn may_take(t: &Table, x: usize, r: usize, w: usize) -> bool
+    requires { (x < t.now.rows) × (get_or t.now.bytes.now (3 * x) 0 ≡ 6) }
+    ensures { (a : Atom) → atom_at (rows_of t.now.bytes.now) x ≡ some a → TellsValue (rows_of t.now.bytes.now) t.now.runs a r w result }
 {
-    if n <= r {
+    if t.rows <= r {
         return false;
     }
-    let kind = rows::kind_of(t, r);
+    let kind = t.kind_of(r);
     let first = first_run(kind);
-    first <= w && w - first < run_count(kind, is_fresh(t, x), runs)
+    first <= w && w - first < run_count(kind, is_fresh(t, x), t.runs)
 }
 
 // The first value that the variable of row x may take whose row is r and run at least w, or whose row is higher.
-pub fn next_value(t: &[u8], n: usize, runs: usize, x: usize, r: usize, w: usize) -> Option<Value>
-    requires { Shape t.now n runs × ((x < n) × (r ≤ n)) }
-    ensures { (num : ℕ) (type : VariableType) → atom_at (rows_of t.now) x ≡ some (variable num type) → NextOf (rows_of t.now) runs type r w result }
+pub fn next_value(t: &Table, x: usize, r: usize, w: usize) -> Option<Value>
+    requires { (x < t.now.rows) × (r ≤ t.now.rows) }
+    ensures { (num : ℕ) (type : VariableType) → atom_at (rows_of t.now.bytes.now) x ≡ some (variable num type) → NextOf (rows_of t.now.bytes.now) t.now.runs type r w result }
 {
     let fresh = is_fresh(t, x);
     let mut v = w;
-    for y in r..n {
-        let kind = rows::kind_of(t, y);
+    for y in r..t.rows {
+        let kind = t.kind_of(y);
         let first = first_run(kind);
         let run = v.max(first);
-        if run < first + run_count(kind, fresh, runs) {
+        if run < first + run_count(kind, fresh, t.runs) {
             return Some(Value { row: y, run });
         }
         v = 0;

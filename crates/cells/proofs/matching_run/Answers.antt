@@ -6,6 +6,6 @@ use Rattle.cells.proofs.matching_run.Goals as goal
 
 pub returns : goal.returns
 returns c =
-    let P : ℕ → Type 0 = Matches c.args.t.now c.args.classes.now c.args.a c.args.b c.args.x in
+    let P : ℕ → Type 0 = Matches c.args.t.now.bytes.now c.args.classes.now c.args.a c.args.b c.args.x in
     find-range_to _ P (λ w. P w → ⊥) (λ x y q k. search (rules, tests)) (λ x k. search (rules, tests)) (λ x k. search (rules, tests)) _ c.new.ensures.exhausted c.find.ensures.runs
     (λ none w l. none w (omega arith) (omega (arith, c.new.ensures.end))) (λ w lo hi h. (omega (arith, c.new.ensures.end), h))

@@ -23,12 +23,14 @@ lent {file} {t} {n} {r} {sc} {d} {s} given is {done} same own =
 
 pub returns : goal.returns
 returns c =
-    let file = c.args.file.now in
-    let t = c.args.t.now in
-    let Found : ℕ → Claimed → Type 0 = FoundIn file t c.args.n c.args.r c.args.marks c.args.done in
-    answered file t c.args.n c.args.r c.args.marks c.args.done c.find_map.result
+    let file = c.args.opened.now.file.now in
+    let t = c.args.opened.now.table.bytes.now in
+    let n = c.args.opened.now.table.rows in
+    let r = c.args.opened.now.runs in
+    let Found : ℕ → Claimed → Type 0 = FoundIn file t n r c.args.marks c.args.done in
+    answered file t n r c.args.marks c.args.done c.find_map.result
     (find_map-first c.find_map.result (λ k y. Found k (Some y)) (λ k. Found k None) (λ x y q k. search (rules, tests)) (λ x y k. search (rules, tests)) (λ x k. search (rules, tests)) _ c.find_map.ensures.runs
     (λ none sc d s' given is same own.
-    state-none file t c.args.n c.args.r c.args.marks c.args.done c.args.r.count (none-below file t c.args.n c.args.r c.args.marks c.args.done c.args.r.count (omega arith) (λ i l. none i (omega arith) l)) (omega arith) sc d (lent given is same own))
+    state-none file t n r c.args.marks c.args.done r.count (none-below file t n r c.args.marks c.args.done r.count (omega arith) (λ i l. none i (omega arith) l)) (omega arith) sc d (lent given is same own))
     (λ y k lo l h before sc d s' given is same own.
-    state-broken file t c.args.n c.args.r c.args.marks c.args.done k (none-below file t c.args.n c.args.r c.args.marks c.args.done k (omega arith) (λ i m. before i (omega arith) m)) l y h sc d (lent given is same own)))
+    state-broken file t n r c.args.marks c.args.done k (none-below file t n r c.args.marks c.args.done k (omega arith) (λ i m. before i (omega arith) m)) l y h sc d (lent given is same own)))

@@ -4,10 +4,7 @@ use Rattle.classes.specs.laws.Step.{filled_none, filled_next}
 use Rattle.classes.proofs.+fill.Goals as goal
 
 pub returns-then-r-eq0 : goal.returns-then-r-eq0
-returns-then-r-eq0 t c = filled_none c.args.t.now c.args.n c.args.runs c.args.u c.args.names.now c.requires.0 c.if-r-eq0.true
-
-pub fill-requires : goal.fill-requires
-fill-requires t c = (search rules, (c.requires.0, (c.requires.1.0, search rules)))
+returns-then-r-eq0 t c = filled_none c.args.t.now.bytes.now c.args.t.now.rows c.args.t.now.runs c.args.u c.args.names.now c.args.t.now.shape c.if-r-eq0.true
 
 pub returns : goal.returns
-returns t c = filled_next c.args.t.now c.args.n c.args.runs c.args.u c.args.names.now c.requires.0 c.if-r-eq0.false c.fill.ensures c.fill_row.ensures
+returns t c = filled_next c.args.t.now.bytes.now c.args.t.now.rows c.args.t.now.runs c.args.u c.args.names.now c.args.t.now.shape c.if-r-eq0.false c.fill.ensures c.fill_row.ensures

@@ -4,8 +4,8 @@ use Rattle.classes.proofs.fill_row.Goals as goal
 
 pub returns-then-classes-c-eq-ABSENT : goal.returns-then-classes-c-eq-ABSENT
 returns-then-classes-c-eq-ABSENT c =
-    row_put c.args.t.now c.args.n c.args.runs c.args.u c.args.names.now c.requires.0 c.args.x c.requires.1.1 c.requires.1.0 c.args.classes.now c.cell-c.ensures.0 c.cell-c.ensures.1 c.told-classes c.if-classes-c-eq-ABSENT.true c.class_of-class.ensures
+    row_put c.args.t.now.bytes.now c.args.t.now.rows c.args.t.now.runs c.args.u c.args.names.now c.args.t.now.shape c.args.x c.requires.1 c.requires.0 c.args.classes.now c.cell-c.ensures.0 c.cell-c.ensures.1 c.told-classes c.if-classes-c-eq-ABSENT.true c.class_of-class.ensures
 
 pub returns-else-classes-c-eq-ABSENT : goal.returns-else-classes-c-eq-ABSENT
 returns-else-classes-c-eq-ABSENT c =
-    row_kept c.args.t.now c.args.n c.args.runs c.args.u c.args.names.now c.requires.0 c.args.x c.requires.1.1 c.requires.1.0 c.args.classes.now c.cell-c.ensures.0 c.cell-c.ensures.1 c.told-classes c.if-classes-c-eq-ABSENT.false
+    row_kept c.args.t.now.bytes.now c.args.t.now.rows c.args.t.now.runs c.args.u c.args.names.now c.args.t.now.shape c.args.x c.requires.1 c.requires.0 c.args.classes.now c.cell-c.ensures.0 c.cell-c.ensures.1 c.told-classes c.if-classes-c-eq-ABSENT.false

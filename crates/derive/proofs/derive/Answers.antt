@@ -3,10 +3,12 @@ use Rattle.std.proofs.lemmas.Result.{err_from_is_err_and}
 use Rattle.derive.specs.laws.Answer.{derive-refused, derive-shape, derive-absent, derive-listed, derive-answer}
 use Rattle.derive.proofs.derive.Goals as goal
 
+pub new-t-requires : goal.new-t-requires
+new-t-requires c = derive-shape c.args.t.now c.args.list.now c.args.target c.check.ensures c.in_ok-n.was
+
 pub is_known-requires : goal.is_known-requires
 is_known-requires c =
-    let w = derive-listed c.args.t.now c.args.list.now c.args.target c.check.ensures c.in_ok-n.was c.absent_at.ensures c.in_default.is in
-    (derive-shape c.args.t.now c.args.list.now c.args.target c.check.ensures c.in_ok-n.was, (w.0, w.1))
+    rw c.new-t.ensures.1.0 (derive-listed c.args.t.now c.args.list.now c.args.target c.check.ensures c.in_ok-n.was c.absent_at.ensures c.in_default.is)
 
 pub returns-in_err-n : goal.returns-in_err-n
 returns-in_err-n c =
@@ -17,4 +19,4 @@ pub returns-in-Some : goal.returns-in-Some
 returns-in-Some c = derive-absent c.args.t.now c.args.list.now c.args.target c.check.ensures c.in_ok-n.was c.absent_at.ensures c.in-Some.is
 
 pub returns : goal.returns
-returns c = derive-answer c.args.t.now c.args.list.now c.args.target c.check.ensures c.in_ok-n.was c.absent_at.ensures c.in_default.is c.is_known.ensures
+returns c = derive-answer c.args.t.now c.args.list.now c.args.target c.check.ensures c.in_ok-n.was c.absent_at.ensures c.in_default.is (rw c.new-t.ensures.0 at c.is_known.ensures)

@@ -7,9 +7,6 @@ use Rattle.knowledge.proofs.+build.Goals as goal
 pub returns-then-r-eq0 : goal.returns-then-r-eq0
 returns-then-r-eq0 t c = stays
 
-pub build-requires : goal.build-requires
-build-requires t c = (omega (arith, c.saturating_sub-below.ensures), (c.requires.0, omega (arith, c.saturating_sub-below.ensures, c.requires.1)))
-
 pub loop-x-init : goal.loop-x-init
 loop-x-init t c = stays
 

@@ -6,4 +6,4 @@ abbrev pub decreases-build : goal.decreases-build
 decreases-build l = l.r
 
 abbrev pub invariant-loop-x : goal.invariant-loop-x
-invariant-loop-x l = Reaches l.t l.n l.runs l.classes l.initial.marks l.marks
+invariant-loop-x l = Reaches l.t.bytes.now l.t.rows l.t.runs l.classes l.initial.marks l.marks

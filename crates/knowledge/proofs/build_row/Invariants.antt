@@ -3,4 +3,4 @@ use Rattle.knowledge.specs.Steps.{Reaches}
 use Rattle.knowledge.proofs.build_row.Given as goal
 
 abbrev pub invariant-loop-u : goal.invariant-loop-u
-invariant-loop-u l = Reaches l.t l.n l.runs l.classes l.initial.marks l.marks
+invariant-loop-u l = Reaches l.t.bytes.now l.t.rows l.t.runs l.classes l.initial.marks l.marks

@@ -9,11 +9,11 @@ returns-then-kind-lt-PAIR c = other-idle c.args.x c.args.u c.kind_of-kind.ensure
 
 pub class_at-left-requires : goal.class_at-left-requires
 class_at-left-requires c =
-    (left_below c.args.t.now c.args.n c.args.runs c.requires.0 c.args.x c.requires.1.0 c.kind_of-kind.ensures.0 (omega (arith, c.if-kind-lt-PAIR.false)) c.left_of.ensures.0, omega (arith, c.requires.0.few_runs, c.requires.1.1))
+    (left_below c.args.t.now.bytes.now c.args.t.now.rows c.args.t.now.runs c.args.t.now.shape c.args.x c.requires.0 c.kind_of-kind.ensures.0 (omega (arith, c.if-kind-lt-PAIR.false)) c.left_of.ensures.0, omega (arith, c.args.t.now.shape.few_runs, c.requires.1))
 
 pub class_at-right-requires : goal.class_at-right-requires
 class_at-right-requires c =
-    ((parts_below c.args.t.now c.args.n c.args.runs c.requires.0 c.args.x c.requires.1.0 c.kind_of-kind.ensures.0 c.if-kind-lt-PAIR.false c.left_of.ensures.0 c.right_of.ensures.0).1, omega (arith, c.requires.0.few_runs, c.requires.1.1))
+    ((parts_below c.args.t.now.bytes.now c.args.t.now.rows c.args.t.now.runs c.args.t.now.shape c.args.x c.requires.0 c.kind_of-kind.ensures.0 c.if-kind-lt-PAIR.false c.left_of.ensures.0 c.right_of.ensures.0).1, omega (arith, c.args.t.now.shape.few_runs, c.requires.1))
 
 pub returns : goal.returns
 returns c =

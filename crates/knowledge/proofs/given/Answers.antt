@@ -11,5 +11,5 @@ returns-after-kind-eq-PAIR c =
     let left = is-off c.is_marked-has_left.ensures c.if-not-has_left.true in
     rw c.then_some-then-not-has_left.ensures (elim c.if-kind-eq-PAIR.branch [
       | then-kind-eq-PAIR w ↦ rw (w.then_some-is, w.if-kind-eq-PAIR.true) (pair_left refl whole left)
-      | else-kind-eq-PAIR w ↦ rw w.then_some-is (content-either c.requires.1 w.if-kind-eq-PAIR.false whole left w.opens.ensures)
+      | else-kind-eq-PAIR w ↦ rw w.then_some-is (content-either c.requires w.if-kind-eq-PAIR.false whole left w.opens.ensures)
     ])

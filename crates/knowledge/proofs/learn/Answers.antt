@@ -22,16 +22,16 @@ exact bytes n runs classes r u at marks more shape below run at-is low size lear
 
 pub returns-then-marks-c : goal.returns-then-marks-c
 returns-then-marks-c c =
-    let found : Learnt (rows_of c.args.t.now) c.args.runs c.args.classes.now c.args.r c.args.u c.args.marks c.args.marks = was_marked (rw (← c.cell-c.ensures.0) c.if-marks-c.true) in
+    let found : Learnt (rows_of c.args.t.now.bytes.now) c.args.t.now.runs c.args.classes.now c.args.r c.args.u c.args.marks c.args.marks = was_marked (rw (← c.cell-c.ensures.0) c.if-marks-c.true) in
     record {
       learnt = found;
-      learns_cell = exact c.args.t.now c.args.n c.args.runs c.args.classes.now c.args.r c.args.u c.cell-c.result c.args.marks c.args.marks c.requires.0 c.requires.1.0 c.requires.1.1 c.cell-c.ensures.0 c.cell-c.ensures.1 (search rules) found;
+      learns_cell = exact c.args.t.now.bytes.now c.args.t.now.rows c.args.t.now.runs c.args.classes.now c.args.r c.args.u c.cell-c.result c.args.marks c.args.marks c.args.t.now.shape c.requires.0 c.requires.1 c.cell-c.ensures.0 c.cell-c.ensures.1 (search rules) found;
     }
 
 pub returns : goal.returns
 returns c =
-    let found : Learnt (rows_of c.args.t.now) c.args.runs c.args.classes.now c.args.r c.args.u c.args.marks c.settle.result = is_worked {more = c.settle.result} (rw (← c.cell-c.ensures.0) c.settle.ensures) in
+    let found : Learnt (rows_of c.args.t.now.bytes.now) c.args.t.now.runs c.args.classes.now c.args.r c.args.u c.args.marks c.settle.result = is_worked {more = c.settle.result} (rw (← c.cell-c.ensures.0) c.settle.ensures) in
     record {
       learnt = found;
-      learns_cell = exact c.args.t.now c.args.n c.args.runs c.args.classes.now c.args.r c.args.u c.cell-c.result c.args.marks c.settle.result c.requires.0 c.requires.1.0 c.requires.1.1 c.cell-c.ensures.0 c.cell-c.ensures.1 (search rules) found;
+      learns_cell = exact c.args.t.now.bytes.now c.args.t.now.rows c.args.t.now.runs c.args.classes.now c.args.r c.args.u c.cell-c.result c.args.marks c.settle.result c.args.t.now.shape c.requires.0 c.requires.1 c.cell-c.ensures.0 c.cell-c.ensures.1 (search rules) found;
     }

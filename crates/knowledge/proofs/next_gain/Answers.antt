@@ -8,6 +8,6 @@ use Rattle.knowledge.proofs.next_gain.Goals as goal
 
 pub returns : goal.returns
 returns c =
-    let Row : ℕ → ℕ → Type 0 = RowGained c.args.t.now c.args.n c.args.runs c.args.classes.now c.args.marks.now in
+    let Row : ℕ → ℕ → Type 0 = RowGained c.args.t.now.bytes.now c.args.t.now.rows c.args.t.now.runs c.args.classes.now c.args.marks.now in
     find_map-range _ (λ x class. (class < absent) × Row x class) (λ x. Row x absent) (λ x y q k. search (rules, tests)) (λ x y k. search (rules, tests)) (λ x k. search (rules, tests)) _ c.find_map.ensures.runs
     (λ none. rows-idle (λ x l. none x (omega arith) l)) (λ class x lo l h. (h.0, (x, l, h.1)))

@@ -10,10 +10,7 @@ returns-in_default c = let d = c.in_default.ensures in
 
 pub class_at-agent-requires : goal.class_at-agent-requires
 class_at-agent-requires c =
-    (left_below c.args.t.now c.args.n c.args.runs c.requires _ c.if-n-x.false c.kind_of.ensures.0 (inverse-key c.in-Some.ensures).0 c.left_of.ensures.0, omega (arith, c.requires.few_runs, c.if-runs-u.false))
-
-pub found-inverse-requires : goal.found-inverse-requires
-found-inverse-requires c = (c.requires, (inverse-key c.in-Some.ensures).1)
+    (left_below c.args.t.now.bytes.now c.args.t.now.rows c.args.t.now.runs c.args.t.now.shape _ c.if-t-x.false c.kind_of.ensures.0 (inverse-key c.in-Some.ensures).0 c.left_of.ensures.0, omega (arith, c.args.t.now.shape.few_runs, c.if-t-u.false))
 
 pub returns : goal.returns
 returns c =

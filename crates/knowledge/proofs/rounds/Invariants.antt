@@ -3,7 +3,7 @@ use Rattle.knowledge.specs.Steps.{Reaches, missing}
 use Rattle.knowledge.proofs.rounds.Given as goal
 
 abbrev pub invariant-rounds : goal.invariant-rounds
-invariant-rounds l = Reaches l.t l.n l.runs l.classes l.initial.marks l.marks
+invariant-rounds l = Reaches l.t.bytes.now l.t.rows l.t.runs l.classes l.initial.marks l.marks
 
 abbrev pub decreases-rounds : goal.decreases-rounds
 decreases-rounds l = missing l.marks

@@ -8,6 +8,6 @@ use Rattle.knowledge.proofs.row_gain.Goals as goal
 
 pub returns : goal.returns
 returns c =
-    let At : ℕ → ℕ → Type 0 = GainedAt c.args.t.now c.args.n c.args.runs c.args.classes.now c.args.marks.now c.args.x in
+    let At : ℕ → ℕ → Type 0 = GainedAt c.args.t.now.bytes.now c.args.t.now.rows c.args.t.now.runs c.args.classes.now c.args.marks.now c.args.x in
     find_map-range_to _ (λ u class. (class < absent) × At u class) (λ u. At u absent) (λ x y q k. search (rules, tests)) (λ x y k. search (rules, tests)) (λ x k. search (rules, tests)) _ c.new.ensures.exhausted c.find_map.ensures.runs
     (λ none. row-idles (λ u l. none u (omega arith) (omega (arith, c.new.ensures.end)))) (λ class u lo hi h. (h.0, row-gains c.args.x u (omega (arith, c.new.ensures.end)) h.1 h.0))

@@ -5,7 +5,7 @@ use Rattle.knowledge.specs.Steps.{class_at, On, FilledCells}
 use Rattle.knowledge.proofs.spread.Given as goal
 
 abbrev pub invariant-loop-r : goal.invariant-loop-r
-invariant-loop-r l = FilledCells l.n l.runs cell_of (λ x w. On l.marks (class_at l.classes x w)) (Before l.n l.u l.r) l.out
+invariant-loop-r l = FilledCells l.t.rows l.t.runs cell_of (λ x w. On l.marks (class_at l.classes x w)) (Before l.t.rows l.u l.r) l.out
 
 abbrev pub invariant-loop-u : goal.invariant-loop-u
-invariant-loop-u l = FilledCells l.n l.runs cell_of (λ x w. On l.marks (class_at l.classes x w)) (Before l.n l.u 0) l.out
+invariant-loop-u l = FilledCells l.t.rows l.t.runs cell_of (λ x w. On l.marks (class_at l.classes x w)) (Before l.t.rows l.u 0) l.out

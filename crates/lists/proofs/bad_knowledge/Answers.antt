@@ -9,4 +9,4 @@ use Rattle.lists.proofs.bad_knowledge.Goals as goal
 pub returns : goal.returns
 returns c =
     c.unfit_row.ensures
-    ∙ ap place_as (knowledge-found (rows_of c.args.t.now) c.args.n c.clear_rows-clear.result c.requires.0.count (c.clear_rows-clear.ensures without_run bars-run) c.args.base c.args.b.now)
+    ∙ ap place_as (knowledge-found (rows_of c.args.t.now.bytes.now) c.args.t.now.rows c.clear_rows-clear.result c.args.t.now.shape.count (c.clear_rows-clear.ensures without_run bars-run) c.args.base c.args.b.now)

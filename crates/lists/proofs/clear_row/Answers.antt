@@ -15,11 +15,11 @@ returns-else-kind-low c = rw (← c.kind_of-kind.ensures.0) (clear-high _ _ _ _ 
 
 pub bounds-clear-left_of : goal.bounds-clear-left_of
 bounds-clear-left_of c =
-    omega (arith, left-lower c.args.t.now c.requires.0.table c.args.r (omega (arith, c.requires.0.count)) (omega arith), c.requires.0.few)
+    omega (arith, left-lower c.args.t.now.bytes.now c.args.t.now.shape.table c.args.r (omega (arith, c.args.t.now.shape.count)) (omega arith), c.args.t.now.shape.few)
 
 pub bounds-clear-right_of : goal.bounds-clear-right_of
 bounds-clear-right_of c =
-    omega (arith, right-lower c.args.t.now c.requires.0.table c.args.r (omega (arith, c.requires.0.count)) (omega arith), c.requires.0.few)
+    omega (arith, right-lower c.args.t.now.bytes.now c.args.t.now.shape.table c.args.r (omega (arith, c.args.t.now.shape.count)) (omega arith), c.args.t.now.shape.few)
 
 pub returns-then-kind-lt-SHARED_KEY : goal.returns-then-kind-lt-SHARED_KEY
 returns-then-kind-lt-SHARED_KEY c =

@@ -5,4 +5,4 @@ use Rattle.lists.specs.laws.Clear.{Cleared}
 use Rattle.lists.proofs.clear_rows.Given as goal
 
 abbrev pub invariant-loop-r : goal.invariant-loop-r
-invariant-loop-r l = (length l.clear ≡ 96) × Cleared l.t l.low l.high l.clear l.r
+invariant-loop-r l = (length l.clear ≡ 96) × Cleared l.t.bytes.now l.low l.high l.clear l.r

@@ -1,9 +1,9 @@
 -- Rows one above the other, each with a value: as the code finds the first that is not, and as the definitions say. Assumes nothing.
 use Prim.Native.Nat.{ℕ, suc, ◌+◌, ◌-◌, ◌≤◌, ◌<◌}
-use Rattle.std.proofs.Common.{add-zero, ap, ◌∙◌, drop_of_length-le, drop-cons, ltb-true, ltb-false, le-leb, lt-ltb, le-ltb}
+use Rattle.std.proofs.Common.{ap, ◌∙◌, drop_of_length-le, drop-cons, ltb-true, ltb-false, le-leb, lt-ltb, le-ltb}
 use Rattle.std.proofs.Math.Numerals.{add-one}
 use native.Mathlib.Omega.{arith}
-use Rattle.std.specs.Prelude.{is_some, ◌≡◌, Bool, true, false, ◌&&◌, not, ltb, leb, length, get_or, take, drop, None, Some}
+use Rattle.std.specs.Prelude.{is_some, ◌≡◌, Bool, true, false, ◌&&◌, not, ltb, leb, length, get_or, take, drop}
 use Rattle.std.proofs.Math.Path.{refl, sym, fun_ext}
 use Rattle.std.proofs.Math.Bool.{and-false, and_assoc}
 use Rattle.std.proofs.Math.Option.{Option, none, some}

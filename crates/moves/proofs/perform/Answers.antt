@@ -1,13 +1,9 @@
 -- `perform` gives the marks after a move that is allowed, by the event's kind. Assumes nothing.
-use native.Mathlib.Omega.{arith}
 use Rattle.moves.specs.laws.After.{marks-kept, marks-sent}
 use Rattle.moves.proofs.perform.Goals as goal
 
 pub returns-then-e-ne-SEND : goal.returns-then-e-ne-SEND
 returns-then-e-ne-SEND c m d' allowed = marks-kept m d' allowed c.if-e-ne-SEND.true
-
-pub learn-term-requires : goal.learn-term-requires
-learn-term-requires c = (c.requires.0, (c.requires.1.term, omega (arith, c.requires.1.is_run)))
 
 pub returns : goal.returns
 returns c m d' allowed =

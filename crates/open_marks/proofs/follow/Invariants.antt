@@ -3,7 +3,7 @@ use Rattle.std.proofs.Common.{◌<◌}
 use Rattle.open_marks.proofs.follow.Given as goal
 
 abbrev pub invariant-loop-more : goal.invariant-loop-more
-invariant-loop-more l = l.x < l.n
+invariant-loop-more l = l.x < l.t.rows
 
 abbrev pub decreases-loop-more : goal.decreases-loop-more
 decreases-loop-more l = l.x

@@ -7,9 +7,5 @@ use Rattle.open_marks.proofs.shared.Goals as goal
 pub loop-x-init : goal.loop-x-init
 loop-x-init c = (length-replicate 480 false, shared-none c.args.one.now c.args.other.now 480)
 
-pub loop-x-preserved : goal.loop-x-preserved
-loop-x-preserved c =
-    (length-set c.loop-x.both c.loop-x.x c.in_both.result ∙ c.loop-x.invariant.0, shared-more c.args.one.now c.args.other.now c.loop-x.both c.loop-x.x c.in_both.result (omega (arith, c.loop-x.invariant.0)) c.in_both.ensures c.loop-x.invariant.1)
-
 pub returns : goal.returns
 returns c = shared-less c.args.n c.loop-x.x c.args.one.now c.args.other.now c.loop-x.both c.loop-x-test.false c.loop-x.invariant.1

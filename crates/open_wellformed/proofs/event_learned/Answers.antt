@@ -5,8 +5,8 @@ use Rattle.open_wellformed.proofs.event_learned.Goals as goal
 
 pub returns-then-event-eq-READ : goal.returns-then-event-eq-READ
 returns-then-event-eq-READ c =
-    read-learns (rows_of c.args.t.now) c.args.event c.args.x c.args.marks c.if-event-eq-READ.true c.learned.result c.learned.ensures.0
+    read-learns (rows_of c.args.t.now.bytes.now) c.args.event c.args.x c.args.marks c.if-event-eq-READ.true c.learned.result c.learned.ensures.0
 
 pub returns : goal.returns
 returns c =
-    other-learns (rows_of c.args.t.now) c.args.event c.args.x c.args.marks c.if-event-eq-READ.false
+    other-learns (rows_of c.args.t.now.bytes.now) c.args.event c.args.x c.args.marks c.if-event-eq-READ.false

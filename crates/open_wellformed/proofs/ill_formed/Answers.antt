@@ -4,6 +4,7 @@ use Prim.Native.Nat.{ℕ, ◌-◌}
 use native.Mathlib.Omega.{arith}
 use mathlib.Core.List.{List}
 use lib.ListN.{length, take, drop}
+use Rattle.rows.specs.laws.Shape.{shape-sized}
 use Rattle.semantics.specs.Table.{Row}
 use Rattle.rows.specs.Rows.{rows_of}
 use Rattle.rows.specs.Rows.{Place}
@@ -17,30 +18,26 @@ found : {rows : List Row} {i : ℕ} (b : List ℕ) (at : ℕ) {p : Place} → Il
 found b at h = rw rest-whole at h
 
 pub loop-at-init : goal.loop-at-init
-loop-at-init c = (omega arith, (omega arith, block_start (rows_of c.args.t.now) c.args.base c.args.b.now c.requires.1.1))
+loop-at-init c = (omega arith, (omega arith, block_start (rows_of c.args.t.now.bytes.now) c.args.base c.args.b.now c.requires.1))
 
 pub ill_formed_role-requires : goal.ill_formed_role-requires
 ill_formed_role-requires c =
-    (c.requires.0, (c.classes_of-classes.ensures, rw rest-whole (block-good (rows_of c.args.t.now) c.args.base c.args.b.now c.loop-at.i c.loop-at.at c.loop-at.invariant.1.1 c.loop-at-test.true)))
-
-pub overflow_add-result-in-Some : goal.overflow_add-result-in-Some
-overflow_add-result-in-Some c =
-    omega (arith, event-near (found c.args.b.now c.loop-at.at c.ill_formed_role.ensures) c.in-Some.is)
+    (c.classes_of-classes.ensures, rw rest-whole (block-good (rows_of c.args.t.now.bytes.now) c.args.base c.args.b.now c.loop-at.i c.loop-at.at c.loop-at.invariant.1.1 c.loop-at-test.true))
 
 pub returns-in-Some : goal.returns-in-Some
 returns-in-Some c =
-    block-ill (rows_of c.args.t.now) c.args.base c.args.b.now c.loop-at.i c.loop-at.at c.loop-at.invariant.1.1 c.loop-at-test.true (found c.args.b.now c.loop-at.at c.ill_formed_role.ensures) c.in-Some.is
+    block-ill (rows_of c.args.t.now.bytes.now) c.args.base c.args.b.now c.loop-at.i c.loop-at.at c.loop-at.invariant.1.1 c.loop-at-test.true (found c.args.b.now c.loop-at.at c.ill_formed_role.ensures) c.in-Some.is
 
 pub loop-at-preserved : goal.loop-at-preserved
 loop-at-preserved c = (
   omega arith,
   (
     omega arith,
-    block_more (rows_of c.args.t.now) c.args.base c.args.b.now c.loop-at.i c.loop-at.at c.loop-at.invariant.1.1 c.loop-at-test.true (found c.args.b.now c.loop-at.at c.ill_formed_role.ensures) c.in_default.is
+    block_more (rows_of c.args.t.now.bytes.now) c.args.base c.args.b.now c.loop-at.i c.loop-at.at c.loop-at.invariant.1.1 c.loop-at-test.true (found c.args.b.now c.loop-at.at c.ill_formed_role.ensures) c.in_default.is
         (rw rest-whole at c.role_length-at.ensures.0),
   ),
 )
 
 pub returns : goal.returns
 returns c =
-    block_none (rows_of c.args.t.now) c.args.base c.args.b.now c.loop-at.i c.loop-at.at c.loop-at.invariant.1.1 (omega (arith, c.loop-at-test.false))
+    block_none (rows_of c.args.t.now.bytes.now) c.args.base c.args.b.now c.loop-at.i c.loop-at.at c.loop-at.invariant.1.1 (omega (arith, c.loop-at-test.false))

@@ -8,7 +8,7 @@ use Rattle.open_wellformed.proofs.ill_formed.Given as goal
 
 abbrev pub invariant-loop-at : goal.invariant-loop-at
 invariant-loop-at l =
-    (l.at ≤ length l.b + 1277) × ((l.i ≤ l.at) × BlockLeft (rows_of l.t) l.base l.b l.i l.at)
+    (l.at ≤ length l.b + 1277) × ((l.i ≤ l.at) × BlockLeft (rows_of l.t.bytes.now) l.base l.b l.i l.at)
 
 abbrev pub decreases-loop-at : goal.decreases-loop-at
 decreases-loop-at l = length l.b - l.at

@@ -3,4 +3,4 @@ use Rattle.read_completions.specs.laws.Rows.{MatchedIn}
 use Rattle.read_completions.proofs.matched.Given as goal
 
 abbrev pub invariant-loop-c : goal.invariant-loop-c
-invariant-loop-c l = MatchedIn l.t l.classes l.marks l.pattern l.dom l.i l.r l.c l.set
+invariant-loop-c l = MatchedIn l.pattern l.dom l.i l.r l.c l.set

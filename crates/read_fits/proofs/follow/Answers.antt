@@ -3,16 +3,16 @@ use mathlib.Core.Path.{refl, sym, ◌∙◌}
 use Rattle.read_fits.specs.laws.Fits.{followed-row, followed-run, followed-kind, followed-parts}
 use native.Mathlib.Omega.{arith}
 use Rattle.read_fits.proofs.follow.Goals as goal
-use Rattle.read_fits.proofs.follow.Goals.{then-scope-y-via-then-scope-y, then-scope-y-via-else-scope-y+then-scope-w, then-scope-y-via-else-scope-y+else-scope-w+then-kind_of-kind}
+use Rattle.read_fits.proofs.follow.Goals.{then-t-y-via-then-t-y, then-t-y-via-else-t-y+then-t-w, then-t-y-via-else-t-y+else-t-w+then-kind_of-kind}
 
-pub returns-then-scope-y : goal.returns-then-scope-y
-returns-then-scope-y c =
-    elim c.then-scope-y.branch [
-      | then-scope-y-via-then-scope-y w ↦ followed-row c.args.t.now c.args.scope.rows c.args.scope.runs c.args.classes.now c.args.scope.run c.args.q c.args.need.now c.requires.0.few c.requires.1.1.1 _ refl (omega arith) _ _ (rw c.from-y.ensures at w.if-scope-y.true)
-      | then-scope-y-via-else-scope-y+then-scope-w w ↦ followed-run c.args.t.now c.args.scope.rows c.args.scope.runs c.args.classes.now c.args.scope.run c.args.q c.args.need.now c.requires.0.few c.requires.1.1.1 _ refl (omega arith) _ _ (rw c.from-w.ensures at w.if-scope-w.true)
-      | then-scope-y-via-else-scope-y+else-scope-w+then-kind_of-kind w ↦
+pub returns-then-t-y : goal.returns-then-t-y
+returns-then-t-y c =
+    elim c.then-t-y.branch [
+      | then-t-y-via-then-t-y w ↦ followed-row c.args.scope.now.table.bytes.now c.args.scope.now.table.rows c.args.scope.now.table.runs c.args.classes.now c.args.scope.now.run c.args.q c.args.need.now c.args.scope.now.table.shape.few c.requires _ refl (omega arith) _ _ (rw c.from-y.ensures at w.if-t-y.true)
+      | then-t-y-via-else-t-y+then-t-w w ↦ followed-run c.args.scope.now.table.bytes.now c.args.scope.now.table.rows c.args.scope.now.table.runs c.args.classes.now c.args.scope.now.run c.args.q c.args.need.now c.args.scope.now.table.shape.few c.requires _ refl (omega arith) _ _ (rw c.from-w.ensures at w.if-t-w.true)
+      | then-t-y-via-else-t-y+else-t-w+then-kind_of-kind w ↦
           let k = c.kind_of-kind.ensures.0 in
-          followed-kind c.args.t.now c.args.scope.rows c.args.scope.runs c.args.classes.now c.args.scope.run c.args.q c.args.need.now c.requires.0.few c.requires.1.1.1 _ refl (omega arith) (omega (arith, c.if-kind-lt-FIRST_MADE.false)) _ _
+          followed-kind c.args.scope.now.table.bytes.now c.args.scope.now.table.rows c.args.scope.now.table.runs c.args.classes.now c.args.scope.now.run c.args.q c.args.need.now c.args.scope.now.table.shape.few c.requires _ refl (omega arith) (omega (arith, c.if-kind-lt-FIRST_MADE.false)) _ _
           (λ p. w.if-kind_of-kind.true (rw c.from-y.ensures at w.kind_of.ensures.0 ∙ p ∙ sym k))
     ]
 
@@ -22,8 +22,8 @@ share-requires c =
     let h = c.if-kind-lt-FIRST_MADE.false in
     let j = c.kind_of.ensures.0 in
     let same = c.if-kind_of-kind.false in
-    (c.requires, (omega arith, (c.if-scope-y.false, (omega arith, c.if-scope-w.false))))
+    (c.requires, (omega arith, (c.if-t-y.false, (omega arith, c.if-t-w.false))))
 
 pub returns : goal.returns
 returns c =
-    followed-parts c.args.t.now c.args.scope.rows c.args.scope.runs c.args.classes.now c.args.scope.run c.args.q c.args.need.now c.requires.0.few c.requires.1.1.1 _ refl (omega arith) (omega (arith, c.kind_of-kind.ensures.0, c.if-kind-lt-FIRST_MADE.false)) (rw (c.from-y.ensures, c.from-w.ensures) at c.share.ensures)
+    followed-parts c.args.scope.now.table.bytes.now c.args.scope.now.table.rows c.args.scope.now.table.runs c.args.classes.now c.args.scope.now.run c.args.q c.args.need.now c.args.scope.now.table.shape.few c.requires _ refl (omega arith) (omega (arith, c.kind_of-kind.ensures.0, c.if-kind-lt-FIRST_MADE.false)) (rw (c.from-y.ensures, c.from-w.ensures) at c.share.ensures)

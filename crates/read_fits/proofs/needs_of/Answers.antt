@@ -4,14 +4,14 @@ use native.Mathlib.Omega.{arith}
 use Rattle.read_fits.proofs.needs_of.Goals as goal
 
 pub loop-q-init : goal.loop-q-init
-loop-q-init c = λ z g. needed-start z (omega (arith, c.requires.0.few, c.requires.1.1.1)) g
+loop-q-init c = λ z g. needed-start z (omega (arith, c.args.scope.now.table.shape.few, c.requires)) g
 
 pub loop-q-preserved : goal.loop-q-preserved
-loop-q-preserved c = needs-more c.args.t.now c.args.scope.rows c.args.scope.runs c.args.classes.now c.args.scope.run c.args.r c.args.class c.loop-q.invariant c.follow.ensures
+loop-q-preserved c = needs-more c.args.scope.now.table.bytes.now c.args.scope.now.table.rows c.args.scope.now.table.runs c.args.classes.now c.args.scope.now.run c.args.r c.args.class c.loop-q.invariant c.follow.ensures
 
 pub returns-then-not-follow : goal.returns-then-not-follow
 returns-then-not-follow c =
-    needs-refused c.args.t.now c.args.scope.rows c.args.scope.runs c.args.classes.now c.args.scope.run c.args.r c.args.class c.loop-q.invariant c.follow.ensures c.if-not-follow.true
+    needs-refused c.args.scope.now.table.bytes.now c.args.scope.now.table.rows c.args.scope.now.table.runs c.args.classes.now c.args.scope.now.run c.args.r c.args.class c.loop-q.invariant c.follow.ensures c.if-not-follow.true
 
 pub returns-else-not-follow : goal.returns-else-not-follow
-returns-else-not-follow c = needs-more c.args.t.now c.args.scope.rows c.args.scope.runs c.args.classes.now c.args.scope.run c.args.r c.args.class c.loop-q.invariant c.follow.ensures
+returns-else-not-follow c = needs-more c.args.scope.now.table.bytes.now c.args.scope.now.table.rows c.args.scope.now.table.runs c.args.classes.now c.args.scope.now.run c.args.r c.args.class c.loop-q.invariant c.follow.ensures

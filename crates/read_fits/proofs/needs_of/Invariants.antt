@@ -3,4 +3,4 @@ use Rattle.read_fits.specs.laws.Fits.{Needs}
 use Rattle.read_fits.proofs.needs_of.Given as goal
 
 abbrev pub invariant-loop-q : goal.invariant-loop-q
-invariant-loop-q l = Needs l.t l.scope.rows l.scope.runs l.classes l.scope.run l.r l.class l.need
+invariant-loop-q l = Needs l.scope.table.bytes.now l.scope.table.rows l.scope.table.runs l.classes l.scope.run l.r l.class l.need

@@ -8,9 +8,9 @@ use Rattle.read_possible.proofs.fits_cell.Goals.{then-not-marked-via-then-not-ma
 pub returns-then-not-marked : goal.returns-then-not-marked
 returns-then-not-marked c = elim c.then-not-marked.branch [
   | then-not-marked-via-then-not-marked w ↦
-      take-unmarked c.args.t.now c.args.scope.rows c.args.scope.runs c.args.classes.now c.args.marks.now c.args.scope.run c.args.r c.args.y c.args.w c.cell-c.ensures.0 w.if-not-marked.true
+      take-unmarked c.args.scope.now.table.bytes.now c.args.scope.now.table.rows c.args.scope.now.table.runs c.args.classes.now c.args.marks.now c.args.scope.now.run c.args.r c.args.y c.args.w c.cell-c.ensures.0 w.if-not-marked.true
   | then-not-marked-via-else-not-marked+then-from-c w ↦
-      take-other c.args.t.now c.args.scope.rows c.args.scope.runs c.args.classes.now c.args.marks.now c.args.scope.run c.args.r c.args.y c.args.w c.cell-c.ensures.0 c.requires.0.0.1.0 c.cell-c.ensures.1 (λ e. w.if-from-c.true (w.from.ensures ∙ e))
+      take-other c.args.scope.now.table.bytes.now c.args.scope.now.table.rows c.args.scope.now.table.runs c.args.classes.now c.args.marks.now c.args.scope.now.run c.args.r c.args.y c.args.w c.cell-c.ensures.0 c.told-classes c.cell-c.ensures.1 (λ e. w.if-from-c.true (w.from.ensures ∙ e))
 ]
 
 -- a value that has something is there
@@ -20,5 +20,5 @@ there (Some x) P h = refl
 
 pub returns : goal.returns
 returns c =
-    take-fits c.args.t.now c.args.scope.rows c.args.scope.runs c.args.classes.now c.args.marks.now c.args.scope.run c.args.r c.args.y c.args.w c.cell-c.ensures.0
+    take-fits c.args.scope.now.table.bytes.now c.args.scope.now.table.rows c.args.scope.now.table.runs c.args.classes.now c.args.marks.now c.args.scope.now.run c.args.r c.args.y c.args.w c.cell-c.ensures.0
     (sym c.from.ensures ∙ c.if-from-c.false) (λ g. c.is_some.ensures ∙ there c.needs_of.result _ (c.needs_of.ensures g.0 g.1))

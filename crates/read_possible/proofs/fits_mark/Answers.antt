@@ -6,4 +6,4 @@ use Rattle.read_possible.proofs.fits_mark.Goals as goal
 
 pub returns : goal.returns
 returns c = λ y w i e can.
-    any-true c.any.result (TakesIn c.args.t.now c.args.scope.rows c.args.scope.runs c.args.classes.now c.args.scope.run c.args.marks.now c.args.r) (λ x y q k. search (rules, tests)) (λ x k. search (rules, tests)) _ c.any.ensures.runs y (omega arith) (omega (arith, i.0)) (w, i.1, e, can)
+    any-true c.any.result (TakesIn c.args.scope.now.table.bytes.now c.args.scope.now.table.rows c.args.scope.now.table.runs c.args.classes.now c.args.scope.now.run c.args.marks.now c.args.r) (λ x y q k. search (rules, tests)) (λ x k. search (rules, tests)) _ c.any.ensures.runs y (omega arith) (omega (arith, i.0)) (w, i.1, e, can)

@@ -3,4 +3,4 @@ use Rattle.read_possible.specs.laws.Tests.{tested-start}
 use Rattle.read_possible.proofs.possible.Goals as goal
 
 pub loop-r-init : goal.loop-r-init
-loop-r-init c = tested-start c.args.t.now c.args.scope.runs c.args.classes.now c.args.marks.now c.args.scope.run
+loop-r-init c = tested-start c.args.scope.now.table.bytes.now c.args.scope.now.table.runs c.args.classes.now c.args.marks.now c.args.scope.now.run

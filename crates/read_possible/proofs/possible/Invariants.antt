@@ -3,4 +3,4 @@ use Rattle.read_possible.specs.Tests.{TestedRows}
 use Rattle.read_possible.proofs.possible.Given as goal
 
 abbrev pub invariant-loop-r : goal.invariant-loop-r
-invariant-loop-r l = TestedRows l.t l.scope.runs l.classes l.marks l.scope.run l.can
+invariant-loop-r l = TestedRows l.scope.table.bytes.now l.scope.table.runs l.classes l.marks l.scope.run l.can

@@ -6,4 +6,4 @@ use Rattle.records.specs.laws.Absent.{absent_left}
 use Rattle.records.proofs.absent_role.Given as goal
 
 abbrev pub invariant-loop-r : goal.invariant-loop-r
-invariant-loop-r l = absent_role_from l.roles l.base (rows_of l.t) ≡ absent_left l.t l.roles l.base l.r
+invariant-loop-r l = absent_role_from l.roles l.base (rows_of l.t.bytes.now) ≡ absent_left l.t.bytes.now l.roles l.base l.r

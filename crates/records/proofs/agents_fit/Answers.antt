@@ -11,7 +11,7 @@ use Rattle.records.proofs.agents_fit.Goals as goal
 
 pub returns : goal.returns
 returns c =
-    let agent : ℕ → Bool = λ r. is_agent (atom_at (rows_of c.args.t.now) r) in
+    let agent : ℕ → Bool = λ r. is_agent (atom_at (rows_of c.args.t.now.bytes.now) r) in
     let part = take (1 + c.args.roles - 1) (drop 1 c.args.s.now) in
     all_from_yields_List {all = part} (agent) _ _ _ c.all.ensures.ran (YieldsList-from_slice part cc) (λ x b q k. search (rules, tests))
     ∙ all-every (agent) part ∙ ap (every (agent)) (agents-part c.args.roles c.args.s.now)

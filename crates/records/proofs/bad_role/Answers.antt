@@ -15,19 +15,19 @@ use Rattle.records.proofs.bad_role.Goals.{After-good_role}
 use Rattle.records.proofs.bad_role.Goals as goal
 
 -- what the call tells is told of the role record at the place
-judged : (c : After-good_role) → good_role (rows_of c.args.t.now) c.roles_present-roles.result c.loop-at.i (record_at role_length (c.args.base + c.loop-at.at) (drop c.loop-at.at c.args.b.now)) ≡ c.good_role.result
-judged c = sym (rw rest-whole at (c.good_role.ensures (rows_of c.args.t.now) (c.args.base + c.loop-at.at) c.requires.0.count (c.clear_rows-clear.ensures without_variables bars-variables)))
+judged : (c : After-good_role) → good_role (rows_of c.args.t.now.bytes.now) c.roles_present-roles.result c.loop-at.i (record_at role_length (c.args.base + c.loop-at.at) (drop c.loop-at.at c.args.b.now)) ≡ c.good_role.result
+judged c = sym (rw rest-whole at (c.good_role.ensures (rows_of c.args.t.now.bytes.now) (c.args.base + c.loop-at.at) c.args.t.now.shape.count (c.clear_rows-clear.ensures without_variables bars-variables)))
 
 pub loop-at-init : goal.loop-at-init
 loop-at-init c = (
   omega arith,
-  (omega arith, roles-all (rows_of c.args.t.now) c.args.base c.args.b.now c.roles_present-roles.result (c.roles_present-roles.ensures c.args.base)),
+  (omega arith, roles-all (rows_of c.args.t.now.bytes.now) c.args.base c.args.b.now c.roles_present-roles.result (c.roles_present-roles.ensures c.args.base)),
 )
 
 pub returns-then-not-good_role : goal.returns-then-not-good_role
 returns-then-not-good_role c =
     sym (ap place_as (c.loop-at.invariant.1.1 ∙ bad-here role_length role-bytes c.args.base c.args.b.now c.loop-at.at c.loop-at-test.true
-    (good_role (rows_of c.args.t.now) c.roles_present-roles.result) c.loop-at.i (judged (goal.at.returns-then-not-good_role c).After-good_role ∙ c.if-not-good_role.true)))
+    (good_role (rows_of c.args.t.now.bytes.now) c.roles_present-roles.result) c.loop-at.i (judged (goal.at.returns-then-not-good_role c).After-good_role ∙ c.if-not-good_role.true)))
 
 pub loop-at-preserved : goal.loop-at-preserved
 loop-at-preserved c = (
@@ -36,10 +36,10 @@ loop-at-preserved c = (
     omega arith,
     rw (rw rest-whole at c.role_length-at.ensures.0)
         (c.loop-at.invariant.1.1 ∙ bad-later role_length role-bytes c.args.base c.args.b.now c.loop-at.at c.loop-at-test.true
-        (good_role (rows_of c.args.t.now) c.roles_present-roles.result) c.loop-at.i (judged (goal.at.loop-at-preserved c).After-good_role ∙ c.if-not-good_role.false)),
+        (good_role (rows_of c.args.t.now.bytes.now) c.roles_present-roles.result) c.loop-at.i (judged (goal.at.loop-at-preserved c).After-good_role ∙ c.if-not-good_role.false)),
   ),
 )
 
 pub returns : goal.returns
 returns c =
-    sym (ap place_as (c.loop-at.invariant.1.1 ∙ bad-none role_length c.args.base c.args.b.now c.loop-at.at c.loop-at-test.false (good_role (rows_of c.args.t.now) c.roles_present-roles.result) c.loop-at.i))
+    sym (ap place_as (c.loop-at.invariant.1.1 ∙ bad-none role_length c.args.base c.args.b.now c.loop-at.at c.loop-at-test.false (good_role (rows_of c.args.t.now.bytes.now) c.roles_present-roles.result) c.loop-at.i))

@@ -13,7 +13,7 @@ use Rattle.records.proofs.bad_role.Given as goal
 abbrev pub invariant-loop-at : goal.invariant-loop-at
 invariant-loop-at l =
     (l.at ≤ length l.b + 1277)
-    × ((l.i ≤ l.at) × (bad_role (rows_of l.t) (role_records (part_at l.base l.b)) ≡ first_bad (good_role (rows_of l.t) l.roles) l.i (records_left role_length l.base l.b l.at)))
+    × ((l.i ≤ l.at) × (bad_role (rows_of l.t.bytes.now) (role_records (part_at l.base l.b)) ≡ first_bad (good_role (rows_of l.t.bytes.now) l.roles) l.i (records_left role_length l.base l.b l.at)))
 
 abbrev pub decreases-loop-at : goal.decreases-loop-at
 decreases-loop-at l = length l.b - l.at

@@ -10,5 +10,5 @@ use Rattle.records.proofs.bad_run.Given as goal
 
 abbrev pub invariant-loop-i : goal.invariant-loop-i
 invariant-loop-i l =
-    bad_run (rows_of l.t) l.roles (run_records l.roles (part_at l.base l.b))
-    ≡ first_bad (good_run (rows_of l.t) l.roles) l.i (records_left (run_length l.roles) l.base l.b (l.i * (1 + l.roles)))
+    bad_run (rows_of l.t.bytes.now) l.roles (run_records l.roles (part_at l.base l.b))
+    ≡ first_bad (good_run (rows_of l.t.bytes.now) l.roles) l.i (records_left (run_length l.roles) l.base l.b (l.i * (1 + l.roles)))

@@ -2,108 +2,103 @@
 use native.Mathlib.Omega.{arith}
 use borrow.Author.Rules.{rules}
 use Prim.Native.Nat.{ℕ, ◌+◌}
-use mathlib.Core.Path.{◌≡◌, sym, ap, subst, ◌∙◌}
+use mathlib.Core.Path.{refl, sym, ap, subst, ◌∙◌}
 use mathlib.Core.List.{List}
 use lib.ListN.{length, get_or}
 use Rattle.semantics.specs.Table.{Row}
 use Rattle.semantics.specs.Runs.{atom_at}
 use Rattle.rows.specs.Rows.{rows_of}
-use Rattle.cells.specs.Cells.{cell_count}
-use Rattle.cells.specs.laws.Shape.{shape-sized}
 use Rattle.variables.specs.Variables.{NextUnset, TellsValue}
 use Rattle.values.specs.laws.Next.{no_more, another, variable-found}
 use Rattle.replay_choices.specs.laws.Values.{ValuesPart, part_none, part-suits, part-long, part-short, part-not, part-more, value-fits, taken-value, no_value, may-carry, part-carry}
 use Rattle.replay_choices.proofs.chosen.Goals as goal
 
-pub beneath-below-requires : goal.beneath-below-requires
-beneath-below-requires c = (shape-sized c.requires.0, c.requires.1.1)
-
-pub loop-names-init : goal.loop-names-init
-loop-names-init c =
+pub loop-x-init : goal.loop-x-init
+loop-x-init c =
     let v = c.args.values.now in
     (omega arith, omega arith, λ e sc d s a next same row kind. subst (λ (m : List ℕ). ValuesPart sc d a s.names v 0 0 m) (sym same) (part_none next kind v), search rules)
 
-pub next_unset-x-requires : goal.next_unset-x-requires
-next_unset-x-requires c =
-    let size : length c.args.names ≡ cell_count = search rules in
-    (shape-sized c.requires.0, (omega (arith, c.requires.0.few_runs, c.requires.1.0), c.loop-names.invariant.0))
+pub next_unset-requires : goal.next_unset-requires
+next_unset-requires c = (omega (arith, c.args.t.now.shape.few_runs, c.requires.0), c.loop-x.invariant.0)
 
 pub overflow_add-i : goal.overflow_add-i
-overflow_add-i c = record { fits = omega (arith, c.loop-names.invariant.0, c.loop-names.invariant.1, c.requires.0.few) }
+overflow_add-i c = record { fits = omega (arith, c.loop-x.invariant.0, c.loop-x.invariant.1, c.args.t.now.shape.few) }
 
-pub returns-then-values-i : goal.returns-then-values-i
-returns-then-values-i c e sc d s a next same row kind =
-    let view = c.next_unset-x.ensures _ c.beneath-below.ensures in
-    let view' : NextUnset (rows_of c.args.t.now) s.names (c.args.k + 1) e.row c.loop-names.from c.next_unset-x.result = rw (← same, ← row) view in
-    part-suits next kind _ c.loop-names.from c.loop-names.i c.loop-names.more (c.loop-names.invariant.2 e sc d s a next same row kind) (no_more next c.requires.0.count c.loop-names.from _ view' c.if-x-n.true) c.if-values-i.true
+pub overflow_add-i-in-Some : goal.overflow_add-i-in-Some
+overflow_add-i-in-Some c = record { fits = omega (arith, c.loop-x.invariant.0, c.loop-x.invariant.1, c.args.t.now.shape.few) }
 
-pub returns-then-x-n : goal.returns-then-x-n
-returns-then-x-n c e sc d s a next same row kind =
-    let view = c.next_unset-x.ensures _ c.beneath-below.ensures in
-    let view' : NextUnset (rows_of c.args.t.now) s.names (c.args.k + 1) e.row c.loop-names.from c.next_unset-x.result = rw (← same, ← row) view in
-    part-long next kind _ c.loop-names.from c.loop-names.i c.loop-names.more (c.loop-names.invariant.2 e sc d s a next same row kind) (no_more next c.requires.0.count c.loop-names.from _ view' c.if-x-n.true) c.if-values-i.false
+pub overflow_add-i-in-Some-2 : goal.overflow_add-i-in-Some-2
+overflow_add-i-in-Some-2 c = record { fits = omega (arith, c.loop-x.invariant.0, c.loop-x.invariant.1, c.args.t.now.shape.few) }
 
-pub overflow_add-i-in-loop-names : goal.overflow_add-i-in-loop-names
-overflow_add-i-in-loop-names c = record { fits = omega (arith, c.loop-names.invariant.0, c.loop-names.invariant.1, c.requires.0.few) }
+pub overflow_add-i-2 : goal.overflow_add-i-2
+overflow_add-i-2 c = record { fits = omega (arith, c.loop-x.invariant.0, c.loop-x.invariant.1, c.args.t.now.shape.few) }
 
 pub returns-then-values-i-2 : goal.returns-then-values-i-2
 returns-then-values-i-2 c e sc d s a next same row kind =
-    let view = c.next_unset-x.ensures _ c.beneath-below.ensures in
-    let view' : NextUnset (rows_of c.args.t.now) s.names (c.args.k + 1) e.row c.loop-names.from c.next_unset-x.result = rw (← same, ← row) view in
-    let more = another next c.requires.0.count c.loop-names.from _ view' c.if-x-n.false in
-    part-short next kind _ c.loop-names.from c.loop-names.i c.loop-names.more (c.loop-names.invariant.2 e sc d s a next same row kind) more.first c.if-values-i-2.true
+    let view = rw c.in_default.is at (c.next_unset.ensures _ c.beneath-below.ensures) in
+    let view' : NextUnset (rows_of c.args.t.now.bytes.now) s.names (c.args.k + 1) e.row c.loop-x.from c.args.t.now.rows = rw (← same, ← row) view in
+    part-suits next kind _ c.loop-x.from c.loop-x.i c.loop-x.more (c.loop-x.invariant.2 e sc d s a next same row kind) (no_more next c.args.t.now.shape.count c.loop-x.from _ view' refl) c.if-values-i-2.true
+
+pub returns-else-values-i-2 : goal.returns-else-values-i-2
+returns-else-values-i-2 c e sc d s a next same row kind =
+    let view = rw c.in_default.is at (c.next_unset.ensures _ c.beneath-below.ensures) in
+    let view' : NextUnset (rows_of c.args.t.now.bytes.now) s.names (c.args.k + 1) e.row c.loop-x.from c.args.t.now.rows = rw (← same, ← row) view in
+    part-long next kind _ c.loop-x.from c.loop-x.i c.loop-x.more (c.loop-x.invariant.2 e sc d s a next same row kind) (no_more next c.args.t.now.shape.count c.loop-x.from _ view' refl) c.if-values-i-2.false
+
+pub returns-then-values-i : goal.returns-then-values-i
+returns-then-values-i c e sc d s a next same row kind =
+    let v = rw c.in-Some.is at (c.next_unset.ensures _ c.beneath-below.ensures) in
+    let view' : NextUnset (rows_of c.args.t.now.bytes.now) s.names (c.args.k + 1) e.row c.loop-x.from c.in-Some.x = rw (← same, ← row) v.1 in
+    let more = another next c.args.t.now.shape.count c.loop-x.from _ view' (λ q. omega (arith, v.0)) in
+    part-short next kind _ c.loop-x.from c.loop-x.i c.loop-x.more (c.loop-x.invariant.2 e sc d s a next same row kind) more.first c.if-values-i.true
 
 pub may_take-requires : goal.may_take-requires
 may_take-requires c =
-    let view = c.next_unset-x.ensures _ c.beneath-below.ensures in
-    let w = variable-found c.args.t.now c.args.n c.args.runs c.requires.0 _ _ _ _ _ view c.if-x-n.false in
-    (c.requires.0, (w.0, w.2))
+    let v = rw c.in-Some.is at (c.next_unset.ensures _ c.beneath-below.ensures) in
+    let w = variable-found c.args.t.now.bytes.now c.args.t.now.rows c.args.t.now.runs c.args.t.now.shape _ _ _ _ _ v.1 (λ q. omega (arith, v.0)) in
+    (w.0, w.2)
 
 pub returns-then-not-may_take : goal.returns-then-not-may_take
 returns-then-not-may_take c e sc d s a next same row kind =
-    let view = c.next_unset-x.ensures _ c.beneath-below.ensures in
-    let view' : NextUnset (rows_of c.args.t.now) s.names (c.args.k + 1) e.row c.loop-names.from c.next_unset-x.result = rw (← same, ← row) view in
-    let more = another next c.requires.0.count c.loop-names.from _ view' c.if-x-n.false in
-    let may = c.may_take.ensures more.y (ap (λ (rs : List Row). atom_at rs c.next_unset-x.result) (sym next.rows) ∙ more.is_atom) in
-    let may' : TellsValue sc.rows (length sc.runs) more.y (get_or c.args.values.now c.loop-names.i 0) (get_or c.args.values.now (c.loop-names.i + 1) 0) c.may_take.result = may-carry next.rows next.count c.from-r.ensures c.from-w.ensures may in
-    part-not next kind _ c.loop-names.from c.loop-names.i c.loop-names.more (c.loop-names.invariant.2 e sc d s a next same row kind) more.first c.if-values-i-2.false (no_value may' (c.if-not-may_take.true))
+    let v = rw c.in-Some.is at (c.next_unset.ensures _ c.beneath-below.ensures) in
+    let view' : NextUnset (rows_of c.args.t.now.bytes.now) s.names (c.args.k + 1) e.row c.loop-x.from c.in-Some.x = rw (← same, ← row) v.1 in
+    let more = another next c.args.t.now.shape.count c.loop-x.from _ view' (λ q. omega (arith, v.0)) in
+    let may = c.may_take.ensures more.y (ap (λ (rs : List Row). atom_at rs c.in-Some.x) (sym next.rows) ∙ more.is_atom) in
+    let may' : TellsValue sc.rows (length sc.runs) more.y (get_or c.args.values.now c.loop-x.i 0) (get_or c.args.values.now (c.loop-x.i + 1) 0) c.may_take.result = may-carry next.rows next.count c.from-r.ensures c.from-w.ensures may in
+    part-not next kind _ c.loop-x.from c.loop-x.i c.loop-x.more (c.loop-x.invariant.2 e sc d s a next same row kind) more.first c.if-values-i.false (no_value may' (c.if-not-may_take.true))
 
 pub put-requires : goal.put-requires
 put-requires c =
-    let view = c.next_unset-x.ensures _ c.beneath-below.ensures in
-    let w = variable-found c.args.t.now c.args.n c.args.runs c.requires.0 _ _ _ _ _ view c.if-x-n.false in
+    let v = rw c.in-Some.is at (c.next_unset.ensures _ c.beneath-below.ensures) in
+    let w = variable-found c.args.t.now.bytes.now c.args.t.now.rows c.args.t.now.runs c.args.t.now.shape _ _ _ _ _ v.1 (λ q. omega (arith, v.0)) in
     let may = c.may_take.ensures w.3.0 w.3.1 in
-    let fits = value-fits (omega (arith, c.requires.0.count, c.requires.0.few)) c.requires.0.few_runs may (c.if-not-may_take.false) in
-    (omega (arith, w.0, c.requires.0.few), (omega (arith, c.requires.1.0, c.requires.0.few_runs), (fits.0, fits.1)))
+    let fits = value-fits (omega (arith, c.args.t.now.shape.count, c.args.t.now.shape.few)) c.args.t.now.shape.few_runs may (c.if-not-may_take.false) in
+    (omega (arith, w.0, c.args.t.now.shape.few), (omega (arith, c.requires.0, c.args.t.now.shape.few_runs), (fits.0, fits.1)))
 
 pub overflow_add-from : goal.overflow_add-from
 overflow_add-from c =
-    let view = c.next_unset-x.ensures _ c.beneath-below.ensures in
-    let w = variable-found c.args.t.now c.args.n c.args.runs c.requires.0 _ _ _ _ _ view c.if-x-n.false in
-    record { fits = omega (arith, w.0, c.requires.0.few) }
+    let v = rw c.in-Some.is at (c.next_unset.ensures _ c.beneath-below.ensures) in
+    record { fits = omega (arith, v.0, c.args.t.now.shape.few) }
 
-pub overflow_add-i-in-loop-names-3 : goal.overflow_add-i-in-loop-names-3
-overflow_add-i-in-loop-names-3 c = record { fits = omega (arith, c.loop-names.invariant.0, c.loop-names.invariant.1, c.requires.0.few) }
-
-pub loop-names-smaller : goal.loop-names-smaller
-loop-names-smaller c =
-    let view = c.next_unset-x.ensures _ c.beneath-below.ensures in
-    let w = variable-found c.args.t.now c.args.n c.args.runs c.requires.0 _ _ _ _ _ view c.if-x-n.false in
+pub loop-x-smaller : goal.loop-x-smaller
+loop-x-smaller c =
+    let v = rw c.in-Some.is at (c.next_unset.ensures _ c.beneath-below.ensures) in
+    let w = variable-found c.args.t.now.bytes.now c.args.t.now.rows c.args.t.now.runs c.args.t.now.shape _ _ _ _ _ v.1 (λ q. omega (arith, v.0)) in
     omega (arith, w.0, w.1)
 
-pub loop-names-preserved : goal.loop-names-preserved
-loop-names-preserved c =
-    let view = c.next_unset-x.ensures _ c.beneath-below.ensures in
-    let w = variable-found c.args.t.now c.args.n c.args.runs c.requires.0 _ _ _ _ _ view c.if-x-n.false in (
+pub loop-x-preserved : goal.loop-x-preserved
+loop-x-preserved c =
+    let v = rw c.in-Some.is at (c.next_unset.ensures _ c.beneath-below.ensures) in
+    let w = variable-found c.args.t.now.bytes.now c.args.t.now.rows c.args.t.now.runs c.args.t.now.shape _ _ _ _ _ v.1 (λ q. omega (arith, v.0)) in (
       omega (arith, w.0),
-      omega (arith, w.1, c.loop-names.invariant.1),
+      omega (arith, w.1, c.loop-x.invariant.1),
       λ e sc d s a next same row kind.
-          let view' : NextUnset (rows_of c.args.t.now) s.names (c.args.k + 1) e.row c.loop-names.from c.next_unset-x.result = rw (← same, ← row) view in
-          let more = another next c.requires.0.count c.loop-names.from _ view' c.if-x-n.false in
-          let may = c.may_take.ensures more.y (ap (λ (rs : List Row). atom_at rs c.next_unset-x.result) (sym next.rows) ∙ more.is_atom) in
-          let may' : TellsValue sc.rows (length sc.runs) more.y (get_or c.args.values.now c.loop-names.i 0) (get_or c.args.values.now (c.loop-names.i + 1) 0) c.may_take.result = may-carry next.rows next.count c.from-r.ensures c.from-w.ensures may in
+          let view' : NextUnset (rows_of c.args.t.now.bytes.now) s.names (c.args.k + 1) e.row c.loop-x.from c.in-Some.x = rw (← same, ← row) v.1 in
+          let more = another next c.args.t.now.shape.count c.loop-x.from _ view' (λ q. omega (arith, v.0)) in
+          let may = c.may_take.ensures more.y (ap (λ (rs : List Row). atom_at rs c.in-Some.x) (sym next.rows) ∙ more.is_atom) in
+          let may' : TellsValue sc.rows (length sc.runs) more.y (get_or c.args.values.now c.loop-x.i 0) (get_or c.args.values.now (c.loop-x.i + 1) 0) c.may_take.result = may-carry next.rows next.count c.from-r.ensures c.from-w.ensures may in
           let value = taken-value may' (c.if-not-may_take.false) in
-          let part = part-more next kind _ c.loop-names.from c.loop-names.i c.loop-names.more (c.loop-names.invariant.2 e sc d s a next same row kind) _ more.y more.low more.from_on more.is_atom more.is_variable more.unset more.first c.if-values-i-2.false value.0 value.1.1 in
-          part-carry _ _ _ _ _ c.loop-names.more c.put.new.names c.put.ensures c.from-r.ensures c.from-w.ensures part,
-      omega (arith, c.put.auto.names, c.loop-names.invariant.3),
+          let part = part-more next kind _ c.loop-x.from c.loop-x.i c.loop-x.more (c.loop-x.invariant.2 e sc d s a next same row kind) _ more.y more.low more.from_on more.is_atom more.is_variable more.unset more.first c.if-values-i.false value.0 value.1.1 in
+          part-carry _ _ _ _ _ c.loop-x.more c.put.new.names c.put.ensures c.from-r.ensures c.from-w.ensures part,
+      omega (arith, c.put.auto.names, c.loop-x.invariant.3),
     )

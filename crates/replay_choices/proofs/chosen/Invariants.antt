@@ -17,8 +17,8 @@ abbrev pub Parted : List ℕ → ℕ → ℕ → ℕ → List ℕ → List ℕ �
 Parted t runs k row values names more from i =
     (e : RunEvent) (sc : Scenario) (d : definitions.State) (s : State) (a : Active) → NextMove t runs k e sc d s a → names ≡ s.names → row ≡ e.row → e.kind ≡ 1 → ValuesPart sc d a s.names values from i more
 
-abbrev pub invariant-loop-names : goal.invariant-loop-names
-invariant-loop-names l = (l.from ≤ l.n) × (l.i ≤ 2 * l.from) × Parted l.t l.runs l.k l.row l.values l.names l.more l.from l.i × (length l.more ≡ cell_count)
+abbrev pub invariant-loop-x : goal.invariant-loop-x
+invariant-loop-x l = (l.from ≤ l.t.rows) × (l.i ≤ 2 * l.from) × Parted l.t.bytes.now l.t.runs l.k l.row l.values l.names l.more l.from l.i × (length l.more ≡ cell_count)
 
-abbrev pub decreases-loop-names : goal.decreases-loop-names
-decreases-loop-names l = l.n - l.from
+abbrev pub decreases-loop-x : goal.decreases-loop-x
+decreases-loop-x l = l.t.rows - l.from

@@ -11,7 +11,7 @@ use Rattle.semantics.specs.Scenario.{Scenario}
 use Rattle.semantics.specs.State as definitions
 use Rattle.semantics.specs.State.{Active, active}
 use Rattle.semantics.specs.Replay.{values_in}
-use Rattle.rows.specs.Rows.{rows_of}
+use Rattle.rows.specs.Rows.{rows_of, Shape}
 use Rattle.state.specs.declared.State.{State}
 use Rattle.state.specs.State.{Given, Due, IsState, NextMove}
 use Rattle.state.specs.laws.Active.{active-zero, active-high, run-ended, Coming, run-coming, coming-move, coming-due}
@@ -42,31 +42,36 @@ module _ {file t : List ℕ} {n : ℕ} {r : Runs} {sc : Scenario} {d : definitio
   is_read : EventRead sc coming.0.run coming.0.event e.kind e.own e.peer e.row
   is_read = read sc coming.0.run coming.0.event given.runs given.good coming.1.of_run coming.1.of_event
 
-  next : NextMove t r.count (u - 1) e sc d s coming.0
-  next = coming-move given state (u - 1) (run-low nonzero few) coming.0 coming.1 is_read
-
-  due : Due n r.count (u - 1) e.own e.peer e.row
-  due = coming-due given state (u - 1) (run-low nonzero few) coming.0 coming.1 is_read
-
   is-active : active sc d u ≡ some coming.0
   is-active = ap (active sc d) (sym (run-number nonzero)) ∙ coming.1.is_active
 
-  -- the event with values that suit, and classes and marks that were worked on for it
-  abbrev at-event : (values : List ℕ) {names : List ℕ} → Suited sc d coming.0 (values_in values) (Some names) → length s.done ≡ 4
-      → (classes : List ℕ) (marks : List Bool) → Worked (rows_of t) r.count (u - 1 + 1) e.kind names s.classes s.marks classes marks → AtEvent t n r.count (u - 1) e classes marks
-  at-event values {names} suited size classes marks worked = record {
-    sc = sc;
-    d = d;
-    s = s;
-    a = coming.0;
-    vs = values_in values;
-    names = names;
-    shape = given.shape;
-    due = due;
-    next = next;
-    size = size;
-    ready = worked-ready next given.shape due _ _ (suited-sets suited refl).1 (suited-none next values (suited-sets suited refl).0) worked;
-  }
+  -- in a table with as many runs
+  module _ {runs : ℕ} (counted : runs ≡ r.count) where
+    next : NextMove t runs (u - 1) e sc d s coming.0
+    next = rw counted (coming-move given state (u - 1) (run-low nonzero few) coming.0 coming.1 is_read)
+
+    due : Due n runs (u - 1) e.own e.peer e.row
+    due = rw counted (coming-due given state (u - 1) (run-low nonzero few) coming.0 coming.1 is_read)
+
+    shape : Shape t n runs
+    shape = rw counted given.shape
+
+    -- the event with values that suit, and classes and marks that were worked on for it
+    abbrev at-event : (values : List ℕ) {names : List ℕ} → Suited sc d coming.0 (values_in values) (Some names) → length s.done ≡ 4
+        → (classes : List ℕ) (marks : List Bool) → Worked (rows_of t) runs (u - 1 + 1) e.kind names s.classes s.marks classes marks → AtEvent t n runs (u - 1) e classes marks
+    at-event values {names} suited size classes marks worked = record {
+      sc = sc;
+      d = d;
+      s = s;
+      a = coming.0;
+      vs = values_in values;
+      names = names;
+      shape = shape;
+      due = due;
+      next = next;
+      size = size;
+      ready = worked-ready next shape due _ _ (suited-sets suited refl).1 (suited-none next values (suited-sets suited refl).0) worked;
+    }
 
 pub returns-then-trace-lt2 : goal.returns-then-trace-lt2
 returns-then-trace-lt2 c sc d given state =
@@ -96,27 +101,21 @@ event_of-e-requires c =
 
 pub valued-requires : goal.valued-requires
 valued-requires c =
-    let of = due c.requires.2 c.requires.3 c.if-u-eq0.false c.if-r-u.false c.if-r-k.false c.event_of-e.ensures in
-    (c.requires.2.shape, (of.is_run, of.term))
-
-pub worked-more-requires : goal.worked-more-requires
-worked-more-requires c =
-    let low = run-low c.if-u-eq0.false c.if-r-u.false in
-    let names : length c.in_ok-names.names ≡ 480 = search rules in
-    (c.requires.2.shape, omega (arith, low))
+    let of = due c.requires.2 c.requires.3 c.if-u-eq0.false c.if-r-u.false c.if-r-k.false c.event_of-e.ensures c.args.opened.now.counted in
+    (of.is_run, of.term)
 
 pub is_allowed-requires : goal.is_allowed-requires
 is_allowed-requires c =
     let size : length c.worked-more.new.classes ≡ 480 = search (rules, c.worked-more.auto.classes, c.requires.3.arrays.classed.size) in
-    let of = due c.requires.2 c.requires.3 c.if-u-eq0.false c.if-r-u.false c.if-r-k.false c.event_of-e.ensures in
+    let of = due c.requires.2 c.requires.3 c.if-u-eq0.false c.if-r-u.false c.if-r-k.false c.event_of-e.ensures c.args.opened.now.counted in
     let few = c.requires.2.shape.few in
     (omega (arith, c.requires.2.runs.few, of.is_run), (omega (arith, few, of.agent), (omega (arith, few, of.other), omega (arith, few, of.term))))
 
 pub perform-after-requires : goal.perform-after-requires
 perform-after-requires c =
     let size : length c.worked-more.new.classes ≡ 480 = search (rules, c.worked-more.auto.classes, c.requires.3.arrays.classed.size) in
-    let of = due c.requires.2 c.requires.3 c.if-u-eq0.false c.if-r-u.false c.if-r-k.false c.event_of-e.ensures in
-    (c.requires.2.shape, of)
+    let of = due c.requires.2 c.requires.3 c.if-u-eq0.false c.if-r-u.false c.if-r-k.false c.event_of-e.ensures c.args.opened.now.counted in
+    of
 
 pub advance-done-requires : goal.advance-done-requires
 advance-done-requires c =
@@ -127,20 +126,20 @@ advance-done-requires c =
 pub returns : goal.returns
 returns c sc d given state =
     let values : List ℕ = take (2 + 2 * c.from.result - 2) (drop 2 c.args.trace.now) in
-    let suited = c.in_ok-names.ensures sc d (coming given state c.if-u-eq0.false c.if-r-u.false c.if-r-k.false c.event_of-e.ensures).0 (next given state c.if-u-eq0.false c.if-r-u.false c.if-r-k.false c.event_of-e.ensures) in
-    let m = at-event given state c.if-u-eq0.false c.if-r-u.false c.if-r-k.false c.event_of-e.ensures values suited (search rules) c.worked-more.new.classes c.worked-more.result c.worked-more.ensures in
+    let suited = c.in_ok-names.ensures sc d (coming given state c.if-u-eq0.false c.if-r-u.false c.if-r-k.false c.event_of-e.ensures).0 (next given state c.if-u-eq0.false c.if-r-u.false c.if-r-k.false c.event_of-e.ensures c.args.opened.now.counted) in
+    let m = at-event given state c.if-u-eq0.false c.if-r-u.false c.if-r-k.false c.event_of-e.ensures c.args.opened.now.counted values suited (search rules) c.worked-more.new.classes c.worked-more.result c.worked-more.ensures in
     let w = told-some (c.is_allowed.ensures _ _ _ m) c.if-not-is_allowed.false in
     step-performed sc d c.args.trace.now c.if-trace-lt2.false c.from.ensures refl c.if-trace-end.false c.from-u.ensures (is-active given state c.if-u-eq0.false c.if-r-u.false c.if-r-k.false c.event_of-e.ensures) values refl suited refl w.1 (rw (c.after.ensures, c.advance-done.ensures) (c.perform-after.ensures m w.0 w.1))
 
 pub returns-then-not-is_allowed : goal.returns-then-not-is_allowed
 returns-then-not-is_allowed c sc d given state =
     let values : List ℕ = take (2 + 2 * c.from.result - 2) (drop 2 c.args.trace.now) in
-    let suited = c.in_ok-names.ensures sc d (coming given state c.if-u-eq0.false c.if-r-u.false c.if-r-k.false c.event_of-e.ensures).0 (next given state c.if-u-eq0.false c.if-r-u.false c.if-r-k.false c.event_of-e.ensures) in
-    let m = at-event given state c.if-u-eq0.false c.if-r-u.false c.if-r-k.false c.event_of-e.ensures values suited (search rules) c.worked-more.new.classes c.worked-more.result c.worked-more.ensures in
+    let suited = c.in_ok-names.ensures sc d (coming given state c.if-u-eq0.false c.if-r-u.false c.if-r-k.false c.event_of-e.ensures).0 (next given state c.if-u-eq0.false c.if-r-u.false c.if-r-k.false c.event_of-e.ensures c.args.opened.now.counted) in
+    let m = at-event given state c.if-u-eq0.false c.if-r-u.false c.if-r-k.false c.event_of-e.ensures c.args.opened.now.counted values suited (search rules) c.worked-more.new.classes c.worked-more.result c.worked-more.ensures in
     step-refused sc d c.args.trace.now c.if-trace-lt2.false c.from.ensures refl c.if-trace-end.false c.from-u.ensures (is-active given state c.if-u-eq0.false c.if-r-u.false c.if-r-k.false c.event_of-e.ensures) values refl suited refl (told_none (c.is_allowed.ensures _ _ _ m) c.if-not-is_allowed.true)
 
 pub returns-in_err-names : goal.returns-in_err-names
 returns-in_err-names c sc d given state =
     let values : List ℕ = take (2 + 2 * c.from.result - 2) (drop 2 c.args.trace.now) in
-    let suited = c.in_err-names.ensures sc d (coming given state c.if-u-eq0.false c.if-r-u.false c.if-r-k.false c.event_of-e.ensures).0 (next given state c.if-u-eq0.false c.if-r-u.false c.if-r-k.false c.event_of-e.ensures) in
+    let suited = c.in_err-names.ensures sc d (coming given state c.if-u-eq0.false c.if-r-u.false c.if-r-k.false c.event_of-e.ensures).0 (next given state c.if-u-eq0.false c.if-r-u.false c.if-r-k.false c.event_of-e.ensures c.args.opened.now.counted) in
     rw c.from_residual.ensures (refuses-unsuited sc d c.args.trace.now c.if-trace-lt2.false c.from.ensures refl c.if-trace-end.false c.from-u.ensures (is-active given state c.if-u-eq0.false c.if-r-u.false c.if-r-k.false c.event_of-e.ensures) values refl suited refl)

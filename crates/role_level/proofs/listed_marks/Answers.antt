@@ -4,17 +4,14 @@ use Rattle.role_level.specs.laws.Loops.{listed-none, listed_more, listed-all, at
 use Rattle.role_level.proofs.listed_marks.Goals as goal
 
 pub loop-r-init : goal.loop-r-init
-loop-r-init c = (refl, listed-none c.args.n c.args.list.now c.requires.0)
-
-pub bounds-marks-from : goal.bounds-marks-from
-bounds-marks-from c = omega (arith, c.requires.1 _ (at_mem c.args.list.now c.loop-r.r-index c.loop-r-test.true), c.from.ensures, c.requires.0)
+loop-r-init c = (refl, listed-none c.args.t.now.rows c.args.list.now c.args.t.now.shape.few)
 
 pub loop-r-preserved : goal.loop-r-preserved
 loop-r-preserved c =
-    let low = c.requires.1 _ (at_mem c.args.list.now c.loop-r.r-index c.loop-r-test.true) in (
+    let low = c.requires _ (at_mem c.args.list.now c.loop-r.r-index c.loop-r-test.true) in (
       simp length-set c.loop-r.invariant.0,
-      rw c.from.ensures (listed_more c.args.n c.args.list.now c.loop-r.r-index c.loop-r.marks c.loop-r-test.true (omega (arith, low, c.requires.0, c.loop-r.invariant.0)) c.loop-r.invariant.1),
+      rw c.from.ensures (listed_more c.args.t.now.rows c.args.list.now c.loop-r.r-index c.loop-r.marks c.loop-r-test.true (omega (arith, low, c.args.t.now.shape.few, c.loop-r.invariant.0)) c.loop-r.invariant.1),
     )
 
 pub returns : goal.returns
-returns c = record { listed = listed-all c.args.n c.args.list.now c.loop-r.r-index c.loop-r.marks c.loop-r-test.false c.loop-r.invariant.1 }
+returns c = record { listed = listed-all c.args.t.now.rows c.args.list.now c.loop-r.r-index c.loop-r.marks c.loop-r-test.false c.loop-r.invariant.1 }

@@ -10,6 +10,6 @@ use Rattle.runs.proofs.trusted_from.Goals as goal
 pub returns : goal.returns
 returns c agents at =
     let agent = λ (i : ℕ). get_or c.args.file.now (c.args.start + 1 + i) 0 in
-    let trusted = λ (a : ℕ). is_trusted (atom_at (rows_of c.args.t.now) a) in
+    let trusted = λ (a : ℕ). is_trusted (atom_at (rows_of c.args.t.now.bytes.now) a) in
     all_from_yields_List (λ i. trusted (agent i)) _ _ _ c.all.ensures.ran (YieldsList-from_range 0 c.args.roles (length agents) refl (omega (arith, at.count))) (λ x b q k. search (rules, tests))
     ∙ every-counted trusted agent agents 0 (λ i j l e. let same : j ≡ i = omega arith in rw same (at.each i (omega (arith, at.count))))

@@ -2,13 +2,13 @@
 use native.Mathlib.Omega.{arith}
 use mathlib.Core.Path.{◌∙◌}
 use Rattle.scenario.specs.laws.Open.{roles-refused, no-bad-role, events-refused, events-passed}
-use Rattle.scenario.specs.laws.Blocks.{rows_in, terms-shape, roles-good, events-read}
+use Rattle.scenario.specs.laws.Blocks.{rows_in, roles-good, events-read}
 use Rattle.scenario.proofs.judged.Goals as goal
 
 pub ill_formed-requires : goal.ill_formed-requires
 ill_formed-requires c =
     let file = c.args.file.now in
-    (terms-shape file c.block_of-terms.ensures c.requires.1, (omega arith, roles-good file c.block_of-terms.ensures c.block_of-roles.ensures c.start_of.ensures.0 (no-bad-role file (rows_in file) c.judged_roles.ensures c.in_default.is)))
+    (omega arith, roles-good file c.requires.1 c.block_of-roles.ensures c.start_of.ensures.0 (no-bad-role file (rows_in file) c.judged_roles.ensures c.in_default.is))
 
 pub judged_runs-requires : goal.judged_runs-requires
 judged_runs-requires c =
@@ -24,7 +24,7 @@ pub returns-in-Some-ill_formed : goal.returns-in-Some-ill_formed
 returns-in-Some-ill_formed c =
     let file = c.args.file.now in
     events-refused file (rows_in file) c.judged_roles.ensures c.in_default.is
-    (events-read file c.block_of-terms.ensures c.block_of-roles.ensures c.start_of.ensures.0 c.ill_formed.ensures)
+    (events-read file c.requires.1 c.block_of-roles.ensures c.start_of.ensures.0 c.ill_formed.ensures)
     c.in-Some-ill_formed.is
 
 pub returns : goal.returns
@@ -32,5 +32,5 @@ returns c =
     let file = c.args.file.now in
     c.judged_runs.ensures
     ∙ events-passed file (rows_in file) c.judged_roles.ensures c.in_default.is
-    (events-read file c.block_of-terms.ensures c.block_of-roles.ensures c.start_of.ensures.0 c.ill_formed.ensures)
+    (events-read file c.requires.1 c.block_of-roles.ensures c.start_of.ensures.0 c.ill_formed.ensures)
     c.in_default-ill_formed.is

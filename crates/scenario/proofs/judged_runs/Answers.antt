@@ -1,7 +1,7 @@
 -- `judged_runs` is refusals 8 and 9, or the layout of the accepted file. Assumes nothing.
 use native.Mathlib.Omega.{arith}
 use Rattle.scenario.specs.laws.Open.{runs-refused, known-refused, all-accepted}
-use Rattle.scenario.specs.laws.Blocks.{rows_in, terms-sized, count-read, count-few, runs-read, known_read}
+use Rattle.scenario.specs.laws.Blocks.{rows_in, count-read, count-few, runs-read, known_read}
 use Rattle.scenario.proofs.judged_runs.Goals as goal
 
 -- what refuses with 8 or 9, the first that holds
@@ -10,7 +10,7 @@ ruleset refusals = (runs-refused, known-refused, runs-read, known_read, count-re
 pub bad_run-requires : goal.bad_run-requires
 bad_run-requires c =
     let file = c.args.file.now in
-    (terms-sized file c.block_of-terms.ensures c.requires.1.0, (omega arith, count-few file (count-read file c.block_of.ensures c.roles_present-roles.ensures)))
+    (omega arith, count-few file (count-read file c.block_of.ensures c.roles_present-roles.ensures))
 
 pub parts_of-requires : goal.parts_of-requires
 parts_of-requires c =
@@ -26,8 +26,8 @@ pub returns : goal.returns
 returns c =
     let file = c.args.file.now in
     all-accepted file (rows_in file)
-    (runs-read file c.block_of-terms.ensures c.block_of-runs.ensures c.start_of.ensures.0 (count-read file c.block_of.ensures c.roles_present-roles.ensures) c.bad_run.ensures)
+    (runs-read file c.requires.1.0 c.block_of-runs.ensures c.start_of.ensures.0 (count-read file c.block_of.ensures c.roles_present-roles.ensures) c.bad_run.ensures)
     c.in_default.is
-    (known_read file c.block_of-terms.ensures c.block_of-knowledge.ensures c.start_of-2.ensures.0 c.bad_knowledge.ensures)
+    (known_read file c.requires.1.0 c.block_of-knowledge.ensures c.start_of-2.ensures.0 c.bad_knowledge.ensures)
     c.in_default-bad_knowledge.is
     c.parts_of.ensures

@@ -13,10 +13,15 @@ block_of-terms-requires c = (framing-framed c.args.file.now (sym c.check.ensures
 pub start_of-requires : goal.start_of-requires
 start_of-requires c = (framing-framed c.args.file.now (sym c.check.ensures ∙ c.in_ok-check.was), omega arith)
 
+pub new-requires : goal.new-requires
+new-requires c =
+    let file = c.args.file.now in
+    rw (c.block_of-terms.ensures) (terms-shape file c.check.ensures c.in_ok-check.was (table-read file c.block_of-terms.ensures c.start_of.ensures.0 c.check-2.ensures) c.in_ok-n.was)
+
 pub judged-requires : goal.judged-requires
 judged-requires c =
     let file = c.args.file.now in
-    (framing-framed file (sym c.check.ensures ∙ c.in_ok-check.was), terms-shape file c.check.ensures c.in_ok-check.was (table-read file c.block_of-terms.ensures c.start_of.ensures.0 c.check-2.ensures) c.in_ok-n.was)
+    (framing-framed file (sym c.check.ensures ∙ c.in_ok-check.was), c.new.ensures.0 ∙ c.block_of-terms.ensures)
 
 pub returns-in_err-check : goal.returns-in_err-check
 returns-in_err-check c =

@@ -17,7 +17,7 @@ returns c =
     layout-right file (rows_in file) c.requires.1.1.1
     c.budget.ensures.0
     c.start_of.ensures.0
-    c.requires.1.0.count
+    (rw (c.requires.1.0) at c.args.t.now.shape.count)
     c.start_of-2.ensures.0
     c.requires.1.1.0
     c.start_of-3.ensures.0

@@ -1,6 +1,6 @@
 -- What is read of a file's blocks, as what the definitions say of the file. Assumes nothing.
 use Rattle.std.specs.Prelude.{ℕ, ◌≤◌, ◌≡◌, refl, List, [], length}
-use Rattle.std.proofs.Common.{arith, sym, ap, subst, ◌∙◌}
+use Rattle.std.proofs.Common.{arith, sym, ap, ◌∙◌}
 use Rattle.std.proofs.Math.Option.{none}
 use Rattle.semantics.specs.Table.{Row, rows_from}
 use Rattle.semantics.specs.Frame.{Part}
@@ -8,11 +8,10 @@ use Rattle.semantics.specs.Roles.{bad_role, absent_role_from, role_records, role
 use Rattle.semantics.specs.WellFormed.{ill_formed}
 use Rattle.semantics.specs.Runs.{run_records, bad_run, bad_knowledge_from}
 use Rattle.semantics.specs.Scenario.{term_part, role_part, run_part, knowledge_part, role_parts, role_count, run_parts}
-use Rattle.rows.specs.Rows.{Sized, rows_of, place_as, Shape}
+use Rattle.rows.specs.Rows.{rows_of, place_as}
 use Rattle.rows.specs.Rows.{Place}
 use Rattle.table.specs.Check.{judged_as}
 use Rattle.table.specs.Check.{Judged}
-use Rattle.cells.specs.laws.Shape.{shape-sized}
 use Rattle.records.specs.Records.{part_at}
 
 module _ (file : List ℕ) where
@@ -20,12 +19,6 @@ module _ (file : List ℕ) where
   rows_in = rows_of (term_part file).bytes
 
   module _ {t : List ℕ} (terms : t ≡ (term_part file).bytes) where
-    pub terms-sized : {n : ℕ} → Shape (term_part file).bytes n 0 → Sized t n
-    terms-sized {n} s = subst (λ (bytes : List ℕ). Sized bytes n) (sym terms) (shape-sized s)
-
-    pub terms-shape : {n : ℕ} → Shape (term_part file).bytes n 0 → Shape t n 0
-    terms-shape {n} s = subst (λ (bytes : List ℕ). Shape bytes n 0) (sym terms) s
-
     -- refusal 6 of a row
     pub names-read : {base r : ℕ} {p : Place} → base ≡ (term_part file).start → r ≡ role_count file → p ≡ place_as (absent_role_from r base (rows_of t))
         → p ≡ place_as (absent_role_from (role_count file) (term_part file).start rows_in)

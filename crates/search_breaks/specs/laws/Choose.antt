@@ -1,5 +1,5 @@
 -- The walk through the values of one more variable of a read. Assumes nothing.
-use Rattle.std.specs.Prelude.{None, Some, ℕ, suc, ◌+◌, ◌-◌, ◌<◌, ◌≤◌, ◌≡◌, refl, Bool, T, length, set, Err, Ok}
+use Rattle.std.specs.Prelude.{Option as CodeOption, MatchOption, None, Some, ℕ, suc, ◌+◌, ◌-◌, ◌<◌, ◌≤◌, ◌≡◌, refl, Bool, T, length, set, Err, Ok}
 use Rattle.std.proofs.Common.{add-one, arith, sym, ap, ◌∙◌, subst, length-append}
 use mathlib.Core.List.Memᴰ
 use mathlib.Core.List.Memᴰ.{head as first}
@@ -85,13 +85,13 @@ takes-more : {rows : List Row} {runs : ℕ} {xs : List Atom} {vs : List Value} {
 takes-more takes_none may = takes_more may takes_none
 takes-more (takes_more m takes) may = takes_more m (takes-more takes may)
 
-module _ {file t : List ℕ} {plan : Plan} {sc : Scenario} {d : State} {s : CodeState} {ms : List Move} {at k : ℕ} {e : RunEvent} {a : Active} (move : AtMove file t plan sc d s ms at k e a) (kind : e.kind ≡ 1)
-    {from : ℕ} {xs : List Atom} {vs : List Value} {names classes : List ℕ} {marks : List Bool} {values : Values} (choosing : Choosing sc d s a from xs vs names classes marks values) {x : ℕ} (view : NextUnset (rows_of t) s.names (k + 1) e.row from x) where
+module _ {plan : Plan} {sc : Scenario} {d : State} {s : CodeState} {ms : List Move} {at k : ℕ} {e : RunEvent} {a : Active} (move : AtMove plan sc d s ms at k e a) (kind : e.kind ≡ 1)
+    {from : ℕ} {xs : List Atom} {vs : List Value} {names classes : List ℕ} {marks : List Bool} {values : Values} (choosing : Choosing sc d s a from xs vs names classes marks values) {x : ℕ} (view : NextUnset (rows_of plan.opened.table.bytes.now) s.names (k + 1) e.row from x) where
   abbrev pub left-to-set : List Atom
   left-to-set = unset_from sc.rows a.progress.values a.event.row from
 
   -- no variable is left
-  module _ (end : x ≡ plan.rows) where
+  module _ (end : x ≡ plan.opened.table.rows) where
     none_left : left-to-set ≡ []
     none_left = no_more move.next move.clear.here.reached.given.shape.count from x view end
 
@@ -106,7 +106,7 @@ module _ {file t : List ℕ} {plan : Plan} {sc : Scenario} {d : State} {s : Code
     choose-done left depth finds = finds-same sc left (ap (λ (l : List Atom). below plan sc depth (branches sc d (suc k) a vs l)) none_left) finds
 
   -- another variable
-  module _ (more : x ≡ plan.rows → ⊥) where
+  module _ (more : x ≡ plan.opened.table.rows → ⊥) where
     pub its : Another move.next from x
     its = another move.next move.clear.here.reached.given.shape.count from x view more
 
@@ -174,17 +174,17 @@ module _ {file t : List ℕ} {plan : Plan} {sc : Scenario} {d : State} {s : Code
         takes-next : Takes sc.rows (length sc.runs) (xs ++ (its.y ∷ [])) (vs ++ (v ∷ []))
         takes-next = takes-more choosing.takes may-take
 
-    low : x < plan.rows
+    low : x < plan.opened.table.rows
     low = omega (arith, its.low, ap length move.clear.here.reached.given.rows, move.clear.here.reached.given.shape.count)
 
     -- its atom, in the table's bytes
-    atom-read : atom_at (rows_of t) x ≡ some (variable var.0 var.1)
+    atom-read : atom_at (rows_of plan.opened.table.bytes.now) x ≡ some (variable var.0 var.1)
     atom-read = subst (λ (rows : List Row). atom_at rows x ≡ some its.y) move.clear.here.reached.given.rows its.is_atom ∙ ap some var.2
 
     -- the next value, as it was found
-    module _ {row run : ℕ} {next : NextValue} (found : NextOf (rows_of t) plan.runs.count var.1 row run next) where
+    module _ {row run : ℕ} {next : NextValue} (found : NextOf (rows_of plan.opened.table.bytes.now) plan.opened.runs.count var.1 row run next) where
       in-scenario : NextOf sc.rows (length sc.runs) var.1 row run next
-      in-scenario = subst (λ (rows : List Row). NextOf rows (length sc.runs) var.1 row run next) (sym move.clear.here.reached.given.rows) (subst (λ (m : ℕ). NextOf (rows_of t) m var.1 row run next) move.clear.here.reached.given.runs.count found)
+      in-scenario = subst (λ (rows : List Row). NextOf rows (length sc.runs) var.1 row run next) (sym move.clear.here.reached.given.rows) (subst (λ (m : ℕ). NextOf (rows_of plan.opened.table.bytes.now) m var.1 row run next) move.clear.here.reached.given.runs.count found)
 
       values-end : next ≡ None → values_from sc.rows (length sc.runs) var.1 row run ≡ []
       values-end e = no_value in-scenario e
@@ -192,7 +192,7 @@ module _ {file t : List ℕ} {plan : Plan} {sc : Scenario} {d : State} {s : Code
       value-next : {y v : ℕ} → next ≡ is_value y v → IsNext sc.rows (length sc.runs) var.1 row run y v
       value-next e = next-value in-scenario e
 
-      value_low : {y v : ℕ} → next ≡ is_value y v → (y < plan.rows) × (v ≤ 4)
+      value_low : {y v : ℕ} → next ≡ is_value y v → (y < plan.opened.table.rows) × (v ≤ 4)
       value_low e =
           let names = (value-next e).names in
           let below = ap length move.clear.here.reached.given.rows in
@@ -202,15 +202,31 @@ module _ {file t : List ℕ} {plan : Plan} {sc : Scenario} {d : State} {s : Code
 abbrev pub NextFor : List ℕ → List ℕ → Choice → ℕ → Type 0
 NextFor t own choice x = (pattern : ℕ) → Beneath (rows_of t) pattern choice.under → NextUnset (rows_of t) own (choice.turn.run + 1) pattern choice.from x
 
+-- what is answered: that row, or none
+abbrev pub NextTold : List ℕ → List ℕ → ℕ → Choice → CodeOption ℕ → Type 0
+NextTold t own n choice told =
+    (pattern : ℕ) → Beneath (rows_of t) pattern choice.under
+    → MatchOption told (NextUnset (rows_of t) own (choice.turn.run + 1) pattern choice.from n) (λ x. (x < n) × NextUnset (rows_of t) own (choice.turn.run + 1) pattern choice.from x)
+
+module _ (t own : List ℕ) (n : ℕ) (choice : Choice) {told : CodeOption ℕ} (next : NextTold t own n choice told) where
+  pub next-none : told ≡ None → NextFor t own choice n
+  next-none e pattern under = rw e at (next pattern under)
+
+  pub next-some : {x : ℕ} → told ≡ Some x → NextFor t own choice x
+  next-some e pattern under = (rw e at (next pattern under)).1
+
+  pub next-inside : {x pattern : ℕ} → told ≡ Some x → Beneath (rows_of t) pattern choice.under → x ≡ n → ⊥
+  next-inside {pattern = pattern} e under same = let inside = (rw e at (next pattern under)).0 in omega (arith, inside, same)
+
 -- the same of what the code is given, for the values that it chooses
-module _ {file t : List ℕ} {plan : Plan} {course : Course} {own names classes : List ℕ} {marks : List Bool} {choice : Choice} {x : ℕ}
-    (unset : NextFor t own choice x) (reach : Reach) (m : SomeChoice file t plan course own names classes marks reach.at choice) where
-  pub view : NextUnset (rows_of t) m.read.s.names (choice.turn.run + 1) choice.turn.event.row choice.from x
-  view = subst (λ (l : List ℕ). NextUnset (rows_of t) l (choice.turn.run + 1) choice.turn.event.row choice.from x) m.read.is_own (unset choice.turn.event.row m.read.under)
+module _ {plan : Plan} {course : Course} {own names classes : List ℕ} {marks : List Bool} {choice : Choice} {x : ℕ}
+    (unset : NextFor plan.opened.table.bytes.now own choice x) (reach : Reach) (m : SomeChoice plan course own names classes marks reach.at choice) where
+  pub view : NextUnset (rows_of plan.opened.table.bytes.now) m.read.s.names (choice.turn.run + 1) choice.turn.event.row choice.from x
+  view = subst (λ (l : List ℕ). NextUnset (rows_of plan.opened.table.bytes.now) l (choice.turn.run + 1) choice.turn.event.row choice.from x) m.read.is_own (unset choice.turn.event.row m.read.under)
 
   -- no variable is left: one move
-  module _ (end : x ≡ plan.rows) where
-    pub choice-move : SomeMove file t plan course names classes marks reach.at choice.turn
+  module _ (end : x ≡ plan.opened.table.rows) where
+    pub choice-move : SomeMove plan course names classes marks reach.at choice.turn
     choice-move = record {
       sc = m.read.sc;
       d = m.read.d;
@@ -223,13 +239,13 @@ module _ {file t : List ℕ} {plan : Plan} {course : Course} {own names classes 
       chosen = choose-all m.read.move m.read.is_read m.choosing view end;
     }
 
-    pub choice-done : {b b' : List ℕ} {w : Walked} → FindsMove file t plan course names classes marks reach choice.turn b b' w → FindsRead m.read m.vs reach b b' w
+    pub choice-done : {b b' : List ℕ} {w : Walked} → FindsMove plan course names classes marks reach choice.turn b b' w → FindsRead m.read m.vs reach b b' w
     unfolding choice-move
     choice-done told = choose-done m.read.move m.read.is_read m.choosing view end reach.left reach.depth (told choice-move)
 
   -- another variable
-  module _ (more : x ≡ plan.rows → ⊥) where
-    pub row_low : x < plan.rows
+  module _ (more : x ≡ plan.opened.table.rows → ⊥) where
+    pub row_low : x < plan.opened.table.rows
     row_low = low m.read.move m.read.is_read m.choosing view more
 
     pub row_from : choice.from ≤ x
@@ -245,8 +261,8 @@ module _ {file t : List ℕ} {plan : Plan} {course : Course} {own names classes 
     pub tried-none : Tried 0 0 0
     tried-none = record { trying = trying-none m.read.move m.read.is_read m.choosing view more reach.left reach.depth }
 
-    module _ {row run : ℕ} {next : NextValue} (told : (num : ℕ) (type : VariableType) → atom_at (rows_of t) x ≡ some (variable num type) → NextOf (rows_of t) plan.runs.count type row run next) where
-      next_of : NextOf (rows_of t) plan.runs.count (var m.read.move m.read.is_read m.choosing view more).1 row run next
+    module _ {row run : ℕ} {next : NextValue} (told : (num : ℕ) (type : VariableType) → atom_at (rows_of plan.opened.table.bytes.now) x ≡ some (variable num type) → NextOf (rows_of plan.opened.table.bytes.now) plan.opened.runs.count type row run next) where
+      next_of : NextOf (rows_of plan.opened.table.bytes.now) plan.opened.runs.count (var m.read.move m.read.is_read m.choosing view more).1 row run next
       next_of = told (var m.read.move m.read.is_read m.choosing view more).0 (var m.read.move m.read.is_read m.choosing view more).1 (atom-read m.read.move m.read.is_read m.choosing view more)
 
       -- no value is left
@@ -258,19 +274,19 @@ module _ {file t : List ℕ} {plan : Plan} {course : Course} {own names classes 
         value-is : IsNext m.read.sc.rows (length m.read.sc.runs) (var m.read.move m.read.is_read m.choosing view more).1 row run y v
         value-is = value-next m.read.move m.read.is_read m.choosing view more next_of e
 
-        pub value-within : (y < plan.rows) × (v ≤ 4)
+        pub value-within : (y < plan.opened.table.rows) × (v ≤ 4)
         value-within = value_low m.read.move m.read.is_read m.choosing view more next_of e
 
         pub value-later : NotBefore row run y v
         value-later = value-is.not_before
 
         module _ {count : ℕ} (tried : Tried row run count) {more-names more-classes : List ℕ} (more-marks : List Bool) {values : Values} (put : more-names ≡ set names (cell_of x (choice.turn.run + 1)) (cell_of y v))
-            (refilled : Refilled (rows_of t) plan.runs.count (choice.turn.run + 1) more-names classes more-classes) (settled : Settled (rows_of t) plan.runs.count more-classes marks more-marks)
+            (refilled : Refilled (rows_of plan.opened.table.bytes.now) plan.opened.runs.count (choice.turn.run + 1) more-names classes more-classes) (settled : Settled (rows_of plan.opened.table.bytes.now) plan.opened.runs.count more-classes marks more-marks)
             (are : (vs : List Value) → ValuesAre vs choice.turn.values → ValuesAre (vs ++ (record { row = y; run = v } ∷ [])) values) where
           abbrev pub longer : Choice
           longer = record { turn = record { run = choice.turn.run; event = choice.turn.event; values = values }; under = choice.under; from = x + 1 }
 
-          pub grown : SomeChoice file t plan course own more-names more-classes more-marks reach.at longer
+          pub grown : SomeChoice plan course own more-names more-classes more-marks reach.at longer
           grown =
               let r = m.read in
               let v' : Value = record { row = y; run = v } in
@@ -287,7 +303,7 @@ module _ {file t : List ℕ} {plan : Plan} {course : Course} {own names classes 
                 };
               }
 
-          module _ {b b' : List ℕ} {w total : Walked} (found : FindsChoice file t plan course own more-names more-classes more-marks (record { left = reach.left - count; at = reach.at; depth = reach.depth }) longer b b' w) (is : total ≡ behind_as count w) where
+          module _ {b b' : List ℕ} {w total : Walked} (found : FindsChoice plan course own more-names more-classes more-marks (record { left = reach.left - count; at = reach.at; depth = reach.depth }) longer b b' w) (is : total ≡ behind_as count w) where
             passed : Passed m.read.sc reach.left (below plan m.read.sc reach.depth (read_branches m.read.sc m.read.d m.read.a choice m.vs))
                 (below plan m.read.sc reach.depth (read_branches m.read.sc m.read.d m.read.a longer (m.vs ++ (record { row = y; run = v } ∷ [])))
                 ++ values_of plan m.read.sc reach.depth m.read.d (suc choice.turn.run) m.read.a m.vs (rest m.read.move m.read.is_read m.choosing view more)

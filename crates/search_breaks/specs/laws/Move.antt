@@ -60,15 +60,15 @@ set-low (x ∷ l) zero v (suc j) h w = h
 set-low (x ∷ l) (suc k) v zero h w = h
 set-low (x ∷ l) (suc k) v (suc j) h w = set-low l k v j h w
 
-module _ {file t : List ℕ} {plan : Plan} {course : Course} {names classes : List ℕ} {marks : List Bool} {at : ℕ} {turn : Turn} (m : SomeMove file t plan course names classes marks at turn) where
+module _ {plan : Plan} {course : Course} {names classes : List ℕ} {marks : List Bool} {at : ℕ} {turn : Turn} (m : SomeMove plan course names classes marks at turn) where
   abbrev pub taken : Move
   taken = record { run = suc turn.run; values = m.vs }
 
-  here : Here file t plan m.sc m.d m.s m.ms at
+  here : Here plan m.sc m.d m.s m.ms at
   here = m.move.clear.here
 
   -- its event, of which is asked whether it is allowed and what is known after it
-  abbrev event_of : length course.done ≡ 4 → AtEvent t plan.rows plan.runs.count turn.run turn.event classes marks
+  abbrev event_of : length course.done ≡ 4 → AtEvent plan.opened.table.bytes.now plan.opened.table.rows plan.opened.runs.count turn.run turn.event classes marks
   event_of size = record {
     sc = m.sc;
     d = m.d;
@@ -104,7 +104,7 @@ module _ {file t : List ℕ} {plan : Plan} {course : Course} {names classes : Li
 
   module _ {b : Bool} (tells : TellsAllowed turn.run turn.event classes marks b) (size : length course.done ≡ 4) where
     told : b ≡ present (performed m.sc m.d m.a m.vs)
-    told = tells t plan.rows plan.runs.count (event_of size)
+    told = tells plan.opened.table.bytes.now plan.opened.table.rows plan.opened.runs.count (event_of size)
 
     -- a move that is not allowed
     pub move-refused : b ≡ false → (reach : Reach) (trace : List ℕ) → FindsAfter m reach trace trace (Ok 0)
@@ -112,15 +112,15 @@ module _ {file t : List ℕ} {plan : Plan} {course : Course} {names classes : Li
         finds-nil m.sc reach.left (branches-refused plan m.sc reach.depth m.d (suc turn.run) m.a m.vs (told_none told it)) trace reach.at
 
     -- one that is
-    pub move_taken : b ≡ true → SomeStep file t plan course names classes marks at turn
+    pub move_taken : b ≡ true → SomeStep plan course names classes marks at turn
     move_taken it = let w = told-some told it in record { of = m; d' = w.0; allowed = w.1 }
 
-pub move-done : {file t : List ℕ} {plan : Plan} {course : Course} {names classes : List ℕ} {marks : List Bool} {turn : Turn} (reach : Reach) (m : SomeMove file t plan course names classes marks reach.at turn) {b : Bool}
-    → TellsAllowed turn.run turn.event classes marks b → length course.done ≡ 4 → b ≡ true → {before after : List ℕ} {w : Walked} → FindsStep file t plan course names classes marks reach turn before after w → FindsAfter m reach before after w
+pub move-done : {plan : Plan} {course : Course} {names classes : List ℕ} {marks : List Bool} {turn : Turn} (reach : Reach) (m : SomeMove plan course names classes marks reach.at turn) {b : Bool}
+    → TellsAllowed turn.run turn.event classes marks b → length course.done ≡ 4 → b ≡ true → {before after : List ℕ} {w : Walked} → FindsStep plan course names classes marks reach turn before after w → FindsAfter m reach before after w
 unfolding move_taken
 move-done reach m tells size it finds = finds (move_taken m tells size it)
 
-module _ {file t : List ℕ} {plan : Plan} {course : Course} {names classes : List ℕ} {marks : List Bool} {turn : Turn} (reach : Reach) (m : SomeStep file t plan course names classes marks reach.at turn) where
+module _ {plan : Plan} {course : Course} {names classes : List ℕ} {marks : List Bool} {turn : Turn} (reach : Reach) (m : SomeStep plan course names classes marks reach.at turn) where
   abbrev sc : Scenario
   sc = m.of.sc
 
@@ -243,8 +243,8 @@ module _ {file t : List ℕ} {plan : Plan} {course : Course} {names classes : Li
     is-short (Err Cut) finds = omega arith
 
   -- the state after it, with what is answered of the marks, and how far the walk goes from there
-  module _ {more : List Bool} (performs : MarksAfter t plan.rows plan.runs.count turn.run turn.event classes marks more) (size : length course.done ≡ 4) {next : List ℕ} (e : next ≡ set course.done turn.run (get_or course.done turn.run 0 + 1)) where
-    pub after-state : SomeState file t plan (state_of (record { done = next }) names classes more) (reach.at + step_size turn)
+  module _ {more : List Bool} (performs : MarksAfter plan.opened.table.bytes.now plan.opened.table.rows plan.opened.runs.count turn.run turn.event classes marks more) (size : length course.done ≡ 4) {next : List ℕ} (e : next ≡ set course.done turn.run (get_or course.done turn.run 0 + 1)) where
+    pub after-state : SomeState plan (state_of (record { done = next }) names classes more) (reach.at + step_size turn)
     after-state =
         let here = m.of.move.clear.here in
         record {
@@ -260,7 +260,7 @@ module _ {file t : List ℕ} {plan : Plan} {course : Course} {names classes : Li
         }
 
     -- what a walk from it finds, after the move
-    module _ {b b' : List ℕ} {w : Walked} (told : FindsFrom file t plan (state_of (record { done = next }) names classes more) (record { left = reach.left; at = reach.at + step_size turn; depth = reach.depth }) b b' w) where
+    module _ {b b' : List ℕ} {w : Walked} (told : FindsFrom plan (state_of (record { done = next }) names classes more) (record { left = reach.left; at = reach.at + step_size turn; depth = reach.depth }) b b' w) where
       pub found_after : Finds sc reach.left (entries_from plan reach.depth sc m.d') b (reach.at + step_size turn) b' w
       unfolding after-state
       found_after = told after-state

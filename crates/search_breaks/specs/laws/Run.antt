@@ -39,18 +39,18 @@ abbrev pub ReadOff : List ℕ → Runs → ℕ → ℕ → RunEvent → Type 0
 ReadOff file r k j e =
     (sc : Scenario) (run : Run) (ev : Event) → RunsAt file sc r → Guarantee sc → get_elem? sc.runs k ≡ some run → get_elem? (events_of sc run) j ≡ some ev → EventRead sc run ev e.kind e.own e.peer e.row
 
-module _ {file t : List ℕ} {plan : Plan} (course : Course) {names classes : List ℕ} {marks : List Bool} (reach : Reach) (m : SomeClear file t plan (state_of course names classes marks) reach.at) (k : ℕ) (low : k < plan.runs.count) where
-  pub here : Here file t plan m.sc m.d (state_of course names classes marks) m.ms reach.at
+module _ {plan : Plan} (course : Course) {names classes : List ℕ} {marks : List Bool} (reach : Reach) (m : SomeClear plan (state_of course names classes marks) reach.at) (k : ℕ) (low : k < plan.opened.runs.count) where
+  pub here : Here plan m.sc m.d (state_of course names classes marks) m.ms reach.at
   here = m.clear.here
 
-  pub given : Given file t plan.rows plan.runs m.sc
+  pub given : Given plan.opened.file.now plan.opened.table.bytes.now plan.opened.table.rows plan.opened.runs m.sc
   given = here.reached.given
 
   -- the run has made all its events
-  pub run-over : get_or plan.runs.events k 0 ≤ get_or course.done k 0 → (b : List ℕ) → Finds m.sc reach.left (below plan m.sc reach.depth (of_run m.sc m.d k)) b reach.at b (Ok 0)
+  pub run-over : get_or plan.opened.runs.events k 0 ≤ get_or course.done k 0 → (b : List ℕ) → Finds m.sc reach.left (below plan m.sc reach.depth (of_run m.sc m.d k)) b reach.at b (Ok 0)
   run-over l b = finds-nil m.sc reach.left (run_none plan m.sc reach.depth m.d (suc k) (run-ended given here.state k low l)) b reach.at
 
-  module _ (more : get_or course.done k 0 < get_or plan.runs.events k 0) {e : RunEvent} (off : ReadOff file plan.runs k (get_or course.done k 0) e) where
+  module _ (more : get_or course.done k 0 < get_or plan.opened.runs.events k 0) {e : RunEvent} (off : ReadOff plan.opened.file.now plan.opened.runs k (get_or course.done k 0) e) where
     -- its next event
     pub its : (a : Active) × Coming given here.state k low a
     its = run-coming given here.state k low more
@@ -58,7 +58,7 @@ module _ {file t : List ℕ} {plan : Plan} (course : Course) {names classes : Li
     reads : EventRead m.sc its.0.run its.0.event e.kind e.own e.peer e.row
     reads = off m.sc its.0.run its.0.event given.runs given.good its.1.of_run its.1.of_event
 
-    pub at-move : AtMove file t plan m.sc m.d (state_of course names classes marks) m.ms reach.at k e its.0
+    pub at-move : AtMove plan m.sc m.d (state_of course names classes marks) m.ms reach.at k e its.0
     at-move = record {
       clear = m.clear;
       next = coming-move given here.state k low its.0 its.1 reads;
@@ -78,8 +78,8 @@ module _ {file t : List ℕ} {plan : Plan} (course : Course) {names classes : Li
         none-set : Setting m.sc m.d its.0 names 0 [] [] names
         none-set = setting-none m.sc given.good m.d k its.0 at-move.next.is_active here.state is-read
 
-        module _ {under : List Bool} (beneath : Beneath (rows_of t) e.row under) where
-          pub read_none : SomeChoice file t plan course names names classes marks reach.at (record { turn = turn; under = under; from = 0 })
+        module _ {under : List Bool} (beneath : Beneath (rows_of plan.opened.table.bytes.now) e.row under) where
+          pub read_none : SomeChoice plan course names names classes marks reach.at (record { turn = turn; under = under; from = 0 })
           read_none = record {
             read = record { sc = m.sc; d = m.d; s = state_of course names classes marks; ms = m.ms; a = its.0; move = at-move; is_done = refl; is_own = refl; is_read = kind; inside = omega arith; under = beneath };
             xs = [];
@@ -87,14 +87,14 @@ module _ {file t : List ℕ} {plan : Plan} (course : Course) {names classes : Li
             choosing = record { setting = none-set; arrays = part_none at-move.next; takes = takes_none; are = are };
           }
 
-          pub run-read : {b b' : List ℕ} {w : Walked} → FindsChoice file t plan course names names classes marks reach (record { turn = turn; under = under; from = 0 }) b b' w → Finds m.sc reach.left (below plan m.sc reach.depth (of_run m.sc m.d k)) b reach.at b' w
+          pub run-read : {b b' : List ℕ} {w : Walked} → FindsChoice plan course names names classes marks reach (record { turn = turn; under = under; from = 0 }) b b' w → Finds m.sc reach.left (below plan m.sc reach.depth (of_run m.sc m.d k)) b reach.at b' w
           unfolding read_none
           run-read told =
               finds-same m.sc reach.left (run-some plan m.sc reach.depth m.d (suc k) at-move.next.is_active ∙ ap (λ (xs : List Atom). below plan m.sc reach.depth (branches m.sc m.d (suc k) its.0 [] xs)) none-set.split) (told read_none)
 
       -- any other event sets nothing
       module _ (kind : e.kind ≡ 1 → ⊥) where
-        pub move-none : SomeMove file t plan course names classes marks reach.at turn
+        pub move-none : SomeMove plan course names classes marks reach.at turn
         move-none = record {
           sc = m.sc;
           d = m.d;
@@ -111,7 +111,7 @@ module _ {file t : List ℕ} {plan : Plan} (course : Course) {names classes : Li
           };
         }
 
-        pub run-other : {b b' : List ℕ} {w : Walked} → FindsMove file t plan course names classes marks reach turn b b' w → Finds m.sc reach.left (below plan m.sc reach.depth (of_run m.sc m.d k)) b reach.at b' w
+        pub run-other : {b b' : List ℕ} {w : Walked} → FindsMove plan course names classes marks reach turn b b' w → Finds m.sc reach.left (below plan m.sc reach.depth (of_run m.sc m.d k)) b reach.at b' w
         unfolding move-none
         run-other told =
             finds-same m.sc reach.left (run-some plan m.sc reach.depth m.d (suc k) at-move.next.is_active ∙ ap (λ (xs : List Atom). below plan m.sc reach.depth (branches m.sc m.d (suc k) its.0 [] xs)) (nothing-set at-move.next kind)) (told move-none)

@@ -106,7 +106,7 @@ module _ (plan : Plan) (sc : Scenario) (left depth : ℕ) (d : State) {claimed :
       subst (λ (m : ℕ). Starts plan sc left depth d m) (ap size_of is) (own-starts plan sc left depth d (broken sc d) refl (ap is_ok is) deep)
 
 -- a state that the walk is at, by its positions
-pub standing : {file t : List ℕ} {plan : Plan} {s : CodeState} {at : ℕ} (m : SomeState file t plan s at) → Standing file plan.runs s.done m.sc m.d
+pub standing : {plan : Plan} {s : CodeState} {at : ℕ} (m : SomeState plan s at) → Standing plan.opened.file.now plan.opened.runs s.done m.sc m.d
 standing m = record { t = _; n = _; s = _; given = m.here.reached.given; state = m.here.state; is_done = refl }
 
 -- one run after the other

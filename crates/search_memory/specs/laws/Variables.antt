@@ -3,7 +3,7 @@ use Rattle.std.specs.Prelude.{ℕ, Bool, true, false, List, replicate}
 use Rattle.std.proofs.Common.{arith}
 use Rattle.std.proofs.lemmas.List.{get_or-replicate}
 use Rattle.rows.specs.Rows.{Sized}
-use Rattle.variables.specs.declared.VariableRows.{VariableRows}
+use Rattle.variables.specs.declared.found.VariableRows.{VariableRows}
 use Rattle.variables.specs.Variables.{Among}
 use Rattle.search_memory.specs.Memory.{Variables}
 

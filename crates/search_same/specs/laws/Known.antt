@@ -18,10 +18,10 @@ use Rattle.search_same.specs.laws.Clean.{clean_found, clean-some, clean-finds, c
 use Rattle.search_same.specs.laws.Placed.{placed-next}
 use Rattle.search_same.specs.laws.Memory.{remembered, remembers-stored}
 
-module _ {file t : List ℕ} {plan : Plan} {course : Course} {names classes : List ℕ} {marks : List Bool} {turn : Turn} (reach : Reach) (m : SomeStep file t plan course names classes marks reach.at turn)
+module _ {plan : Plan} {course : Course} {names classes : List ℕ} {marks : List Bool} {turn : Turn} (reach : Reach) (m : SomeStep plan course names classes marks reach.at turn)
     (size : length course.done ≡ 4) {next : List ℕ} (moved : next ≡ set course.done turn.run (get_or course.done turn.run 0 + 1))
-    {memory : List ℕ} (remembers : Remembers file t plan memory) {key : List ℕ} (is-key : IsKey plan.variables next names reach.depth key) where
-  reached : ReachedBy file t plan m.of.sc m.d' (m.of.ms ++ (taken m.of ∷ []))
+    {memory : List ℕ} (remembers : Remembers plan memory) {key : List ℕ} (is-key : IsKey plan.variables next names reach.depth key) where
+  reached : ReachedBy plan m.of.sc m.d' (m.of.ms ++ (taken m.of ∷ []))
   reached = let r = m.of.move.clear.here.reached in record { is_opened = r.is_opened; given = r.given; allowed = move-allowed reach m }
 
   placed : Placed m.of.sc m.d' next names
@@ -39,5 +39,5 @@ module _ {file t : List ℕ} {plan : Plan} {course : Course} {names classes : Li
       go false q = let l = ltb-false reach.left known q in rw (e ∙ known-within reach.left known l) (move-clean reach m b b (clean-finds clean l b (reach.at + step_size turn)))
 
   -- the memory stays right once what was found without a break is kept
-  pub kept-right : {n : ℕ} {b b' : List ℕ} → Finds m.of.sc reach.left (entries_from plan reach.depth m.of.sc m.d') b (reach.at + step_size turn) b' (Ok n) → {after : List ℕ} → Kept memory after key n → Remembers file t plan after
+  pub kept-right : {n : ℕ} {b b' : List ℕ} → Finds m.of.sc reach.left (entries_from plan reach.depth m.of.sc m.d') b (reach.at + step_size turn) b' (Ok n) → {after : List ℕ} → Kept memory after key n → Remembers plan after
   kept-right finds kept = let clean = clean_found finds in remembers-stored remembers reached placed is-key (kept.stored (clean-some plan reach.depth m.d' clean)) clean

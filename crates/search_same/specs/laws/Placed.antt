@@ -11,7 +11,7 @@ use Rattle.search_breaks.specs.declared.Turn.{Turn}
 use Rattle.search_breaks.specs.Walk.{SomeStep}
 
 -- the state after a move that is allowed
-pub placed-next : {file t : List ℕ} {plan : Plan} {course : Course} {names classes : List ℕ} {marks : List Bool} {at : ℕ} {turn : Turn} (m : SomeStep file t plan course names classes marks at turn)
+pub placed-next : {plan : Plan} {course : Course} {names classes : List ℕ} {marks : List Bool} {at : ℕ} {turn : Turn} (m : SomeStep plan course names classes marks at turn)
     → length course.done ≡ 4 → {next : List ℕ} → next ≡ set course.done turn.run (get_or course.done turn.run 0 + 1) → Placed m.of.sc m.d' next names
 placed-next m size {next} moved =
     let o = m.of in

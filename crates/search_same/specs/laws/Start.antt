@@ -23,8 +23,8 @@ first_done [] k p e = absurd (none-ne-some p e)
 first_done (r ∷ rs) zero p e = ap (λ (q : Progress). q.done) (some-injective (record { done = 0; values = [] }) p e)
 first_done (r ∷ rs) (suc k) p e = first_done rs k p e
 
-module _ {file t : List ℕ} (plan : Plan) {sc : Scenario} {s : State} (is_opened : opened file ≡ accepted sc) (given : Given file t plan.rows plan.runs sc) (state : IsState sc (initial sc) s) {done : List ℕ} (none_done : done ≡ replicate 4 0) where
-  pub state-first : SomeState file t plan (state_of (record { done = done }) s.names s.classes s.marks) 0
+module _ (plan : Plan) {sc : Scenario} {s : State} (is_opened : opened plan.opened.file.now ≡ accepted sc) (given : Given plan.opened.file.now plan.opened.table.bytes.now plan.opened.table.rows plan.opened.runs sc) (state : IsState sc (initial sc) s) {done : List ℕ} (none_done : done ≡ replicate 4 0) where
+  pub state-first : SomeState plan (state_of (record { done = done }) s.names s.classes s.marks) 0
   unfolding trace_bytes initial
   state-first = record {
     sc = sc;
@@ -39,7 +39,7 @@ module _ {file t : List ℕ} (plan : Plan) {sc : Scenario} {s : State} (is_opene
   }
 
   -- what is found from it on is what is found in the whole list
-  pub first_finds : {left depth : ℕ} → depth ≡ events_left sc (initial sc) → {b b' : List ℕ} {w : Walked} → FindsFrom file t plan (state_of (record { done = done }) s.names s.classes s.marks) (record { left = left; at = 0; depth = depth }) b b' w
+  pub first_finds : {left depth : ℕ} → depth ≡ events_left sc (initial sc) → {b b' : List ℕ} {w : Walked} → FindsFrom plan (state_of (record { done = done }) s.names s.classes s.marks) (record { left = left; at = 0; depth = depth }) b b' w
       → FindsAll (list_as plan.list) sc left b b' w
   unfolding next_in trace_list state-first
   first_finds e told = rw (← e) (told state-first)

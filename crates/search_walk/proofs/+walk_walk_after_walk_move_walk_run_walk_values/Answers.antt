@@ -6,7 +6,10 @@ use Prim.Native.Nat.{ℕ, suc, ◌-◌}
 use mathlib.Core.Path.{◌≡◌, refl, ap, ◌∙◌}
 use mathlib.Core.List.{List}
 use lib.ListN.{length, get_or}
-use Rattle.cells.specs.laws.Shape.{shape-sized}
+use Rattle.std.proofs.Common.{subst}
+use mathlib.Core.Bool.{Bool}
+use Rattle.runs.specs.declared.RunEvent.{RunEvent}
+use Rattle.moves.specs.Moves.{MarksAfter}
 use Rattle.variables.specs.laws.Values.{value-falls}
 use Rattle.search_breaks.specs.Walk.{state_clear}
 use Rattle.search_breaks.specs.laws.Finds.{finds-size, passed_on, passed-stops}
@@ -20,6 +23,10 @@ use Rattle.search_same.specs.laws.Known as known
 use Rattle.std.proofs.lemmas.Result.{err_from_is_err_and}
 use Rattle.search_walk.proofs.+walk_walk_after_walk_move_walk_run_walk_values.Goals as goal
 
+-- the table's runs are those of the file
+performed : {t : List ℕ} {n m m' k : ℕ} {e : RunEvent} {classes : List ℕ} {marks more : List Bool} → m ≡ m' → MarksAfter t n m k e classes marks more → MarksAfter t n m' k e classes marks more
+performed {t} {n} {k = k} {e = e} {classes} {marks} {more} same after = subst (λ (m : ℕ). MarksAfter t n m k e classes marks more) same after
+
 pub walk-broken-claimed-requires : goal.walk-broken-claimed-requires
 walk-broken-claimed-requires t c = let m = c.requires.some_state in (m.sc, m.d, _, m.here.reached.given, m.here.state, refl, refl)
 
@@ -27,13 +34,13 @@ pub walk-returns-in_err-count : goal.walk-returns-in_err-count
 walk-returns-in_err-count t c =
     let left = err_from_is_err_and c.from_residual.result c.from_residual.ensures.1 in
     record {
-      finds_from = λ m. rw (left.1, left.2) (from-state.walk_ends c.args.plan m.sc c.args.reach.left c.args.reach.depth m.d (c.broken-claimed.ensures m.sc m.d _ m.here.reached.given m.here.state refl refl) c.own.ensures c.in_err-count.was c.args.trace.now c.args.reach.at);
+      finds_from = λ m. rw (left.1, left.2) (from-state.walk_ends c.args.plan.now m.sc c.args.reach.left c.args.reach.depth m.d (c.broken-claimed.ensures m.sc m.d _ m.here.reached.given m.here.state refl refl) c.own.ensures c.in_err-count.was c.args.trace.now c.args.reach.at);
       remembers = c.requires.room.remembers;
     }
 
 pub walk-returns-then-reach-eq0 : goal.walk-returns-then-reach-eq0
 walk-returns-then-reach-eq0 t c = record {
-  finds_from = λ m. from-state.walk-alone c.args.plan m.sc c.args.reach.left c.args.reach.depth m.d (c.broken-claimed.ensures m.sc m.d _ m.here.reached.given m.here.state refl refl) c.own.ensures c.in_ok-count.was c.if-reach-eq0.true c.args.trace.now c.args.reach.at;
+  finds_from = λ m. from-state.walk-alone c.args.plan.now m.sc c.args.reach.left c.args.reach.depth m.d (c.broken-claimed.ensures m.sc m.d _ m.here.reached.given m.here.state refl refl) c.own.ensures c.in_ok-count.was c.if-reach-eq0.true c.args.trace.now c.args.reach.at;
   remembers = c.requires.room.remembers;
 }
 
@@ -44,12 +51,12 @@ pub walk-loop-k-init : goal.walk-loop-k-init
 walk-loop-k-init t c =
     let m = c.requires.some_state in
     let span = c.runs_in-span in
-    let first = from-state.walk-starts c.args.plan m.sc c.args.reach.left c.args.reach.depth m.d (c.broken-claimed.ensures m.sc m.d _ m.here.reached.given m.here.state refl refl) c.own.ensures c.in_ok-count.was c.if-reach-eq0.false in (
+    let first = from-state.walk-starts c.args.plan.now m.sc c.args.reach.left c.args.reach.depth m.d (c.broken-claimed.ensures m.sc m.d _ m.here.reached.given m.here.state refl refl) c.own.ensures c.in_ok-count.was c.if-reach-eq0.false in (
       refl,
       first.within,
       span.ensures.within,
       first.deep,
-      λ m. let starts = from-state.walk-starts c.args.plan m.sc c.args.reach.left c.args.reach.depth m.d (c.broken-claimed.ensures m.sc m.d _ m.here.reached.given m.here.state refl refl) c.own.ensures c.in_ok-count.was c.if-reach-eq0.false in
+      λ m. let starts = from-state.walk-starts c.args.plan.now m.sc c.args.reach.left c.args.reach.depth m.d (c.broken-claimed.ensures m.sc m.d _ m.here.reached.given m.here.state refl refl) c.own.ensures c.in_ok-count.was c.if-reach-eq0.false in
           (starts.unbroken, starts.passed span.result.end span.result.from (span.ensures.runs m.sc m.d (from-state.standing m))),
       c.requires.room.remembers,
     )
@@ -70,7 +77,7 @@ pub walk-returns-in_err-count-2 : goal.walk-returns-in_err-count-2
 walk-returns-in_err-count-2 t c = record {
   finds_from = λ m. let l = c.loop-k in
       let left = err_from_is_err_and c.from_residual-in_err-count-2.result c.from_residual-in_err-count-2.ensures.1 in
-      let passed = from-state.walk-next c.args.plan m.sc c.args.reach.left (c.args.reach.depth - 1) m.d (l.invariant.4 m).1 c.loop-k-test.true in
+      let passed = from-state.walk-next c.args.plan.now m.sc c.args.reach.left (c.args.reach.depth - 1) m.d (l.invariant.4 m).1 c.loop-k-test.true in
       rw (← l.invariant.0, left.1, left.2) (passed-stops m.sc c.args.reach.left _ _ _ _ passed (c.walk_run-found.ensures.finds_run (state_clear m (l.invariant.4 m).0)) c.behind.ensures c.in_err-count-2.was);
   remembers = c.walk_run-found.ensures.remembers;
 }
@@ -81,13 +88,13 @@ walk-loop-k-preserved t c =
     let m = c.requires.some_state in
     let below = c.loop-k-test.true in
     let told = c.walk_run-found.ensures.finds_run in
-    let next = from-state.walk-next c.args.plan m.sc c.args.reach.left (c.args.reach.depth - 1) m.d (l.invariant.4 m).1 below in
+    let next = from-state.walk-next c.args.plan.now m.sc c.args.reach.left (c.args.reach.depth - 1) m.d (l.invariant.4 m).1 below in
     let first = passed_on m.sc c.args.reach.left _ _ _ _ next (told (state_clear m (l.invariant.4 m).0)) c.behind.ensures c.in_ok-count-2.was in (
       first.1 ∙ l.invariant.0,
       first.2,
       l.invariant.2,
       l.invariant.3,
-      λ m. let next = from-state.walk-next c.args.plan m.sc c.args.reach.left (c.args.reach.depth - 1) m.d (l.invariant.4 m).1 below in
+      λ m. let next = from-state.walk-next c.args.plan.now m.sc c.args.reach.left (c.args.reach.depth - 1) m.d (l.invariant.4 m).1 below in
           ((l.invariant.4 m).0, (passed_on m.sc c.args.reach.left _ _ _ _ next (told (state_clear m (l.invariant.4 m).0)) c.behind.ensures c.in_ok-count-2.was).0),
       c.walk_run-found.ensures.remembers,
     )
@@ -95,7 +102,7 @@ walk-loop-k-preserved t c =
 pub walk-returns : goal.walk-returns
 walk-returns t c = record {
   finds_from = λ m. let l = c.loop-k in
-      rw (← l.invariant.0) (from-state.walk_end c.args.plan m.sc c.args.reach.left (c.args.reach.depth - 1) m.d (l.invariant.4 m).1 c.loop-k-test.false l.trace c.args.reach.at);
+      rw (← l.invariant.0) (from-state.walk_end c.args.plan.now m.sc c.args.reach.left (c.args.reach.depth - 1) m.d (l.invariant.4 m).1 c.loop-k-test.false l.trace c.args.reach.at);
   remembers = c.loop-k.invariant.5;
 }
 
@@ -118,7 +125,7 @@ walk_after-returns-in-Some t c =
     }
 
 pub walk_after-perform-after-requires : goal.walk_after-perform-after-requires
-walk_after-perform-after-requires t c = let m = c.requires.some_step.of in (m.move.clear.here.reached.given.shape, m.move.due)
+walk_after-perform-after-requires t c = let m = c.requires.some_step.of in rw c.args.plan.now.opened.counted m.move.due
 
 pub walk_after-overflow_mul-bytes : goal.walk_after-overflow_mul-bytes
 walk_after-overflow_mul-bytes t c = record { fits = omega (arith, of-move.few-chosen c.requires.some_step.of) }
@@ -132,31 +139,31 @@ walk_after-overflow_add-reach t c = let m = c.requires.some_step.of in record { 
 pub walk_after-walk-found-requires : goal.walk_after-walk-found-requires
 walk_after-walk-found-requires t c =
     let many : length c.args.course.done ≡ 4 = search (rules, c.well_formed) in
-    (omega arith, (of-move.after-state c.args.reach c.requires.some_step c.perform-after.ensures many c.advance-next.ensures, room-on c.requires.room refl c.requires.room.remembers _ (omega arith) (omega arith)))
+    (omega arith, (of-move.after-state c.args.reach c.requires.some_step (performed c.args.plan.now.opened.counted c.perform-after.ensures) many c.advance-next.ensures, room-on c.requires.room refl c.requires.room.remembers _ (omega arith) (omega arith)))
 
 pub walk_after-keep-requires : goal.walk_after-keep-requires
 walk_after-keep-requires t c =
     let many : length c.args.course.done ≡ 4 = search (rules, c.well_formed) in
-    let found = of-move.found_after c.args.reach c.requires.some_step c.perform-after.ensures many c.advance-next.ensures c.walk-found.ensures.finds_from in
+    let found = of-move.found_after c.args.reach c.requires.some_step (performed c.args.plan.now.opened.counted c.perform-after.ensures) many c.advance-next.ensures c.walk-found.ensures.finds_from in
     omega (arith, finds-size _ _ _ _ (rw c.in-Ok.is at found), c.requires.room.budget)
 
 pub walk_after-write_before-requires : goal.walk_after-write_before-requires
 walk_after-write_before-requires t c =
     let many : length c.args.course.done ≡ 4 = search (rules, c.well_formed) in
-    of-move.step_fits c.args.reach c.requires.some_step c.perform-after.ensures many c.advance-next.ensures c.walk-found.ensures.finds_from c.requires.room.buffer
+    of-move.step_fits c.args.reach c.requires.some_step (performed c.args.plan.now.opened.counted c.perform-after.ensures) many c.advance-next.ensures c.walk-found.ensures.finds_from c.requires.room.buffer
 
 pub walk_after-after_step-requires : goal.walk_after-after_step-requires
 walk_after-after_step-requires t c =
     let many : length c.args.course.done ≡ 4 = search (rules, c.well_formed) in
     let m = c.requires.some_step in
-    (omega (arith, of-move.step-length c.args.reach m c.perform-after.ensures many c.advance-next.ensures c.walk-found.ensures.finds_from), omega (arith, of-move.few-chosen m.of))
+    (omega (arith, of-move.step-length c.args.reach m (performed c.args.plan.now.opened.counted c.perform-after.ensures) many c.advance-next.ensures c.walk-found.ensures.finds_from), omega (arith, of-move.few-chosen m.of))
 
 pub walk_after-returns-in-Ok : goal.walk_after-returns-in-Ok
 walk_after-returns-in-Ok t c =
     let many : length c.args.course.done ≡ 4 = search (rules, c.well_formed) in
     record {
-      finds_step = λ m. of-move.step-finds c.args.reach m c.perform-after.ensures many c.advance-next.ensures c.walk-found.ensures.finds_from c.requires.room.buffer (rw c.in-Ok.is refl) (rw c.in-Ok.is refl);
-      remembers = let found = of-move.found_after c.args.reach c.requires.some_step c.perform-after.ensures many c.advance-next.ensures c.walk-found.ensures.finds_from in
+      finds_step = λ m. of-move.step-finds c.args.reach m (performed c.args.plan.now.opened.counted c.perform-after.ensures) many c.advance-next.ensures c.walk-found.ensures.finds_from c.requires.room.buffer (rw c.in-Ok.is refl) (rw c.in-Ok.is refl);
+      remembers = let found = of-move.found_after c.args.reach c.requires.some_step (performed c.args.plan.now.opened.counted c.perform-after.ensures) many c.advance-next.ensures c.walk-found.ensures.finds_from in
           known.kept-right c.args.reach c.requires.some_step many c.advance-next.ensures c.walk-found.ensures.remembers c.key_of-key.ensures (rw c.in-Ok.is at found) c.keep.ensures;
     }
 
@@ -164,7 +171,7 @@ pub walk_after-returns : goal.walk_after-returns
 walk_after-returns t c =
     let many : length c.args.course.done ≡ 4 = search (rules, c.well_formed) in
     record {
-      finds_step = λ m. of-move.step-finds c.args.reach m c.perform-after.ensures many c.advance-next.ensures c.walk-found.ensures.finds_from c.requires.room.buffer c.write_before.ensures c.after_step.ensures;
+      finds_step = λ m. of-move.step-finds c.args.reach m (performed c.args.plan.now.opened.counted c.perform-after.ensures) many c.advance-next.ensures c.walk-found.ensures.finds_from c.requires.room.buffer c.write_before.ensures c.after_step.ensures;
       remembers = c.walk-found.ensures.remembers;
     }
 
@@ -209,7 +216,7 @@ walk_run-event_of-event-requires t c =
 pub walk_run-beneath-under-requires : goal.walk_run-beneath-under-requires
 walk_run-beneath-under-requires t c =
     let m = c.requires.some_clear in
-    (shape-sized m.clear.here.reached.given.shape, (of-run.at-move c.args.course c.args.reach m c.args.k c.requires.k_lt_count c.if-runs-k.false c.event_of-event.ensures).due.term)
+    (of-run.at-move c.args.course c.args.reach m c.args.k c.requires.k_lt_count c.if-runs-k.false c.event_of-event.ensures).due.term
 
 pub walk_run-walk_values-requires : goal.walk_run-walk_values-requires
 walk_run-walk_values-requires t c =
@@ -235,27 +242,27 @@ walk_run-returns t c = record {
 pub walk_values-overflow_add-turn : goal.walk_values-overflow_add-turn
 walk_values-overflow_add-turn t c = let m = c.requires.some_choice.read in record { fits = omega (arith, m.move.clear.here.reached.given.runs.few, m.move.due.is_run) }
 
-pub walk_values-next_unset-x-requires : goal.walk_values-next_unset-x-requires
-walk_values-next_unset-x-requires t c =
+pub walk_values-next_unset-requires : goal.walk_values-next_unset-requires
+walk_values-next_unset-requires t c =
     let m = c.requires.some_choice.read in
-    (shape-sized m.move.clear.here.reached.given.shape, (omega (arith, m.move.clear.here.reached.given.runs.few, m.move.due.is_run), m.inside))
+    (omega (arith, m.move.clear.here.reached.given.runs.few, m.move.due.is_run), m.inside)
 
 pub walk_values-walk_move-requires : goal.walk_values-walk_move-requires
-walk_values-walk_move-requires t c = (omega arith, (of_values.choice-move c.next_unset-x.ensures c.args.reach c.requires.some_choice c.if-x-plan.true, c.requires.room))
+walk_values-walk_move-requires t c = (omega arith, (of_values.choice-move (of_values.next-none c.args.plan.now.opened.table.bytes.now c.args.own.now c.args.plan.now.opened.table.rows c.args.choice c.next_unset.ensures c.in_default.is) c.args.reach c.requires.some_choice refl, c.requires.room))
 
-pub walk_values-returns-then-x-plan : goal.walk_values-returns-then-x-plan
-walk_values-returns-then-x-plan t c = record {
-  finds_choice = λ m. of_values.choice-done c.next_unset-x.ensures c.args.reach m c.if-x-plan.true c.walk_move.ensures.finds_move;
+pub walk_values-returns-in_default : goal.walk_values-returns-in_default
+walk_values-returns-in_default t c = record {
+  finds_choice = λ m. of_values.choice-done (of_values.next-none c.args.plan.now.opened.table.bytes.now c.args.own.now c.args.plan.now.opened.table.rows c.args.choice c.next_unset.ensures c.in_default.is) c.args.reach m refl c.walk_move.ensures.finds_move;
   remembers = c.walk_move.ensures.remembers;
 }
 
 pub walk_values-may_be_read-requires : goal.walk_values-may_be_read-requires
-walk_values-may_be_read-requires t c = let m = c.requires.some_choice in (m.read.move.clear.here.reached.given.shape, m.read.move.due)
+walk_values-may_be_read-requires t c = let m = c.requires.some_choice in rw c.args.plan.now.opened.counted m.read.move.due
 
 pub walk_values-returns-then-not-may_be_read : goal.walk_values-returns-then-not-may_be_read
 walk_values-returns-then-not-may_be_read t c = record {
   finds_choice = λ m. from-state.finds-nil m.read.sc c.args.reach.left
-      (branches-pruned c.args.plan m.read.sc c.args.reach.depth m.read.d (suc c.args.choice.turn.run) m.read.a m.vs _ (λ ws takes. c.may_be_read.ensures m.read.sc m.read.d m.read.s m.read.a c.args.choice.from m.xs m.vs ws _ m.read.move.next m.read.is_read m.choosing.setting m.choosing.arrays takes (c.if-not-may_be_read.true)))
+      (branches-pruned c.args.plan.now m.read.sc c.args.reach.depth m.read.d (suc c.args.choice.turn.run) m.read.a m.vs _ (λ ws takes. c.may_be_read.ensures m.read.sc m.read.d m.read.s m.read.a c.args.choice.from m.xs m.vs ws _ (rw c.args.plan.now.opened.counted m.read.move.next) m.read.is_read m.choosing.setting m.choosing.arrays takes (c.if-not-may_be_read.true)))
       c.args.trace.now c.args.reach.at;
   remembers = c.requires.room.remembers;
 }
@@ -266,14 +273,14 @@ walk_values-loop-value-init t c = (refl, omega arith, omega arith, (λ m unset m
 pub walk_values-next_value-requires : goal.walk_values-next_value-requires
 walk_values-next_value-requires t c =
     let m = c.requires.some_choice in
-    (m.read.move.clear.here.reached.given.shape, (of_values.row_low c.next_unset-x.ensures c.args.reach m c.if-x-plan.false, c.loop-value.invariant.2))
+    (of_values.row_low (of_values.next-some c.args.plan.now.opened.table.bytes.now c.args.own.now c.args.plan.now.opened.table.rows c.args.choice c.next_unset.ensures c.in-Some.is) c.args.reach m (of_values.next-inside c.args.plan.now.opened.table.bytes.now c.args.own.now c.args.plan.now.opened.table.rows c.args.choice c.next_unset.ensures c.in-Some.is m.read.under), c.loop-value.invariant.2)
 
 pub walk_values-returns : goal.walk_values-returns
 walk_values-returns t c = record {
   finds_choice = λ m. let l = c.loop-value in
-      let unset = c.next_unset-x.ensures in
-      let more = c.if-x-plan.false in
-      rw (← l.invariant.0) (of_values.tried-end unset c.args.reach m more c.next_value.ensures c.in_default.is (l.invariant.3 m unset more) l.trace);
+      let unset = (of_values.next-some c.args.plan.now.opened.table.bytes.now c.args.own.now c.args.plan.now.opened.table.rows c.args.choice c.next_unset.ensures c.in-Some.is) in
+      let more = of_values.next-inside c.args.plan.now.opened.table.bytes.now c.args.own.now c.args.plan.now.opened.table.rows c.args.choice c.next_unset.ensures c.in-Some.is m.read.under in
+      rw (← l.invariant.0) (of_values.tried-end unset c.args.reach m more (rw c.args.plan.now.opened.counted at c.next_value.ensures) c.in_default-next_value.is (l.invariant.3 m unset more) l.trace);
   remembers = c.loop-value.invariant.4;
 }
 
@@ -283,11 +290,11 @@ walk_values-overflow_add-choice t c = let m = c.requires.some_choice.read in rec
 pub walk_values-tried-more_marks-requires : goal.walk_values-tried-more_marks-requires
 walk_values-tried-more_marks-requires t c =
     let m = c.requires.some_choice in
-    let unset = c.next_unset-x.ensures in
-    let more = c.if-x-plan.false in
-    let low = of_values.value-within unset c.args.reach m more c.next_value.ensures c.in-Some.is in
+    let unset = (of_values.next-some c.args.plan.now.opened.table.bytes.now c.args.own.now c.args.plan.now.opened.table.rows c.args.choice c.next_unset.ensures c.in-Some.is) in
+    let more = of_values.next-inside c.args.plan.now.opened.table.bytes.now c.args.own.now c.args.plan.now.opened.table.rows c.args.choice c.next_unset.ensures c.in-Some.is m.read.under in
+    let low = of_values.value-within unset c.args.reach m more (rw c.args.plan.now.opened.counted at c.next_value.ensures) c.in-Some-next_value.is in
     let shape = m.read.move.clear.here.reached.given.shape in
-    (shape, (omega (arith, m.read.move.due.is_run), (omega (arith, of_values.row_low unset c.args.reach m more, shape.few), (omega (arith, low.0, shape.few), low.1))))
+    (omega (arith, of_values.row_low unset c.args.reach m more, shape.few), (omega (arith, low.0, shape.few), low.1))
 
 pub walk_values-overflow_sub-reach : goal.walk_values-overflow_sub-reach
 walk_values-overflow_sub-reach t c = omega (arith, c.loop-value.invariant.1)
@@ -295,72 +302,72 @@ walk_values-overflow_sub-reach t c = omega (arith, c.loop-value.invariant.1)
 pub walk_values-with_value-requires : goal.walk_values-with_value-requires
 walk_values-with_value-requires t c =
     let m = c.requires.some_choice in
-    let unset = c.next_unset-x.ensures in
-    let more = c.if-x-plan.false in
-    let low = of_values.value-within unset c.args.reach m more c.next_value.ensures c.in-Some.is in
+    let unset = (of_values.next-some c.args.plan.now.opened.table.bytes.now c.args.own.now c.args.plan.now.opened.table.rows c.args.choice c.next_unset.ensures c.in-Some.is) in
+    let more = of_values.next-inside c.args.plan.now.opened.table.bytes.now c.args.own.now c.args.plan.now.opened.table.rows c.args.choice c.next_unset.ensures c.in-Some.is m.read.under in
+    let low = of_values.value-within unset c.args.reach m more (rw c.args.plan.now.opened.counted at c.next_value.ensures) c.in-Some-next_value.is in
     (of_values.few-chosen unset c.args.reach m more, (omega (arith, low.0, m.read.move.clear.here.reached.given.shape.few), omega (arith, low.1)))
 
 pub walk_values-overflow_add-x : goal.walk_values-overflow_add-x
 walk_values-overflow_add-x t c =
     let m = c.requires.some_choice in
-    record { fits = omega (arith, of_values.row_low c.next_unset-x.ensures c.args.reach m c.if-x-plan.false, m.read.move.clear.here.reached.given.shape.few) }
+    record { fits = omega (arith, of_values.row_low (of_values.next-some c.args.plan.now.opened.table.bytes.now c.args.own.now c.args.plan.now.opened.table.rows c.args.choice c.next_unset.ensures c.in-Some.is) c.args.reach m (of_values.next-inside c.args.plan.now.opened.table.bytes.now c.args.own.now c.args.plan.now.opened.table.rows c.args.choice c.next_unset.ensures c.in-Some.is c.requires.some_choice.read.under), m.read.move.clear.here.reached.given.shape.few) }
 
 pub walk_values-walk_values-found-requires : goal.walk_values-walk_values-found-requires
 walk_values-walk_values-found-requires t c =
     let m = c.requires.some_choice in
     let l = c.loop-value in
-    let unset = c.next_unset-x.ensures in
-    let more = c.if-x-plan.false in (
+    let unset = (of_values.next-some c.args.plan.now.opened.table.bytes.now c.args.own.now c.args.plan.now.opened.table.rows c.args.choice c.next_unset.ensures c.in-Some.is) in
+    let more = of_values.next-inside c.args.plan.now.opened.table.bytes.now c.args.own.now c.args.plan.now.opened.table.rows c.args.choice c.next_unset.ensures c.in-Some.is m.read.under in (
       omega (arith, of_values.row_low unset c.args.reach m more, of_values.row_from unset c.args.reach m more),
-      (of_values.grown unset c.args.reach m more c.next_value.ensures c.in-Some.is (l.invariant.3 m unset more) c.tried-more_marks.result c.tried-more_marks.ensures.names_after c.tried-more_marks.ensures.refilled c.tried-more_marks.ensures.settled c.with_value.ensures, room-on c.requires.room l.invariant.0 l.invariant.4 _ (omega arith) (omega arith)),
+      (of_values.grown unset c.args.reach m more (rw c.args.plan.now.opened.counted at c.next_value.ensures) c.in-Some-next_value.is (l.invariant.3 m unset more) c.tried-more_marks.result c.tried-more_marks.ensures.names_after (rw c.args.plan.now.opened.counted at c.tried-more_marks.ensures.refilled) (rw c.args.plan.now.opened.counted at c.tried-more_marks.ensures.settled) c.with_value.ensures, room-on c.requires.room l.invariant.0 l.invariant.4 _ (omega arith) (omega arith)),
     )
 
 pub walk_values-behind-requires : goal.walk_values-behind-requires
 walk_values-behind-requires t c =
     let m = c.requires.some_choice in
     let l = c.loop-value in
-    let unset = c.next_unset-x.ensures in
-    let more = c.if-x-plan.false in
-    let size = of_values.tried-size unset c.args.reach m more c.next_value.ensures c.in-Some.is (l.invariant.3 m unset more) c.tried-more_marks.result c.tried-more_marks.ensures.names_after c.tried-more_marks.ensures.refilled c.tried-more_marks.ensures.settled c.with_value.ensures c.walk_values-found.ensures.finds_choice refl in
+    let unset = (of_values.next-some c.args.plan.now.opened.table.bytes.now c.args.own.now c.args.plan.now.opened.table.rows c.args.choice c.next_unset.ensures c.in-Some.is) in
+    let more = of_values.next-inside c.args.plan.now.opened.table.bytes.now c.args.own.now c.args.plan.now.opened.table.rows c.args.choice c.next_unset.ensures c.in-Some.is m.read.under in
+    let size = of_values.tried-size unset c.args.reach m more (rw c.args.plan.now.opened.counted at c.next_value.ensures) c.in-Some-next_value.is (l.invariant.3 m unset more) c.tried-more_marks.result c.tried-more_marks.ensures.names_after (rw c.args.plan.now.opened.counted at c.tried-more_marks.ensures.refilled) (rw c.args.plan.now.opened.counted at c.tried-more_marks.ensures.settled) c.with_value.ensures c.walk_values-found.ensures.finds_choice refl in
     (omega (arith, l.invariant.1, c.requires.room.budget), omega (arith, size, c.requires.room.budget))
 
 pub walk_values-returns-in_err-count : goal.walk_values-returns-in_err-count
 walk_values-returns-in_err-count t c = record {
   finds_choice = λ m. let l = c.loop-value in
       let left = err_from_is_err_and c.from_residual.result c.from_residual.ensures.1 in
-      let unset = c.next_unset-x.ensures in
-      let more = c.if-x-plan.false in
-      rw (← l.invariant.0, left.1, left.2) (of_values.tried-stops unset c.args.reach m more c.next_value.ensures c.in-Some.is (l.invariant.3 m unset more) c.tried-more_marks.result c.tried-more_marks.ensures.names_after c.tried-more_marks.ensures.refilled c.tried-more_marks.ensures.settled c.with_value.ensures c.walk_values-found.ensures.finds_choice c.behind.ensures c.in_err-count.was);
+      let unset = (of_values.next-some c.args.plan.now.opened.table.bytes.now c.args.own.now c.args.plan.now.opened.table.rows c.args.choice c.next_unset.ensures c.in-Some.is) in
+      let more = of_values.next-inside c.args.plan.now.opened.table.bytes.now c.args.own.now c.args.plan.now.opened.table.rows c.args.choice c.next_unset.ensures c.in-Some.is m.read.under in
+      rw (← l.invariant.0, left.1, left.2) (of_values.tried-stops unset c.args.reach m more (rw c.args.plan.now.opened.counted at c.next_value.ensures) c.in-Some-next_value.is (l.invariant.3 m unset more) c.tried-more_marks.result c.tried-more_marks.ensures.names_after (rw c.args.plan.now.opened.counted at c.tried-more_marks.ensures.refilled) (rw c.args.plan.now.opened.counted at c.tried-more_marks.ensures.settled) c.with_value.ensures c.walk_values-found.ensures.finds_choice c.behind.ensures c.in_err-count.was);
   remembers = c.walk_values-found.ensures.remembers;
 }
 
 pub walk_values-overflow_add-run : goal.walk_values-overflow_add-run
 walk_values-overflow_add-run t c =
-    record { fits = omega (arith, (of_values.value-within c.next_unset-x.ensures c.args.reach c.requires.some_choice c.if-x-plan.false c.next_value.ensures c.in-Some.is).1) }
+    record { fits = omega (arith, (of_values.value-within (of_values.next-some c.args.plan.now.opened.table.bytes.now c.args.own.now c.args.plan.now.opened.table.rows c.args.choice c.next_unset.ensures c.in-Some.is) c.args.reach c.requires.some_choice (of_values.next-inside c.args.plan.now.opened.table.bytes.now c.args.own.now c.args.plan.now.opened.table.rows c.args.choice c.next_unset.ensures c.in-Some.is c.requires.some_choice.read.under) (rw c.args.plan.now.opened.counted at c.next_value.ensures) c.in-Some-next_value.is).1) }
 
 pub walk_values-loop-value-smaller : goal.walk_values-loop-value-smaller
 walk_values-loop-value-smaller t c =
     let m = c.requires.some_choice in
-    let unset = c.next_unset-x.ensures in
-    let more = c.if-x-plan.false in
-    let low = of_values.value-within unset c.args.reach m more c.next_value.ensures c.in-Some.is in
-    value-falls c.args.plan.rows _ _ _ _ (of_values.value-later unset c.args.reach m more c.next_value.ensures c.in-Some.is) low.0 low.1
+    let unset = (of_values.next-some c.args.plan.now.opened.table.bytes.now c.args.own.now c.args.plan.now.opened.table.rows c.args.choice c.next_unset.ensures c.in-Some.is) in
+    let more = of_values.next-inside c.args.plan.now.opened.table.bytes.now c.args.own.now c.args.plan.now.opened.table.rows c.args.choice c.next_unset.ensures c.in-Some.is m.read.under in
+    let low = of_values.value-within unset c.args.reach m more (rw c.args.plan.now.opened.counted at c.next_value.ensures) c.in-Some-next_value.is in
+    value-falls c.args.plan.now.opened.table.rows _ _ _ _ (of_values.value-later unset c.args.reach m more (rw c.args.plan.now.opened.counted at c.next_value.ensures) c.in-Some-next_value.is) low.0 low.1
 
 pub walk_values-loop-value-preserved : goal.walk_values-loop-value-preserved
 walk_values-loop-value-preserved t c =
     let l = c.loop-value in
     let m = c.requires.some_choice in
-    let unset = c.next_unset-x.ensures in
-    let more = c.if-x-plan.false in
-    let value = c.next_value.ensures in
+    let unset = (of_values.next-some c.args.plan.now.opened.table.bytes.now c.args.own.now c.args.plan.now.opened.table.rows c.args.choice c.next_unset.ensures c.in-Some.is) in
+    let more = of_values.next-inside c.args.plan.now.opened.table.bytes.now c.args.own.now c.args.plan.now.opened.table.rows c.args.choice c.next_unset.ensures c.in-Some.is m.read.under in
+    let value = (rw c.args.plan.now.opened.counted at c.next_value.ensures) in
     let put = c.tried-more_marks.ensures.names_after in
-    let refilled = c.tried-more_marks.ensures.refilled in
-    let settled = c.tried-more_marks.ensures.settled in
+    let refilled = (rw c.args.plan.now.opened.counted at c.tried-more_marks.ensures.refilled) in
+    let settled = (rw c.args.plan.now.opened.counted at c.tried-more_marks.ensures.settled) in
     let told = c.walk_values-found.ensures.finds_choice in
-    let first = of_values.tried-on unset c.args.reach m more value c.in-Some.is (l.invariant.3 m unset more) c.tried-more_marks.result put refilled settled c.with_value.ensures told c.behind.ensures c.in_ok-count.was in (
+    let first = of_values.tried-on unset c.args.reach m more value c.in-Some-next_value.is (l.invariant.3 m unset more) c.tried-more_marks.result put refilled settled c.with_value.ensures told c.behind.ensures c.in_ok-count.was in (
       first.1 ∙ l.invariant.0,
       first.2,
-      omega (arith, (of_values.value-within unset c.args.reach m more value c.in-Some.is).0),
-      (λ m unset more. (of_values.tried-on unset c.args.reach m more value c.in-Some.is (l.invariant.3 m unset more) c.tried-more_marks.result put refilled settled c.with_value.ensures told c.behind.ensures c.in_ok-count.was).0),
+      omega (arith, (of_values.value-within unset c.args.reach m more value c.in-Some-next_value.is).0),
+      (λ m unset more. (of_values.tried-on unset c.args.reach m more value c.in-Some-next_value.is (l.invariant.3 m unset more) c.tried-more_marks.result put refilled settled c.with_value.ensures told c.behind.ensures c.in_ok-count.was).0),
       c.walk_values-found.ensures.remembers,
     )

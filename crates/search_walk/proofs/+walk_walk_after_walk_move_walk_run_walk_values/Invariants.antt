@@ -24,19 +24,19 @@ abbrev pub decreases-walk_run : goal.decreases-walk_run
 decreases-walk_run l = l.reach.depth * 400 + 300
 
 abbrev pub decreases-walk_values : goal.decreases-walk_values
-decreases-walk_values l = l.reach.depth * 400 + 3 + 2 * (l.plan.rows - l.choice.from)
+decreases-walk_values l = l.reach.depth * 400 + 3 + 2 * (l.plan.now.opened.table.rows - l.choice.from)
 
 abbrev pub invariant-walk-loop-k : goal.invariant-walk-loop-k
 invariant-walk-loop-k l =
-    (l.trace ≡ l.initial.trace) × (l.count ≤ l.reach.left) × (l.k-end ≤ l.plan.runs.count) × (0 < l.reach.depth)
-    × ((m : SomeState l.file l.t l.plan (state_of l.course l.names l.classes l.marks) l.reach.at) → (broken m.sc m.d ≡ none) × Passed m.sc l.reach.left (entries_from l.plan l.reach.depth m.sc m.d) (runs_from l.plan m.sc (l.reach.depth - 1) m.d l.k-end l.k) l.count)
-    × Remembers l.file l.t l.plan l.memory
+    (l.trace ≡ l.initial.trace) × (l.count ≤ l.reach.left) × (l.k-end ≤ l.plan.opened.runs.count) × (0 < l.reach.depth)
+    × ((m : SomeState l.plan (state_of l.course l.names l.classes l.marks) l.reach.at) → (broken m.sc m.d ≡ none) × Passed m.sc l.reach.left (entries_from l.plan l.reach.depth m.sc m.d) (runs_from l.plan m.sc (l.reach.depth - 1) m.d l.k-end l.k) l.count)
+    × Remembers l.plan l.memory
 
 abbrev pub invariant-walk_values-loop-value : goal.invariant-walk_values-loop-value
 invariant-walk_values-loop-value l =
-    (l.trace ≡ l.initial.trace) × (l.count ≤ l.reach.left) × (l.row ≤ l.plan.rows)
-    × ((m : SomeChoice l.file l.t l.plan l.course l.own l.names l.classes l.marks l.reach.at l.choice) (unset : of_values.NextFor l.t l.own l.choice l.x) (more : l.x ≡ l.plan.rows → ⊥) → of_values.Tried unset l.reach m more l.row l.run l.count)
-    × Remembers l.file l.t l.plan l.memory
+    (l.trace ≡ l.initial.trace) × (l.count ≤ l.reach.left) × (l.row ≤ l.plan.opened.table.rows)
+    × ((m : SomeChoice l.plan l.course l.own l.names l.classes l.marks l.reach.at l.choice) (unset : of_values.NextFor l.plan.opened.table.bytes.now l.own l.choice l.x) (more : l.x ≡ l.plan.opened.table.rows → ⊥) → of_values.Tried unset l.reach m more l.row l.run l.count)
+    × Remembers l.plan l.memory
 
 abbrev pub decreases-walk_values-loop-value : goal.decreases-walk_values-loop-value
-decreases-walk_values-loop-value l = (l.plan.rows - l.row) * 6 + (6 - l.run)
+decreases-walk_values-loop-value l = (l.plan.opened.table.rows - l.row) * 6 + (6 - l.run)

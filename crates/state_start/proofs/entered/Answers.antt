@@ -10,13 +10,13 @@ use Rattle.state_start.proofs.entered.Goals as goal
 pub loop-r-init : goal.loop-r-init
 loop-r-init c =
     let size : length c.args.names ≡ 480 = search rules in
-    entered-none (rows_of c.args.t.now) c.args.u c.args.agents.now c.args.names size
+    entered-none (rows_of c.args.t.now.bytes.now) c.args.u c.args.agents.now c.args.names size
 
 pub loop-r-preserved : goal.loop-r-preserved
 loop-r-preserved c =
     let inv = c.loop-r.invariant in
-    entered-more (rows_of c.args.t.now) c.args.u c.args.agents.now c.args.names c.loop-r.more c.loop-r.r c.name_of.result (omega (arith, c.requires.0.few, c.loop-r-test.true)) c.cell.ensures.0 c.cell.ensures.1 inv c.name_of.ensures
+    entered-more (rows_of c.args.t.now.bytes.now) c.args.u c.args.agents.now c.args.names c.loop-r.more c.loop-r.r c.name_of.result (omega (arith, c.args.t.now.shape.few, c.loop-r-test.true)) c.cell.ensures.0 c.cell.ensures.1 inv c.name_of.ensures
 
 pub returns : goal.returns
 returns c =
-    entered_all (rows_of c.args.t.now) c.args.u c.args.agents.now c.args.names c.loop-r.more (omega (arith, c.requires.0.count, c.loop-r-test.false)) c.loop-r.invariant
+    entered_all (rows_of c.args.t.now.bytes.now) c.args.u c.args.agents.now c.args.names c.loop-r.more (omega (arith, c.args.t.now.shape.count, c.loop-r-test.false)) c.loop-r.invariant

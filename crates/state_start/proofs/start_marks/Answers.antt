@@ -9,8 +9,8 @@ loop-r-init c = c.intruder_marks-marks.ensures
 
 pub bounds-marks-from : goal.bounds-marks-from
 bounds-marks-from c =
-    let l = c.requires.1 _ (at_mem c.args.list.now c.loop-r.r-index c.loop-r-test.true) in
-    let few = c.requires.0.few in
+    let l = c.requires _ (at_mem c.args.list.now c.loop-r.r-index c.loop-r-test.true) in
+    let few = c.args.t.now.shape.few in
     let size = c.loop-r.invariant.size in
     omega (arith, l, c.from.ensures, few, size)
 
@@ -18,9 +18,9 @@ pub loop-r-preserved : goal.loop-r-preserved
 loop-r-preserved c =
     let i = c.loop-r.r-index in
     let low = c.loop-r-test.true in
-    let l = c.requires.1 _ (at_mem c.args.list.now i low) in
-    listed_more c.args.t.now c.args.n c.args.list.now i c.loop-r.marks c.from.ensures low (omega (arith, l, c.from.ensures)) c.requires.0.few c.loop-r.invariant
+    let l = c.requires _ (at_mem c.args.list.now i low) in
+    listed_more c.args.t.now.bytes.now c.args.t.now.rows c.args.list.now i c.loop-r.marks c.from.ensures low (omega (arith, l, c.from.ensures)) c.args.t.now.shape.few c.loop-r.invariant
 
 pub returns : goal.returns
 returns c =
-    listed-all c.args.t.now c.args.n c.args.list.now c.loop-r.r-index c.loop-r.marks c.loop-r-test.false c.loop-r.invariant
+    listed-all c.args.t.now.bytes.now c.args.t.now.rows c.args.list.now c.loop-r.r-index c.loop-r.marks c.loop-r-test.false c.loop-r.invariant

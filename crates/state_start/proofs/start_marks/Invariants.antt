@@ -4,4 +4,4 @@ use Rattle.state_start.specs.Start.{StartMarks}
 use Rattle.state_start.proofs.start_marks.Given as goal
 
 abbrev pub invariant-loop-r : goal.invariant-loop-r
-invariant-loop-r l = StartMarks l.t l.n (take l.r-index l.list) l.marks
+invariant-loop-r l = StartMarks l.t.bytes.now l.t.rows (take l.r-index l.list) l.marks

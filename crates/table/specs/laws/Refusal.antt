@@ -1,6 +1,6 @@
 -- The refusal of a row after the rows below it, and how many variables there are with it. Assumes nothing.
 use Rattle.std.specs.Prelude.{ℕ, ◌+◌, ◌*◌, ◌≤◌, ◌<◌, ◌≡◌, Bool, List, [], ◌∷◌, ◌++◌, T, Some, None, ltb, leb, eqb, length, get_or, take}
-use Rattle.std.proofs.Common.{arith, ◌∙◌, lt→ltb, eqb-true, ap}
+use Rattle.std.proofs.Common.{arith, ◌∙◌, lt→ltb, eqb-true}
 use Rattle.std.proofs.Math.Path.{refl, sym}
 use Rattle.std.proofs.Math.Bool.{true, false}
 use Rattle.std.proofs.Math.Option.{Option, none, some}

@@ -5,4 +5,4 @@ use Rattle.variables.specs.Variables.{ClosedFrom}
 use Rattle.variables.proofs.beneath.Given as goal
 
 abbrev pub invariant-loop-r : goal.invariant-loop-r
-invariant-loop-r l = ClosedFrom (rows_of l.t) l.x (l.r + 1) l.below
+invariant-loop-r l = ClosedFrom (rows_of l.t.bytes.now) l.x (l.r + 1) l.below

@@ -5,4 +5,4 @@ use Rattle.variables.specs.laws.Spans.{Ahead}
 use Rattle.variables.proofs.next_value.Given as goal
 
 abbrev pub invariant-loop-y : goal.invariant-loop-y
-invariant-loop-y l = Ahead (rows_of l.t) l.runs l.x l.r l.w l.y l.v
+invariant-loop-y l = Ahead (rows_of l.t.bytes.now) l.t.runs l.x l.r l.w l.y l.v

@@ -3,4 +3,4 @@ use Rattle.variables.specs.laws.Rows.{GatheredRows}
 use Rattle.variables.proofs.variable_rows.Given as goal
 
 abbrev pub invariant-loop-x : goal.invariant-loop-x
-invariant-loop-x l = GatheredRows l.t l.n l.set l.found l.count l.x
+invariant-loop-x l = GatheredRows l.t.bytes.now l.t.rows l.set l.found l.count l.x

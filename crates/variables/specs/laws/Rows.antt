@@ -1,9 +1,9 @@
 -- The rows of a table's variables, one after the other. Assumes nothing.
 use Rattle.std.specs.Prelude.{ℕ, zero, suc, ◌+◌, ◌*◌, ◌<◌, ◌≤◌, ◌≡◌, refl, Bool, true, false, List, [], ◌∷◌, T, length, get_or, take, set, replicate}
-use Rattle.std.proofs.Math.Decide.{ℕ_discrete}
+use Rattle.std.proofs.Math.Decide.{ℕ_discrete, dec_lt}
 use Rattle.std.proofs.Common.{add-one, arith, below_more, sym, ap, ◌∙◌, length-set, get_or-set_same, get_or-set_other}
 use Rattle.std.proofs.Math.Option.{some, some-injective, none-ne-some}
-use Rattle.std.proofs.Math.ListN.{get_elem?}
+use Rattle.std.proofs.Math.ListN.{get_elem?, get_or-eq_default}
 use Rattle.std.proofs.lemmas.List.{get_or-replicate}
 use Rattle.semantics.specs.Basic.{keep}
 use Rattle.semantics.specs.Table.{variable_row}
@@ -123,10 +123,22 @@ module _ (t : List ℕ) (n : ℕ) (sized : Sized t n) where
               (λ k v. (count, omega arith, get_or-set_same rows count x 0 free));
         }
 
+    -- there are few of them
+    pub gathered-few : count ≤ 8
+    gathered-few = omega (arith, g.few, keep-first variable_row (rows_of t) x, (table-good t sized.table).few_variables)
+
+    -- and each place holds a row
+    pub gathered-low : (j : ℕ) → get_or rows j 0 < 96
+    gathered-low j = go (dec_lt j 8)
+      where
+        go : Dec (j < 8) → get_or rows j 0 < 96
+        go (yes l) = g.small j l
+        go (no h) = omega (arith, get_or-eq_default rows 0 {n = j} (omega (arith, g.size)))
+
     -- all rows
-    pub gathered-all : n ≤ x → Among t n wanted (record { rows = rows; count = count })
-    gathered-all l = record {
-      low = record { few = omega (arith, g.few, keep-first variable_row (rows_of t) x, (table-good t sized.table).few_variables); row = g.row; kind = g.kind };
+    pub gathered-all : n ≤ x → (few : count ≤ 8) (low : (j : ℕ) → get_or rows j 0 < 96) → Among t n wanted (record { rows = rows; count = count; few = few; low = low })
+    gathered-all l few low = record {
+      low = record { few = few; row = g.row; kind = g.kind };
       size = g.size;
       small = g.small;
       each = g.each;

@@ -6,7 +6,6 @@ use Rattle.std.specs.Prelude.{◌≡◌, refl, Bool, true, false, ◌&&◌, not,
 use Rattle.std.proofs.Math.Option.{Option, none, some}
 use Rattle.std.specs.Prelude as std
 use Rattle.std.specs.Prelude.{None, Some, MatchOption}
-use Rattle.std.specs.Option.{unwrap_or}
 use Rattle.std.proofs.Math.ListN.{length}
 use Rattle.semantics.specs.Basic.{present, keep, present_ones, numbers_from}
 use Rattle.semantics.specs.Term.{Atom}
@@ -114,10 +113,10 @@ module _ (bytes : List ℕ) (n : ℕ) (sized : Sized bytes n) (names : List ℕ)
       passed_one from (omega arith) (clear from (omega arith) (omega arith)) pattern b sets tells
       ∙ none-between k {from = suc from} (omega arith) l (λ z h j. clear z (omega arith) j) pattern b sets tells
 
-  -- the first row that is not named is the next unset variable
+  -- the first row that is not named is the next unset variable, if there is one
   pub next-unset : {from : ℕ} → from ≤ n → (first : std.Option ℕ)
       → MatchOption first ((z : ℕ) → from ≤ z → z < n → NotNamed bytes names u below z → ⊥) (λ y. (from ≤ y) × (y < n) × NotNamed bytes names u below y × ((z : ℕ) → from ≤ z → z < y → NotNamed bytes names u below z → ⊥))
-      → (pattern : ℕ) → Beneath (rows_of bytes) pattern below → NextUnset (rows_of bytes) names u pattern from (unwrap_or first n)
+      → (pattern : ℕ) → Beneath (rows_of bytes) pattern below → MatchOption first (NextUnset (rows_of bytes) names u pattern from n) (λ y. (y < n) × NextUnset (rows_of bytes) names u pattern from y)
   next-unset {from = from} l None clear pattern b =
       no_next sized.count (λ sets tells. none-between (n - from) (omega arith) (omega arith) clear pattern b sets tells ∙ unset-end (rows_of bytes) sets pattern (omega (arith, sized.count)))
   next-unset {from = from} l (Some y) h pattern b =
@@ -125,7 +124,9 @@ module _ (bytes : List ℕ) (n : ℕ) (sized : Sized bytes n) (names : List ℕ)
       let within : y < length (rows_of bytes) = omega (arith, h.1, sized.count) in
       let w = row-there bytes n 0 sized y h.1 in
       let v = six-atom (row-decodes bytes n 0 sized y h.1) own.kind in
-      let atom : atom_at (rows_of bytes) y ≡ some v.0 = rw w.1 v.1 in
-      is_next v.0 within h.0 atom v.2 own.name λ sets tells.
-      none-between (y - from) (omega (arith, h.0)) (omega (arith, h.1)) h.3 pattern b sets tells
-      ∙ unset-here (rows_of bytes) sets pattern within (sym (b.each y within) ∙ own.inside) atom (unset-true sets v.0 v.2 ((tells y v.0 atom v.2).0 own.name))
+      let atom : atom_at (rows_of bytes) y ≡ some v.0 = rw w.1 v.1 in (
+        h.1,
+        is_next v.0 within h.0 atom v.2 own.name λ sets tells.
+            none-between (y - from) (omega (arith, h.0)) (omega (arith, h.1)) h.3 pattern b sets tells
+            ∙ unset-here (rows_of bytes) sets pattern within (sym (b.each y within) ∙ own.inside) atom (unset-true sets v.0 v.2 ((tells y v.0 atom v.2).0 own.name)),
+      )

@@ -4,7 +4,6 @@ use Prim.Native.Nat.{◌+◌}
 use mathlib.Core.Path.{refl}
 use Rattle.semantics.specs.Scenario.{Scenario}
 use Rattle.state.specs.State.{Given}
-use Rattle.cells.specs.laws.Shape.{shape-sized}
 use Rattle.state.specs.laws.Start.{Begun, given-none, given-agents, given-more, given-listed, given-start}
 use Rattle.state.proofs.State.initial.Goals as goal
 
@@ -19,30 +18,22 @@ agents_of-agents-requires c =
 pub entered-names-requires : goal.entered-names-requires
 entered-names-requires c =
     let given = c.requires.1.0 in
-    (shape-sized given.shape, (omega (arith, given.runs.few, c.loop-u-test.true), given-agents given (c.agents_of-agents.ensures c.requires.0 given.runs given.good)))
-
-pub refill-requires : goal.refill-requires
-refill-requires c =
-    let given = c.requires.1.0 in
-    (given.shape, omega arith)
+    (omega (arith, given.runs.few, c.loop-u-test.true), given-agents given (c.agents_of-agents.ensures c.requires.0 given.runs given.good))
 
 pub loop-u-preserved : goal.loop-u-preserved
 loop-u-preserved c =
     let agents = c.agents_of-agents in
     let entered = c.entered-names in
     let refill = c.refill in
-    let begun : (sc : Scenario) (given : Given c.args.file.now c.args.t.now c.args.n c.args.r sc) → Begun given (c.loop-u.u + 1) entered.result refill.new.classes = λ sc given.
-    given-more given c.loop-u.u _ c.loop-u.names entered.result c.loop-u.classes refill.new.classes (c.loop-u.invariant.1 sc given) entered.ensures (agents.ensures sc given.runs given.good) refill.ensures in
+    let begun : (sc : Scenario) (given : Given c.args.opened.now.file.now c.args.opened.now.table.bytes.now c.args.opened.now.table.rows c.args.opened.now.runs sc) → Begun given (c.loop-u.u + 1) entered.result refill.new.classes = λ sc given.
+    given-more given c.loop-u.u _ c.loop-u.names entered.result c.loop-u.classes refill.new.classes (c.loop-u.invariant.1 sc given) entered.ensures (agents.ensures sc given.runs given.good) (rw (c.args.opened.now.counted) at refill.ensures) in
     ((begun c.requires.0 c.requires.1.0).classed.size, begun)
 
 pub start_marks-requires : goal.start_marks-requires
 start_marks-requires c =
     let given = c.requires.1.0 in
-    (shape-sized given.shape, given-listed given _ c.requires.1.1)
-
-pub settle-marks-requires : goal.settle-marks-requires
-settle-marks-requires c = c.requires.1.0.shape
+    given-listed given _ c.requires.1.1
 
 pub returns : goal.returns
 returns c sc given e =
-    given-start given _ e c.loop-u.names c.loop-u.classes c.start_marks.result c.settle-marks.result (omega arith) (c.loop-u.invariant.1 sc given) c.start_marks.ensures c.settle-marks.ensures
+    given-start given _ e c.loop-u.names c.loop-u.classes c.start_marks.result c.settle-marks.result (omega arith) (c.loop-u.invariant.1 sc given) c.start_marks.ensures (rw (c.args.opened.now.counted) at c.settle-marks.ensures)

@@ -7,4 +7,4 @@ use Rattle.state.specs.laws.Start.{Begun}
 use Rattle.state.proofs.State.initial.Given as goal
 
 abbrev pub invariant-loop-u : goal.invariant-loop-u
-invariant-loop-u l = (length l.classes ≡ 480) × ((sc : Scenario) (given : Given l.file l.t l.n l.r sc) → Begun given l.u l.names l.classes)
+invariant-loop-u l = (length l.classes ≡ 480) × ((sc : Scenario) (given : Given l.opened.file.now l.opened.table.bytes.now l.opened.table.rows l.opened.runs sc) → Begun given l.u l.names l.classes)
