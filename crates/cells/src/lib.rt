@@ -2,6 +2,7 @@
 #![tactic(auto)]
 
 ghost use Rattle.std.specs.Prelude.{◌≡◌, ℕ, ◌+◌, ◌*◌, ◌<◌, ◌≤◌, length, get_or, MatchOption};
+ghost use Rattle.rows.specs.Kinds.{number_of};
 ghost use Rattle.cells.specs.Cells.{cell_of, cell_count, absent, second_of, same_parts, Tells, Matches, Found, FoundInRow};
 
 use rows::{Kind, Table};
@@ -47,7 +48,7 @@ pub fn second_of(t: &[u8], r: usize) -> usize
     requires { 3 * r + 2 < length t.now }
     ensures { (result ≡ second_of t.now r) × (result < 256) }
 {
-    if rows::kind_of(t, r) < Kind::SHARED_KEY {
+    if t[3 * r] < Kind::SharedKey as u8 {
         rows::left_of(t, r)
     } else {
         rows::right_of(t, r)
@@ -83,9 +84,9 @@ fn matching_run(t: &Table, classes: &Classes, x: usize, a: u16, b: u16) -> Optio
 }
 
 // The class of row x, if it has the given kind, in a run in which its parts have the given classes.
-fn found_in_row(t: &Table, classes: &Classes, x: usize, kind: usize, a: u16, b: u16) -> Option<u16>
-    requires { (x < t.now.rows) × (8 ≤ kind) }
-    ensures { MatchOption result (FoundInRow t.now.bytes.now t.now.runs classes.now kind a b x absent) (λ class. (class < absent) × FoundInRow t.now.bytes.now t.now.runs classes.now kind a b x class) }
+fn found_in_row(t: &Table, classes: &Classes, x: usize, kind: Kind, a: u16, b: u16) -> Option<u16>
+    requires { (x < t.now.rows) × (8 ≤ number_of kind) }
+    ensures { MatchOption result (FoundInRow t.now.bytes.now t.now.runs classes.now (number_of kind) a b x absent) (λ class. (class < absent) × FoundInRow t.now.bytes.now t.now.runs classes.now (number_of kind) a b x class) }
 {
     if t.kind_of(x) != kind {
         return None;
@@ -95,9 +96,9 @@ fn found_in_row(t: &Table, classes: &Classes, x: usize, kind: usize, a: u16, b: 
 }
 
 // The class of the cells of a kind, 8 to 12, whose parts have the given classes.
-pub fn found(t: &Table, classes: &Classes, kind: usize, a: u16, b: u16) -> Option<u16>
-    requires { 8 ≤ kind }
-    ensures { MatchOption result (Found t.now.bytes.now t.now.rows t.now.runs classes.now kind a b absent) (λ class. (class < absent) × Found t.now.bytes.now t.now.rows t.now.runs classes.now kind a b class) }
+pub fn class_of_parts(t: &Table, classes: &Classes, kind: Kind, a: u16, b: u16) -> Option<u16>
+    requires { 8 ≤ number_of kind }
+    ensures { MatchOption result (Found t.now.bytes.now t.now.rows t.now.runs classes.now (number_of kind) a b absent) (λ class. (class < absent) × Found t.now.bytes.now t.now.rows t.now.runs classes.now (number_of kind) a b class) }
 {
     (0..t.rows).find_map(|x| found_in_row(t, classes, x, kind, a, b))
 }

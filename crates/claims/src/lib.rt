@@ -11,7 +11,7 @@ ghost use Rattle.claims.specs.AtRun.{AnswersEvent, AnswersRun, AnswersState};
 
 use answers::{Claim, ClaimKind};
 use cells::{Cells, Marks, cell};
-use records::Event;
+use records::EventKind;
 use runs::Runs;
 use state::{Opened, State};
 
@@ -24,7 +24,7 @@ fn claims_derivable(file: &[u8], r: Runs, marks: &Marks, k: usize, j: usize) -> 
         return false;
     }
     let e = runs::event_of(file, r, k, j);
-    e.kind == Event::CLAIM && marks[cell(e.row, k + 1)]
+    e.kind == EventKind::Claim && marks[cell(e.row, k + 1)]
 }
 
 // The first broken claim of run k, from 0, among the events that it has made.

@@ -6,8 +6,8 @@ ghost use Rattle.rows.specs.Rows.{rows_of};
 ghost use Rattle.classes.specs.Classes.{Refilled};
 ghost use Rattle.classes.specs.Filled.{ClassOf, Filled};
 
-use cells::{Cells, Classes, Names, cell, found, second_of};
-use rows::{Kind, Table};
+use cells::{Cells, Classes, Names, cell, class_of_parts, second_of};
+use rows::Table;
 
 // The class of row x in run u, from the classes of its parts: a name, a class that is there already, or the cell itself.
 fn class_of(t: &Table, names: &Names, classes: &Classes, u: usize, x: usize) -> u16
@@ -16,7 +16,7 @@ fn class_of(t: &Table, names: &Names, classes: &Classes, u: usize, x: usize) -> 
 {
     let c = cell(x, u);
     let kind = t.kind_of(x);
-    if kind < Kind::FIRST_MADE {
+    if !kind.is_made() {
         return names[c];
     }
     let a = classes[cell(t.left_of(x), u)];
@@ -27,7 +27,7 @@ fn class_of(t: &Table, names: &Names, classes: &Classes, u: usize, x: usize) -> 
     if b == Cells::ABSENT {
         return Cells::ABSENT;
     }
-    found(t, classes, kind, a, b).unwrap_or(c as u16)
+    class_of_parts(t, classes, kind, a, b).unwrap_or(c as u16)
 }
 
 // Gives row x its class in run u, if it has none yet.

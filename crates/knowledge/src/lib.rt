@@ -3,6 +3,7 @@
 
 ghost use Rattle.std.specs.Prelude.{◌≡◌, ◌≢◌, false, ◌<◌, ◌≤◌, get_or, MatchOption};
 ghost use Rattle.std.specs.Option.{unwrap_or};
+ghost use Rattle.rows.specs.Kinds.{number_of};
 ghost use Rattle.rows.specs.Rows.{rows_of};
 ghost use Rattle.cells.specs.Cells.{absent};
 ghost use Rattle.knowledge.specs.Marks.{Settled, LearnsCell, Learnt};
@@ -64,7 +65,7 @@ fn build_row(marks: &mut Marks, t: &Table, classes: &Classes, x: usize)
     requires { x < t.now.rows }
     ensures { Reaches t.now.bytes.now t.now.rows t.now.runs classes.now marks.old marks.new }
 {
-    if t.kind_of(x) < Kind::PAIR {
+    if !t.kind_of(x).is_compound() {
         return;
     }
     let left = t.left_of(x);
@@ -81,12 +82,12 @@ fn build_row(marks: &mut Marks, t: &Table, classes: &Classes, x: usize)
 }
 
 // The kind of the inverse of a public or a secret key; every other term is its own inverse.
-pub fn inverse_kind(kind: usize) -> Option<usize>
-    ensures { MatchOption result ((kind ≢ 8) × (kind ≢ 9)) (λ other. InverseKinds kind other) }
+pub fn inverse_of(kind: Kind) -> Option<Kind>
+    ensures { MatchOption result ((number_of kind ≢ 8) × (number_of kind ≢ 9)) (λ other. InverseKinds (number_of kind) (number_of other)) }
 {
     match kind {
-        Kind::PUBLIC_KEY => Some(Kind::SECRET_KEY),
-        Kind::SECRET_KEY => Some(Kind::PUBLIC_KEY),
+        Kind::PublicKey => Some(Kind::SecretKey),
+        Kind::SecretKey => Some(Kind::PublicKey),
         _ => None,
     }
 }
@@ -101,11 +102,11 @@ fn opens(marks: &Marks, t: &Table, classes: &Classes, key: u16) -> bool
     if t.rows <= x || t.runs < u {
         return false;
     }
-    let Some(other) = inverse_kind(t.kind_of(x)) else {
+    let Some(other) = inverse_of(t.kind_of(x)) else {
         return is_marked(marks, key);
     };
     let agent = class_at(classes, t.left_of(x), u);
-    let inverse = cells::found(t, classes, other, agent, agent);
+    let inverse = cells::class_of_parts(t, classes, other, agent, agent);
     inverse.is_some_and(|class| is_marked(marks, class))
 }
 
@@ -115,21 +116,21 @@ fn given(
     marks: &Marks,
     t: &Table,
     classes: &Classes,
-    kind: usize,
+    kind: Kind,
     whole: u16,
     left: u16,
     right: u16,
 ) -> Option<u16>
-    requires { 11 ≤ kind }
-    ensures { Gained t.now.bytes.now t.now.rows t.now.runs classes.now marks.now kind whole left right (unwrap_or result absent) }
+    requires { 11 ≤ number_of kind }
+    ensures { Gained t.now.bytes.now t.now.rows t.now.runs classes.now marks.now (number_of kind) whole left right (unwrap_or result absent) }
 {
     let has_left = is_marked(marks, left);
     if !is_marked(marks, whole) {
         (has_left && is_marked(marks, right)).then_some(whole)
     } else if !has_left {
-        (kind == Kind::PAIR || opens(marks, t, classes, right)).then_some(left)
+        (kind == Kind::Pair || opens(marks, t, classes, right)).then_some(left)
     } else {
-        (kind == Kind::PAIR && !is_marked(marks, right)).then_some(right)
+        (kind == Kind::Pair && !is_marked(marks, right)).then_some(right)
     }
 }
 
@@ -139,7 +140,7 @@ fn gain(marks: &Marks, t: &Table, classes: &Classes, x: usize, u: usize) -> Opti
     ensures { MatchOption result (GainedAt t.now.bytes.now t.now.rows t.now.runs classes.now marks.now x u absent) (λ class. (class < absent) × GainedAt t.now.bytes.now t.now.rows t.now.runs classes.now marks.now x u class) }
 {
     let kind = t.kind_of(x);
-    if kind < Kind::PAIR {
+    if !kind.is_compound() {
         return None;
     }
     let whole = class_at(classes, x, u);

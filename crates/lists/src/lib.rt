@@ -16,10 +16,11 @@ fn clear_row(t: &Table, clear: &[bool; 96], r: usize, low: usize, high: usize) -
     ensures { result ≡ clear_at low high t.now.bytes.now clear.now r }
 {
     let kind = t.kind_of(r);
-    if kind < Kind::FIRST_MADE {
-        return kind < low || high < kind;
+    let number = kind.number();
+    if !kind.is_made() {
+        return number < low || high < number;
     }
-    clear[t.left_of(r)] && (kind < Kind::SHARED_KEY || clear[t.right_of(r)])
+    clear[t.left_of(r)] && (number < Kind::SharedKey.number() || clear[t.right_of(r)])
 }
 
 // Which rows have a value if atoms of the kinds from low to high have none.
@@ -34,6 +35,7 @@ pub fn clear_rows(t: &Table, low: usize, high: usize) -> [bool; 96]
 }
 
 // The place of the first of some rows, in bytes that begin at a place, that is absent, has no value or is not above the one before it.
+// stays: the number of rows is enough here, and a table would ask more of callers
 pub fn unfit_row(b: &[u8], base: usize, n: usize, clear: &[bool; 96]) -> Option<usize>
     requires { (n ≤ 96) × (base ≤ 65536) }
     ensures { result ≡ place_as (unfit_from (has_value n clear.now) base 0 b.now) }
@@ -54,6 +56,6 @@ pub fn bad_knowledge(b: &[u8], base: usize, t: &Table) -> Option<usize>
     requires { base ≤ 65536 }
     ensures { result ≡ place_as (bad_knowledge_from (rows_of t.now.bytes.now) base 0 b.now) }
 {
-    let clear = clear_rows(t, Kind::ROLE, Kind::LOCAL);
+    let clear = clear_rows(t, Kind::Role.number(), Kind::Local.number());
     unfit_row(b, base, t.rows, &clear)
 }

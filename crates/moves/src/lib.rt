@@ -6,7 +6,7 @@ ghost use Rattle.state.specs.State.{Due};
 ghost use Rattle.moves.specs.Moves.{TellsAllowed, MarksAfter};
 
 use cells::{Cells, Classes, Marks, cell};
-use records::Event;
+use records::EventKind;
 use rows::Table;
 use runs::RunEvent;
 
@@ -18,9 +18,9 @@ pub fn is_allowed(classes: &Classes, marks: &Marks, k: usize, e: RunEvent) -> bo
 {
     let c = cell(e.row, k + 1);
     match e.kind {
-        Event::READ => marks[e.own] && marks[e.peer] && marks[c],
-        Event::SEND => classes[c] != Cells::ABSENT,
-        _ => true,
+        EventKind::Read => marks[e.own] && marks[e.peer] && marks[c],
+        EventKind::Send => classes[c] != Cells::ABSENT,
+        EventKind::Claim => true,
     }
 }
 
@@ -30,7 +30,7 @@ pub fn perform(classes: &Classes, marks: Marks, t: &Table, k: usize, e: RunEvent
     requires { Due t.now.rows t.now.runs k e.own e.peer e.row }
     ensures { MarksAfter t.now.bytes.now t.now.rows t.now.runs k e classes.now marks result }
 {
-    if e.kind != Event::SEND {
+    if e.kind != EventKind::Send {
         return marks;
     }
     let term = knowledge::learn(marks, t, classes, e.row, k + 1);

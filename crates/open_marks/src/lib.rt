@@ -2,6 +2,7 @@
 #![tactic(auto)]
 
 ghost use Rattle.std.specs.Prelude.{◌≡◌, true, ◌<◌, ◌≤◌, IfSome};
+ghost use Rattle.rows.specs.Kinds.{number_of};
 ghost use Rattle.rows.specs.Rows.{rows_of};
 ghost use Rattle.cells.specs.Cells.{cell_count};
 ghost use Rattle.role_level.specs.RoleLevel.{RoleClasses};
@@ -31,8 +32,8 @@ pub struct Notes {
 }
 
 // Whether there is a row with the given kind and left byte that is marked.
-fn row_marked(marks: &Marks, t: &Table, kind: usize, left: usize) -> bool
-    ensures { RowMarked t.now.bytes.now t.now.rows marks.now kind left result }
+fn row_marked(marks: &Marks, t: &Table, kind: Kind, left: usize) -> bool
+    ensures { RowMarked t.now.bytes.now t.now.rows marks.now (number_of kind) left result }
 {
     (0..t.rows).any(|x| marks[x] && t.kind_of(x) == kind && t.left_of(x) == left)
 }
@@ -41,7 +42,7 @@ fn row_marked(marks: &Marks, t: &Table, kind: usize, left: usize) -> bool
 pub fn name_known(marks: &Marks, t: &Table, i: usize) -> bool
     ensures { NameKnown (rows_of t.now.bytes.now) marks.now i result }
 {
-    row_marked(marks, t, Kind::ROLE, i)
+    row_marked(marks, t, Kind::Role, i)
 }
 
 // Whether the inverse of the term of row k is derivable: the other key of that agent, or the term itself.
@@ -49,7 +50,7 @@ pub fn inverse_known(marks: &Marks, t: &Table, k: usize) -> bool
     requires { k < t.now.rows }
     ensures { InverseKnown (rows_of t.now.bytes.now) marks.now k result × Opens (rows_of t.now.bytes.now) marks.now k result }
 {
-    let Some(other) = knowledge::inverse_kind(t.kind_of(k)) else {
+    let Some(other) = knowledge::inverse_of(t.kind_of(k)) else {
         return marks[k];
     };
     row_marked(marks, t, other, t.left_of(k))
@@ -72,6 +73,7 @@ fn in_both(one: &Marks, other: &Marks, x: usize) -> bool
 }
 
 // The rows that are marked in both.
+// stays: here and below the number of rows is enough, and a table would ask more of callers
 pub fn shared(one: &Marks, other: &Marks, n: usize) -> Marks
     requires { n ≤ 96 }
     ensures { Shared n one.now other.now result }
@@ -106,12 +108,13 @@ pub fn content_of(marks: &Marks, t: &Table, x: usize) -> usize
     requires { x < t.now.rows }
     ensures { result ≤ x }
 {
-    if marks[x] || t.kind_of(x) != Kind::ENCRYPTED {
+    if marks[x] || t.kind_of(x) != Kind::Encrypted {
+        // stays: row 0 is as soon tried as passed over, and an Option would add a case to each of the two tries
         return 0;
     }
     let mut y = t.left_of(x);
     // stays: the way goes down a chain of parts, so there is no range to go over
-    while t.kind_of(y) == Kind::ENCRYPTED {
+    while t.kind_of(y) == Kind::Encrypted {
         y = t.left_of(y);
     }
     y
@@ -136,7 +139,7 @@ fn follow(
         let left = t.left_of(x);
         let right = t.right_of(x);
         x = match t.kind_of(x) {
-            Kind::PAIR => match ways[x] {
+            Kind::Pair => match ways[x] {
                 Way::First => {
                     more[right] = true;
                     left
@@ -147,7 +150,7 @@ fn follow(
                 }
                 _ => return None,
             },
-            Kind::ENCRYPTED if ways[x] != Way::Shut => left,
+            Kind::Encrypted if ways[x] != Way::Shut => left,
             _ => return Some(x),
         };
     }
@@ -180,8 +183,8 @@ pub fn gives_up(
         return false;
     }
     match t.kind_of(end) {
-        Kind::ENCRYPTED => !inverse_known(&known, t, t.right_of(end)),
-        kind => kind != Kind::VARIABLE,
+        Kind::Encrypted => !inverse_known(&known, t, t.right_of(end)),
+        kind => kind != Kind::Variable,
     }
 }
 

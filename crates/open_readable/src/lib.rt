@@ -20,6 +20,7 @@ pub fn is_readable(
     t: &Table,
     classes: &Classes,
     notes: &mut Notes,
+    // stays: the tries are calls of this function by itself, so that a function for each answer would stand twice
     quick: bool,
     x: usize,
 ) -> bool
@@ -30,10 +31,10 @@ pub fn is_readable(
         return true;
     }
     let kind = t.kind_of(x);
-    if kind == Kind::VARIABLE {
+    if kind == Kind::Variable {
         return true;
     }
-    if kind == Kind::PAIR {
+    if kind == Kind::Pair {
         if notes.is_kept(&marks, t.rows, x) {
             return true;
         }
@@ -62,7 +63,7 @@ pub fn is_readable(
         notes.keep(&marks, t.rows, x);
         return true;
     }
-    if kind == Kind::ENCRYPTED {
+    if kind == Kind::Encrypted {
         if open_marks::inverse_known(&marks, t, t.right_of(x)) {
             notes.ways[x] = Way::Unknown;
             return is_readable(marks, sure, t, classes, notes, quick, t.left_of(x));

@@ -5,6 +5,7 @@ ghost use Rattle.std.specs.Prelude.{◌≡◌, ◌<◌, ◌≤◌};
 ghost use Rattle.std.proofs.Math.Option.{none};
 ghost use Rattle.semantics.specs.Roles.{role_records, roles_from, bad_role};
 ghost use Rattle.semantics.specs.WellFormed.{ill_formed};
+ghost use Rattle.records.specs.Kinds.{byte_of};
 ghost use Rattle.rows.specs.Rows.{rows_of, place_as};
 ghost use Rattle.role_level.specs.RoleLevel.{RoleClasses};
 ghost use Rattle.open_wellformed.specs.WellFormed.{WellFormedEvent, EventLearns, GoodRecord, IllRole};
@@ -12,7 +13,7 @@ ghost use Rattle.records.specs.Records.{part_at};
 
 use cells::{Cells, Classes, Marks};
 use open_marks::Notes;
-use records::Event;
+use records::EventKind;
 use rows::Table;
 
 // Whether an event of role `own` is well formed.
@@ -21,20 +22,20 @@ fn is_well_formed(
     t: &Table,
     classes: &Classes,
     own: usize,
-    kind: usize,
+    kind: EventKind,
     peer: usize,
     x: usize,
 ) -> bool
     requires { RoleClasses (rows_of t.now.bytes.now) classes.now × (x < t.now.rows) }
-    ensures { WellFormedEvent (rows_of t.now.bytes.now) marks own kind peer x result }
+    ensures { WellFormedEvent (rows_of t.now.bytes.now) marks own (byte_of kind) peer x result }
 {
     if !open_marks::name_known(&marks, t, own) {
         return false;
     }
-    if kind != Event::CLAIM && !open_marks::name_known(&marks, t, peer) {
+    if kind != EventKind::Claim && !open_marks::name_known(&marks, t, peer) {
         return false;
     }
-    if kind == Event::READ {
+    if kind == EventKind::Read {
         let mut notes = Notes::new();
         let sure = [false; 480];
         return open_readable::is_readable(marks, sure, t, classes, &mut notes, false, x);
@@ -47,13 +48,13 @@ fn event_learned(
     marks: Marks,
     t: &Table,
     classes: &Classes,
-    event: usize,
+    event: EventKind,
     x: usize,
 ) -> [bool; Cells::COUNT]
     requires { RoleClasses (rows_of t.now.bytes.now) classes.now × (x < t.now.rows) }
-    ensures { EventLearns (rows_of t.now.bytes.now) event x marks result }
+    ensures { EventLearns (rows_of t.now.bytes.now) (byte_of event) x marks result }
 {
-    if event == Event::READ {
+    if event == EventKind::Read {
         return open_marks::learned(marks, t, classes, x);
     }
     marks
@@ -71,7 +72,7 @@ fn ill_formed_role(s: &[u8], t: &Table, classes: &Classes, own: usize) -> Option
     let events = usize::from(s[end]);
     for j in 0..events {
         let at = first + 4 * j;
-        let event = usize::from(s[at]);
+        let event = records::kind_at(s, at);
         let peer = usize::from(s[at + 2]);
         let x = usize::from(s[at + 3]);
         if !is_well_formed(marks, t, classes, own, event, peer, x) {

@@ -97,10 +97,10 @@ fn set_at(
         return [pattern.marks[cell(r, pattern.scope.run)]; Cells::COUNT];
     }
     let kind = t.kind_of(r);
-    if kind < Kind::FIRST_MADE {
+    if !kind.is_made() {
         return leaf(dom, marked, pattern, i, r);
     }
-    if kind == Kind::PAIR {
+    if kind == Kind::Pair {
         return read_domains::join(
             [false; Cells::COUNT],
             &sets[t.left_of(r)],
@@ -108,7 +108,7 @@ fn set_at(
         );
     }
     let set = matched(pattern, dom, i, r);
-    if kind == Kind::ENCRYPTED {
+    if kind == Kind::Encrypted {
         return read_domains::join(
             set,
             &sets[t.left_of(r)],
@@ -233,8 +233,8 @@ fn tied(pattern: &Pattern, dom: &Domains, below: &[bool; 96]) -> Option<usize>
     for r in 0..t.rows {
         if below[r] {
             let kind = t.kind_of(r);
-            if Kind::FIRST_MADE <= kind
-                && kind != Kind::PAIR
+            if kind.is_made()
+                && kind != Kind::Pair
                 && knowledge::class_at(pattern.classes, r, pattern.scope.run) == Cells::ABSENT
             {
                 let under = variables::beneath(t, r);

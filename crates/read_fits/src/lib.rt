@@ -6,7 +6,6 @@ ghost use Rattle.knowledge.specs.Steps.{kind_at};
 ghost use Rattle.read_fits.specs.Fits.{Asked, PartsAsked, PassedDown, NeedsMet};
 
 use cells::{Cells, Classes, Scope};
-use rows::Kind;
 
 // Notes that row q of run u needs a class, unless it has or needs another already.
 fn ask(need: &mut [u16; 96], classes: &Classes, u: usize, q: usize, class: u16) -> bool
@@ -57,7 +56,7 @@ fn follow(need: &mut [u16; 96], classes: &Classes, scope: &Scope, q: usize) -> b
     let t = &scope.table;
     let class = need[q];
     let kind = t.kind_of(q);
-    if Cells::ABSENT <= class || kind < Kind::FIRST_MADE {
+    if Cells::ABSENT <= class || !kind.is_made() {
         return true;
     }
     let y = usize::from(class) % 96;

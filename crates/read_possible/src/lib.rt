@@ -60,13 +60,13 @@ fn test_row(can: &[bool; 96], classes: &Classes, marks: &Marks, scope: &Scope, r
     }
     let t = &scope.table;
     let kind = t.kind_of(r);
-    if kind < Kind::FIRST_MADE {
+    if !kind.is_made() {
         return true;
     }
-    if kind == Kind::PAIR {
+    if kind == Kind::Pair {
         return both(can, t.left_of(r), cells::second_of(t.bytes, r));
     }
-    if kind == Kind::ENCRYPTED && both(can, t.left_of(r), cells::second_of(t.bytes, r)) {
+    if kind == Kind::Encrypted && both(can, t.left_of(r), cells::second_of(t.bytes, r)) {
         return true;
     }
     fits_mark(classes, marks, scope, r)

@@ -1,4 +1,5 @@
 -- The laws of records, with their proofs.
+pub mod Kinds
 pub mod Records
 pub mod Roles
 pub mod Events

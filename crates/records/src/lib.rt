@@ -1,7 +1,7 @@
 // Role records and run records: refusals 6 and 8.
 #![tactic(auto)]
 
-ghost use Rattle.std.specs.Prelude.{◌≡◌, List, ℕ, ◌+◌, ◌<◌, ◌≤◌, length};
+ghost use Rattle.std.specs.Prelude.{◌≡◌, List, ℕ, ◌+◌, ◌<◌, ◌≤◌, length, get_or};
 ghost use Rattle.semantics.specs.Basic.{every};
 ghost use Rattle.semantics.specs.Table.{Row};
 ghost use Rattle.semantics.specs.Value.{without_variables};
@@ -9,6 +9,7 @@ ghost use Rattle.semantics.specs.Roles.{role_length, role_records, roles_present
 ghost use Rattle.semantics.specs.Runs.{run_length, run_records, atom_at, is_agent, good_run, bad_run};
 ghost use Rattle.rows.specs.Rows.{place_as, rows_of};
 ghost use Rattle.lists.specs.Lists.{Valued};
+ghost use Rattle.records.specs.Kinds.{byte_of, event_kind_as};
 ghost use Rattle.records.specs.Records.{part_at, record_at, event_at, agents_in, RoleAt, TellsGood};
 
 use rows::{Kind, Table};
@@ -24,16 +25,37 @@ impl Limits {
     pub const MOST_EVENTS: usize = 8;
 }
 
-// The kinds of events.
-#[derive(Drop)]
-pub struct Event {}
+// The kinds of events, by the byte that says each.
+#[derive(Clone, Copy, PartialEq, Eq)]
+pub enum EventKind {
+    Send = 0,
+    Read = 1,
+    Claim = 2,
+}
 
-impl Event {
-    pub const SEND: usize = 0;
+impl EventKind {
+    // The kind that a byte says, if it says one.
+    pub fn of(byte: u8) -> Option<EventKind>
+        ensures { result ≡ event_kind_as byte }
+    {
+        match byte {
+            0 => Some(EventKind::Send),
+            1 => Some(EventKind::Read),
+            2 => Some(EventKind::Claim),
+            _ => None,
+        }
+    }
+}
 
-    pub const READ: usize = 1;
-
-    pub const CLAIM: usize = 2;
+// The kind of the event at a place where there is one.
+pub fn kind_at(s: &[u8], at: usize) -> EventKind
+    requires { (at < length s.now) × (get_or s.now at 0 ≤ 2) }
+    ensures { byte_of result ≡ get_or s.now at 0 }
+{
+    match EventKind::of(s[at]) {
+        Some(kind) => kind,
+        None => unreachable!(),
+    }
 }
 
 // The length of the role record at the front, by its own counts.
@@ -90,10 +112,10 @@ fn event_fits(s: &[u8], at: usize, n: usize, roles: usize) -> bool
     let peer = usize::from(s[at + 2]);
     let row = usize::from(s[at + 3]);
     row < n
-        && match usize::from(s[at]) {
-            Event::SEND | Event::READ => peer < roles,
-            Event::CLAIM => peer == 0,
-            _ => false,
+        && match EventKind::of(s[at]) {
+            Some(EventKind::Send | EventKind::Read) => peer < roles,
+            Some(EventKind::Claim) => peer == 0,
+            None => false,
         }
 }
 
@@ -132,7 +154,7 @@ pub fn bad_role(b: &[u8], base: usize, t: &Table) -> Option<usize>
     requires { base ≤ 65536 }
     ensures { result ≡ place_as (bad_role (rows_of t.now.bytes.now) (role_records (part_at base b.now))) }
 {
-    let clear = lists::clear_rows(t, Kind::VARIABLE, Kind::VARIABLE);
+    let clear = lists::clear_rows(t, Kind::Variable.number(), Kind::Variable.number());
     let roles = roles_present(b);
     let mut i = 0;
     let mut at = 0;
@@ -154,7 +176,7 @@ pub fn absent_role(t: &Table, roles: usize, base: usize) -> Option<usize>
     ensures { result ≡ place_as (absent_role_from roles base (rows_of t.now.bytes.now)) }
 {
     for r in 0..t.rows {
-        if t.kind_of(r) == Kind::ROLE && roles <= t.left_of(r) {
+        if t.kind_of(r) == Kind::Role && roles <= t.left_of(r) {
             return Some(base + 3 * r);
         }
     }

@@ -10,7 +10,7 @@ ghost use Rattle.state.specs.State.{NextMove};
 ghost use Rattle.replay_choices.specs.Choices.{Suited, SuitedRead};
 
 use cells::{Cells, Names};
-use records::Event;
+use records::EventKind;
 use rows::Table;
 use runs::RunEvent;
 use state::State;
@@ -50,7 +50,7 @@ pub fn valued(s: State, t: &Table, k: usize, e: RunEvent, values: &[u8]) -> Opti
     requires { (k < t.now.runs) × (e.row < t.now.rows) }
     ensures { (sc : Scenario) (d : definitions.State) (a : Active) → NextMove t.now.bytes.now t.now.runs k e sc d s a → Suited sc d a (values_in values.now) result }
 {
-    if e.kind == Event::READ {
+    if e.kind == EventKind::Read {
         return chosen(s.names, t, k, e.row, values);
     }
     if values.len() < 2 {

@@ -3,12 +3,13 @@
 
 ghost use Rattle.semantics.specs.Scenario.{Scenario};
 ghost use Rattle.semantics.specs.State as definitions;
+ghost use Rattle.records.specs.Kinds.{byte_of};
 ghost use Rattle.rows.specs.Rows.{rows_of};
 ghost use Rattle.state.specs.State.{Given, IsState};
 ghost use Rattle.replay_steps.specs.Steps.{StepDone, Worked};
 
 use cells::{Cells, Classes, Marks, Names, Scope};
-use records::Event;
+use records::EventKind;
 use runs::RunEvent;
 use state::{Opened, State};
 
@@ -20,10 +21,16 @@ pub struct Stepped {
 }
 
 // The marks for an event with its new values, and its classes: worked on for a read, which alone has new values.
-fn worked(classes: &mut Classes, marks: Marks, names: &Names, scope: &Scope, kind: usize) -> Marks
-    ensures { Worked (rows_of scope.now.table.bytes.now) scope.now.table.runs scope.now.run kind names.now classes.old marks classes.new result }
+fn worked(
+    classes: &mut Classes,
+    marks: Marks,
+    names: &Names,
+    scope: &Scope,
+    kind: EventKind,
+) -> Marks
+    ensures { Worked (rows_of scope.now.table.bytes.now) scope.now.table.runs scope.now.run (byte_of kind) names.now classes.old marks classes.new result }
 {
-    if kind == Event::READ {
+    if kind == EventKind::Read {
         return state::with_names(classes, marks, names, scope);
     }
     marks

@@ -1,5 +1,6 @@
 -- The laws of rows, with their proofs.
 pub mod Decode
+pub mod Kinds
 pub mod Table
 pub mod Shape
 pub mod Places

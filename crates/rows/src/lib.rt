@@ -1,54 +1,83 @@
 // Access to the rows of a table, three bytes each: kind, left, right; and whether a row is an agent's.
 #![tactic(auto)]
 
-ghost use Rattle.std.specs.Prelude.{◌≡◌, ◌+◌, ◌*◌, ◌<◌, length, get_or};
+ghost use Rattle.std.specs.Prelude.{◌≡◌, true, false, ◌+◌, ◌*◌, ◌<◌, ◌≤◌, length, get_or};
 ghost use Rattle.semantics.specs.Runs.{atom_at, is_agent, is_trusted};
 ghost use Rattle.rows.specs.Rows.{rows_of, Shape};
+ghost use Rattle.rows.specs.Kinds.{number_of, kind_as};
 
-// The kinds of rows: atoms first, then what is made of other rows.
-#[derive(Drop)]
-pub struct Kind {}
-
-impl Kind {
+// The kinds of rows, by the byte that says each: atoms first, then what is made of other rows.
+#[derive(Clone, Copy, PartialEq, Eq)]
+pub enum Kind {
     // agents
-    pub const TRUSTED: usize = 1;
-
-    pub const UNTRUSTED: usize = 2;
-
+    Trusted = 1,
+    Untrusted = 2,
     // constants, which stand for themselves
-    pub const GLOBAL: usize = 3;
-
-    pub const INTRUDER: usize = 4;
-
+    Global = 3,
+    Intruder = 4,
     // what a run gives a value
-    pub const ROLE: usize = 5;
-
-    pub const VARIABLE: usize = 6;
-
-    pub const LOCAL: usize = 7;
-
-    // from this kind on a row refers to other rows
-    pub const FIRST_MADE: usize = 8;
-
+    Role = 5,
+    Variable = 6,
+    Local = 7,
     // keys
-    pub const PUBLIC_KEY: usize = 8;
-
-    pub const SECRET_KEY: usize = 9;
-
-    pub const SHARED_KEY: usize = 10;
-
+    PublicKey = 8,
+    SecretKey = 9,
+    SharedKey = 10,
     // compound terms
-    pub const PAIR: usize = 11;
-
-    pub const ENCRYPTED: usize = 12;
+    Pair = 11,
+    Encrypted = 12,
 }
 
-// The kind of a row.
-pub fn kind_of(t: &[u8], r: usize) -> usize
+impl Kind {
+    // The kind that a byte says, if it says one.
+    pub fn of(byte: u8) -> Option<Kind>
+        ensures { result ≡ kind_as byte }
+    {
+        match byte {
+            1 => Some(Kind::Trusted),
+            2 => Some(Kind::Untrusted),
+            3 => Some(Kind::Global),
+            4 => Some(Kind::Intruder),
+            5 => Some(Kind::Role),
+            6 => Some(Kind::Variable),
+            7 => Some(Kind::Local),
+            8 => Some(Kind::PublicKey),
+            9 => Some(Kind::SecretKey),
+            10 => Some(Kind::SharedKey),
+            11 => Some(Kind::Pair),
+            12 => Some(Kind::Encrypted),
+            _ => None,
+        }
+    }
+
+    // The number of a kind: the byte that says it.
+    pub fn number(self) -> usize
+        ensures { result ≡ number_of self }
+    {
+        self as usize
+    }
+
+    // Whether a row of the kind refers to other rows.
+    pub fn is_made(self) -> bool
+        ensures { (result ≡ true → 8 ≤ number_of self) × (result ≡ false → number_of self < 8) }
+    {
+        Kind::PublicKey.number() <= self.number()
+    }
+
+    // Whether it is a pair or an encryption.
+    pub fn is_compound(self) -> bool
+        ensures { (result ≡ true → 11 ≤ number_of self) × (result ≡ false → number_of self < 11) }
+    {
+        Kind::Pair.number() <= self.number()
+    }
+}
+
+// The kind of a row, if its byte says one.
+pub fn kind_of(t: &[u8], r: usize) -> Option<Kind>
     requires { 3 * r + 2 < length t.now }
-    ensures { (result ≡ get_or t.now (3 * r) 0) × (result < 256) }
+    ensures { result ≡ kind_as (get_or t.now (3 * r) 0) }
 {
-    usize::from(t[3 * r])
+    Kind::of(t[3 * r])
 }
 
 // The left byte of a row.
@@ -97,11 +126,14 @@ impl<'a> Table<'a> {
     }
 
     // The kind of a row.
-    pub fn kind_of(&self, r: usize) -> usize
+    pub fn kind_of(&self, r: usize) -> Kind
         requires { r < self.now.rows }
-        ensures { (result ≡ get_or self.now.bytes.now (3 * r) 0) × (result < 256) }
+        ensures { number_of result ≡ get_or self.now.bytes.now (3 * r) 0 }
     {
-        kind_of(self.bytes, r)
+        match kind_of(self.bytes, r) {
+            Some(kind) => kind,
+            None => unreachable!(),
+        }
     }
 
     // The left byte of a row.
@@ -124,13 +156,13 @@ impl<'a> Table<'a> {
     pub fn is_agent(&self, r: usize) -> bool
         ensures { result ≡ is_agent (atom_at (rows_of self.now.bytes.now) r) }
     {
-        r < self.rows && self.kind_of(r) <= Kind::UNTRUSTED
+        r < self.rows && matches!(self.kind_of(r), Kind::Trusted | Kind::Untrusted)
     }
 
     // Whether a row is a trusted agent's.
     pub fn is_trusted(&self, r: usize) -> bool
         ensures { result ≡ is_trusted (atom_at (rows_of self.now.bytes.now) r) }
     {
-        r < self.rows && self.kind_of(r) == Kind::TRUSTED
+        r < self.rows && matches!(self.kind_of(r), Kind::Trusted)
     }
 }

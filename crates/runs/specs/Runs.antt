@@ -11,6 +11,7 @@ use Rattle.semantics.specs.State.{events_of}
 use Rattle.rows.specs.Rows.{rows_of}
 use Rattle.records.specs.Records.{event_at}
 use Rattle.runs.specs.declared.Runs.{Runs}
+use Rattle.records.specs.Kinds.{byte_of}
 use Rattle.runs.specs.declared.RunEvent.{RunEvent}
 
 -- A run whose record begins at `start`, and whose role's events, so many, begin at `first`.
@@ -61,7 +62,7 @@ FindsEvents file start first count = (sc : Scenario) (k : ℕ) (run : Run) → I
 abbrev pub ReadsEvent : List ℕ → Runs → ℕ → ℕ → RunEvent → Type 0
 ReadsEvent file r k j e =
     (sc : Scenario) (run : Run) (ev : Event) → RunsAt file sc r → Guarantee sc → get_elem? sc.runs k ≡ some run → get_elem? (events_of sc run) j ≡ some ev
-    → EventRead sc run ev e.kind e.own e.peer e.row
+    → EventRead sc run ev (byte_of e.kind) e.own e.peer e.row
 
 -- whether all agents of run k are trusted
 abbrev pub TellsTrusted : List ℕ → List ℕ → Runs → ℕ → Bool → Type 0

@@ -11,6 +11,7 @@ ghost use Rattle.answers.specs.Answers.{scenario_in, Accepts};
 ghost use Rattle.runs.specs.Runs.{RunsAt, IsRun, AgentsAt, FindsEvents, ReadsEvent, TellsTrusted};
 
 use answers::Layout;
+use records::EventKind;
 use rows::Table;
 
 // Where the runs stand: how many, how many agents each names; for each the offset of its record, that of its role's first event, and how many events it has.
@@ -23,10 +24,10 @@ pub struct Runs {
     pub events: [usize; 4],
 }
 
-// An event of a run: its kind byte, the agents' rows of the run's own role and of the peer, and the term's row.
+// An event of a run: its kind, the agents' rows of the run's own role and of the peer, and the term's row.
 #[derive(Clone, Copy)]
 pub struct RunEvent {
-    pub kind: usize,
+    pub kind: EventKind,
     pub own: usize,
     pub peer: usize,
     pub row: usize,
@@ -97,7 +98,7 @@ pub fn event_of(file: &[u8], r: Runs, k: usize, j: usize) -> RunEvent
     let start = r.starts[k];
     let at = r.firsts[k] + 4 * j;
     RunEvent {
-        kind: usize::from(file[at]),
+        kind: records::kind_at(file, at),
         own: agent_of(file, start, usize::from(file[start])),
         peer: agent_of(file, start, usize::from(file[at + 2])),
         row: usize::from(file[at + 3]),

@@ -4,8 +4,7 @@
 ghost use Rattle.std.specs.Prelude.{◌≡◌, ℕ, ◌<◌, ◌≤◌, length, get_or, take};
 ghost use Rattle.semantics.specs.Basic.{total};
 ghost use Rattle.semantics.specs.Answer.{accepted};
-ghost use Rattle.semantics.specs.Moves.{short};
-ghost use Rattle.semantics.specs.Verdict.{verdict, searched_in, searched, written, buffer_in, buffer_after};
+ghost use Rattle.semantics.specs.Verdict.{verdict, searched_in, written, buffer_in};
 ghost use Rattle.answers.specs.Answers.{scenario_in, Accepts, verdict_as, searched_as};
 ghost use Rattle.search_runs.specs.Runs.{list_as};
 ghost use Rattle.search_breaks.specs.Walk.{FindsAll};
@@ -15,6 +14,7 @@ use runs::Runs;
 use search_breaks::{Course, Plan, Reach};
 use search_memory::Memory;
 use search_runs::Listing;
+use search_walk::Parts;
 use state::{Opened, State};
 
 // How many events the runs have together.
@@ -38,9 +38,6 @@ fn walk_all(trace: &mut [u8], file: &[u8], l: Layout, left: usize, list: Listing
     let opened = Opened::of(file, l);
     let s = State::initial(&opened, frame::block_of(file, 3));
     let done = [State::NONE_DONE; 4];
-    let names = s.names;
-    let classes = s.classes;
-    let marks = s.marks;
     let variables = search_memory::variable_rows(&opened.table);
     let mut memory = [0; Memory::WORDS];
     search_walk::walk(
@@ -51,10 +48,12 @@ fn walk_all(trace: &mut [u8], file: &[u8], l: Layout, left: usize, list: Listing
             opened,
             variables,
         },
-        Course { done },
-        &names,
-        &classes,
-        marks,
+        &Parts {
+            course: Course { done },
+            names: &s.names,
+            classes: &s.classes,
+            marks: s.marks,
+        },
         Reach {
             left,
             at: 0,
@@ -85,20 +84,4 @@ pub fn search_in(file: &[u8], trace: &mut [u8], list: Listing) -> Result<Verdict
     let layout = scenario::open(file)?;
     answers::check_buffer(&trace[..])?;
     Ok(judged(file, layout, trace, list))
-}
-
-// Search, through the list of all allowed traces.
-pub fn search(file: &[u8], trace: &mut [u8]) -> Result<Verdict, Refusal>
-    ensures value { result ≡ searched_as (searched file.now trace.old) }
-    ensures trace_after { trace.new ≡ buffer_after file.now trace.old }
-{
-    search_in(file, trace, Listing::Full)
-}
-
-// The second search, through the short list.
-pub fn search_short(file: &[u8], trace: &mut [u8]) -> Result<Verdict, Refusal>
-    ensures value { result ≡ searched_as (searched_in short file.now trace.old) }
-    ensures trace_after { trace.new ≡ buffer_in short file.now trace.old }
-{
-    search_in(file, trace, Listing::Short)
 }

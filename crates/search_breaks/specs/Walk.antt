@@ -12,6 +12,7 @@ use Rattle.semantics.specs.Tree.{listed}
 use Rattle.semantics.specs.Verdict.{Entry, Finding, found, nothing, cut, walked, broken, value_bytes, trace_bytes, trace_list}
 use Rattle.semantics.specs.Allowed.{Takes, AllowedTrace}
 use Rattle.rows.specs.Rows.{rows_of}
+use Rattle.records.specs.Kinds.{byte_of}
 use Rattle.runs.specs.declared.RunEvent.{RunEvent}
 use Rattle.state.specs.declared.State.{State}
 use Rattle.state.specs.State.{Given, Due, IsState, NextMove, Ready}
@@ -169,7 +170,7 @@ pub record SomeRead (plan : Plan) (course : Course) (own : List ℕ) (at : ℕ) 
   pub move : AtMove plan sc d s ms at choice.turn.run choice.turn.event a
   pub is_done : course.done ≡ s.done
   pub is_own : own ≡ s.names
-  pub is_read : choice.turn.event.kind ≡ 1
+  pub is_read : byte_of choice.turn.event.kind ≡ 1
   pub inside : choice.from ≤ plan.opened.table.rows
   pub under : Beneath (rows_of plan.opened.table.bytes.now) choice.turn.event.row choice.under
 

@@ -19,6 +19,7 @@ impl Memory {
     // the slots of a set
     const WAYS: usize = 4;
     // the words of a slot
+    // stays: an edit shows that slots which overlap are refused, and an array of slots cannot overlap
     const SLOT: usize = 40;
     // the words of a key
     const KEY: usize = 38;
@@ -50,7 +51,7 @@ pub fn variable_rows(t: &Table) -> [usize; 8]
 
 // Writes the names of run k, from 0, at the variables' rows into a key.
 fn fill_names(key: &mut [u16; 38], variables: &[usize; 8], names: &Names, k: usize)
-    requires { (length key.old ≡ key_size) × ((k < 4) × ((i : ℕ) → i < 8 → get_or variables.now i 0 < 96)) }
+    requires { (k < 4) × ((i : ℕ) → i < 8 → get_or variables.now i 0 < 96) }
     ensures { Written key.old key.new (6 + 8 * k) 8 (name_of variables.now names.now k) }
 {
     for (i, x) in variables.iter().enumerate() {
@@ -153,20 +154,12 @@ fn write_key(memory: &mut Words, at: usize, key: &[u16; 38])
     memory[at..at + Memory::KEY].copy_from_slice(key);
 }
 
-// The first half of a count.
-fn low_half(count: usize) -> u16
+// The two halves of a count.
+fn halves(count: usize) -> (u16, u16)
     requires { count < count_end }
-    ensures { result ≡ count % 65536 }
+    ensures { (result.0 ≡ count % 65536) × (result.1 ≡ count / 65536) }
 {
-    (count % Memory::HALF) as u16
-}
-
-// The second half of a count.
-fn high_half(count: usize) -> u16
-    requires { count < count_end }
-    ensures { result ≡ count / 65536 }
-{
-    (count / Memory::HALF) as u16
+    ((count % Memory::HALF) as u16, (count / Memory::HALF) as u16)
 }
 
 // Stores the count of a key, over the entry of the same key or else over one of the smallest count.
@@ -176,8 +169,9 @@ pub fn store(memory: &mut Words, key: &[u16; 38], count: usize)
 {
     let at = Memory::SLOT * slot_for(memory, key);
     write_key(memory, at, key);
-    memory[at + Memory::LOW] = low_half(count);
-    memory[at + Memory::HIGH] = high_half(count);
+    let (low, high) = halves(count);
+    memory[at + Memory::LOW] = low;
+    memory[at + Memory::HIGH] = high;
 }
 
 // Stores the count of a key, if there is one to store.

@@ -4,7 +4,7 @@
 ghost use Rattle.std.specs.Prelude.{◌<◌, MatchOption};
 ghost use Rattle.search_runs.specs.Runs.{SomeStanding, TellsReady, NoneReady, LowestReady, GoesOn};
 
-use records::Event;
+use records::EventKind;
 use runs::Runs;
 
 // Which list: all allowed traces; or, wherever some run's next event is a send or claim, only those that go on with the lowest such run.
@@ -27,7 +27,7 @@ fn is_ready(file: &[u8], r: Runs, done: [usize; 4], k: usize) -> bool
     ensures { TellsReady file.now r done k result }
 {
     let j = done[k];
-    j < r.events[k] && runs::event_of(file, r, k, j).kind != Event::READ
+    j < r.events[k] && runs::event_of(file, r, k, j).kind != EventKind::Read
 }
 
 // The lowest run whose next event is a send or claim, if there is one.

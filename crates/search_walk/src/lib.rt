@@ -1,36 +1,43 @@
 // Search: the walk through a list of allowed traces in its order. States that were walked whole are remembered, and not walked again.
 #![tactic(auto)]
 
-ghost use Rattle.std.specs.Prelude.{◌<◌};
+ghost use Rattle.std.specs.Prelude.{◌≡◌, ◌<◌, length};
 ghost use Rattle.search_breaks.specs.Walk.{state_of, SomeState, SomeClear, SomeChoice, SomeMove, SomeStep, FindsFrom, FindsRun, FindsChoice, FindsMove, FindsStep};
 ghost use Rattle.search_same.specs.Memory.{Remembers, Room};
 
 use answers::Walked;
 use cells::{Cells, Classes, Marks, Names, Scope};
-use records::Event;
+use records::EventKind;
 use search_breaks::{Choice, Course, Plan, Reach, Turn};
 use search_memory::Words;
 
-// Walks through the traces from a state on. How far the runs have come and the marks go by value; names and classes, which only a read changes, are lent. The
-// memory stays right.
+// A state by its parts: how far the runs have come, names and classes, which only a read changes and which are lent, and the marks.
+#[derive(Clone, Copy)]
+pub struct Parts<'a> {
+    pub course: Course,
+    pub names: &'a Names,
+    pub classes: &'a Classes,
+    pub marks: Marks,
+    // the array's type says it too, but where the array is not read that is not known
+    pub ghost size: { length course.done ≡ 4 },
+}
+
+// Walks through the traces from a state on. The memory stays right.
 #[cycle(walk_walk_after_walk_move_walk_run_walk_values)]
 pub fn walk(
     trace: &mut [u8],
     memory: &mut Words,
     plan: &Plan,
-    course: Course,
-    names: &Names,
-    classes: &Classes,
-    marks: Marks,
+    state: &Parts,
     reach: Reach,
 ) -> Walked
-    requires some_state { SomeState plan.now (state_of course names.now classes.now marks) reach.at }
+    requires some_state { SomeState plan.now (state_of state.now.course state.now.names.now state.now.classes.now state.now.marks) reach.at }
     requires room { Room plan.now trace.old memory.old reach }
-    ensures finds_from { FindsFrom plan.now (state_of course names.now classes.now marks) reach trace.old trace.new result }
+    ensures finds_from { FindsFrom plan.now (state_of state.now.course state.now.names.now state.now.classes.now state.now.marks) reach trace.old trace.new result }
     ensures remembers { Remembers plan.now memory.new }
 {
-    let done = course.done;
-    let claimed = claims::broken(&plan.opened, done, marks);
+    let done = state.course.done;
+    let claimed = claims::broken(&plan.opened, done, state.marks);
     let mut count = search_findings::own(reach.left, claimed)?;
     if reach.depth == 0 {
         return Ok(count);
@@ -41,10 +48,7 @@ pub fn walk(
             trace,
             memory,
             plan,
-            course,
-            names,
-            classes,
-            marks,
+            state,
             Reach {
                 left: reach.left - count,
                 at: reach.at,
@@ -63,21 +67,18 @@ fn walk_run(
     trace: &mut [u8],
     memory: &mut Words,
     plan: &Plan,
-    course: Course,
-    names: &Names,
-    classes: &Classes,
-    marks: Marks,
+    state: &Parts,
     reach: Reach,
     k: usize,
 ) -> Walked
-    requires some_clear { SomeClear plan.now (state_of course names.now classes.now marks) reach.at }
+    requires some_clear { SomeClear plan.now (state_of state.now.course state.now.names.now state.now.classes.now state.now.marks) reach.at }
     requires room { Room plan.now trace.old memory.old reach }
     requires k_lt_count { k < plan.now.opened.runs.count }
-    ensures finds_run { FindsRun plan.now (state_of course names.now classes.now marks) reach k trace.old trace.new result }
+    ensures finds_run { FindsRun plan.now (state_of state.now.course state.now.names.now state.now.classes.now state.now.marks) reach k trace.old trace.new result }
     ensures remembers { Remembers plan.now memory.new }
 {
     let runs = plan.opened.runs;
-    let done = course.done;
+    let done = state.course.done;
     let j = done[k];
     if runs.events[k] <= j {
         return Ok(0);
@@ -88,17 +89,14 @@ fn walk_run(
         event,
         values: search_breaks::no_values(),
     };
-    if event.kind == Event::READ {
+    if event.kind == EventKind::Read {
         let under = variables::beneath(&plan.opened.table, event.row);
         return walk_values(
             trace,
             memory,
             plan,
-            course,
-            names,
-            names,
-            classes,
-            marks,
+            state.names,
+            state,
             reach,
             Choice {
                 turn,
@@ -107,28 +105,23 @@ fn walk_run(
             },
         );
     }
-    walk_move(
-        trace, memory, plan, course, names, classes, marks, reach, turn,
-    )
+    walk_move(trace, memory, plan, state, reach, turn)
 }
 
-// Walks through the traces that go on with a read and the values chosen for it so far. Own names are the state's; names, classes and marks have those values.
+// Walks through the traces that go on with a read and the values chosen for it so far. Own names are the state's before it; the state has those values.
 #[cycle(walk_walk_after_walk_move_walk_run_walk_values)]
 fn walk_values(
     trace: &mut [u8],
     memory: &mut Words,
     plan: &Plan,
-    course: Course,
     own: &Names,
-    names: &Names,
-    classes: &Classes,
-    marks: Marks,
+    state: &Parts,
     reach: Reach,
     choice: Choice,
 ) -> Walked
-    requires some_choice { SomeChoice plan.now course own.now names.now classes.now marks reach.at choice }
+    requires some_choice { SomeChoice plan.now state.now.course own.now state.now.names.now state.now.classes.now state.now.marks reach.at choice }
     requires room { Room plan.now trace.old memory.old reach }
-    ensures finds_choice { FindsChoice plan.now course own.now names.now classes.now marks reach choice trace.old trace.new result }
+    ensures finds_choice { FindsChoice plan.now state.now.course own.now state.now.names.now state.now.classes.now state.now.marks reach choice trace.old trace.new result }
     ensures remembers { Remembers plan.now memory.new }
 {
     let turn = choice.turn;
@@ -137,11 +130,9 @@ fn walk_values(
     let under = choice.under;
     let t = &plan.opened.table;
     let Some(x) = variables::next_unset(t, own, &under, turn.run + 1, choice.from) else {
-        return walk_move(
-            trace, memory, plan, course, names, classes, marks, reach, turn,
-        );
+        return walk_move(trace, memory, plan, state, reach, turn);
     };
-    if !read_partial::may_be_read(classes, &marks, t, turn.run, event) {
+    if !read_partial::may_be_read(state.classes, &state.marks, t, turn.run, event) {
         return Ok(0);
     }
     let mut count = 0;
@@ -154,9 +145,9 @@ fn walk_values(
         let more_marks = values::tried(
             &mut more,
             &mut more_classes,
-            names,
-            classes,
-            marks,
+            state.names,
+            state.classes,
+            state.marks,
             &Scope {
                 table: *t,
                 run: choice.turn.run + 1,
@@ -169,11 +160,13 @@ fn walk_values(
             trace,
             memory,
             plan,
-            course,
             own,
-            &more,
-            &more_classes,
-            more_marks,
+            &Parts {
+                course: state.course,
+                names: &more,
+                classes: &more_classes,
+                marks: more_marks,
+            },
             Reach {
                 left: reach.left - count,
                 at: reach.at,
@@ -202,24 +195,19 @@ fn walk_move(
     trace: &mut [u8],
     memory: &mut Words,
     plan: &Plan,
-    course: Course,
-    names: &Names,
-    classes: &Classes,
-    marks: Marks,
+    state: &Parts,
     reach: Reach,
     turn: Turn,
 ) -> Walked
-    requires some_move { SomeMove plan.now course names.now classes.now marks reach.at turn }
+    requires some_move { SomeMove plan.now state.now.course state.now.names.now state.now.classes.now state.now.marks reach.at turn }
     requires room { Room plan.now trace.old memory.old reach }
-    ensures finds_move { FindsMove plan.now course names.now classes.now marks reach turn trace.old trace.new result }
+    ensures finds_move { FindsMove plan.now state.now.course state.now.names.now state.now.classes.now state.now.marks reach turn trace.old trace.new result }
     ensures remembers { Remembers plan.now memory.new }
 {
-    if !moves::is_allowed(classes, &marks, turn.run, turn.event) {
+    if !moves::is_allowed(state.classes, &state.marks, turn.run, turn.event) {
         return Ok(0);
     }
-    walk_after(
-        trace, memory, plan, course, names, classes, marks, reach, turn,
-    )
+    walk_after(trace, memory, plan, state, reach, turn)
 }
 
 // Walks through the traces that go on with a move that is allowed. Only here is the memory used: a state whose traces were all walked without a break is looked
@@ -229,35 +217,40 @@ fn walk_after(
     trace: &mut [u8],
     memory: &mut Words,
     plan: &Plan,
-    course: Course,
-    names: &Names,
-    classes: &Classes,
-    marks: Marks,
+    state: &Parts,
     reach: Reach,
     turn: Turn,
 ) -> Walked
-    requires some_step { SomeStep plan.now course names.now classes.now marks reach.at turn }
+    requires some_step { SomeStep plan.now state.now.course state.now.names.now state.now.classes.now state.now.marks reach.at turn }
     requires room { Room plan.now trace.old memory.old reach }
-    ensures finds_step { FindsStep plan.now course names.now classes.now marks reach turn trace.old trace.new result }
+    ensures finds_step { FindsStep plan.now state.now.course state.now.names.now state.now.classes.now state.now.marks reach turn trace.old trace.new result }
     ensures remembers { Remembers plan.now memory.new }
 {
-    let done = course.done;
+    let done = state.course.done;
     let variables = plan.variables;
     let next = state::advance(done, turn.run);
-    let key = search_memory::key_of(variables, next, names, reach.depth);
+    let key = search_memory::key_of(variables, next, state.names, reach.depth);
     if let Some(known) = search_memory::look_up(memory, &key) {
         return search_findings::known(reach.left, known);
     }
-    let after = moves::perform(classes, marks, &plan.opened.table, turn.run, turn.event);
+    let after = moves::perform(
+        state.classes,
+        state.marks,
+        &plan.opened.table,
+        turn.run,
+        turn.event,
+    );
     let bytes = 2 + 2 * turn.values.count;
     let found = walk(
         trace,
         memory,
         plan,
-        Course { done: next },
-        names,
-        classes,
-        after,
+        &Parts {
+            course: Course { done: next },
+            names: state.names,
+            classes: state.classes,
+            marks: after,
+        },
         Reach {
             left: reach.left,
             at: reach.at + bytes,

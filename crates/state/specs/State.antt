@@ -14,6 +14,7 @@ use Rattle.cells.specs.Cells.{cell_count, Readings, cell_value}
 use Rattle.classes.specs.Classes.{NamesRight, Classes}
 use Rattle.knowledge.specs.Marks.{Exact, Celled}
 use Rattle.runs.specs.declared.Runs.{Runs}
+use Rattle.records.specs.Kinds.{byte_of}
 use Rattle.runs.specs.declared.RunEvent.{RunEvent}
 use Rattle.runs.specs.Runs.{RunsAt, EventRead}
 use Rattle.state.specs.declared.State.{State}
@@ -61,7 +62,7 @@ pub record NextMove (t : List ℕ) (runs k : ℕ) (e : RunEvent) (sc : Scenario)
   pub good : Guarantee sc
   pub is_state : IsState sc d s
   pub is_active : active sc d (suc k) ≡ some a
-  pub is_event : EventRead sc a.run a.event e.kind e.own e.peer e.row
+  pub is_event : EventRead sc a.run a.event (byte_of e.kind) e.own e.peer e.row
 
 -- names in which a run's unset variables have new values
 pub record Sets (sc : Scenario) (d : definitions.State) (a : Active) (vs : List Value) (names : List ℕ) : Type 0 where

@@ -15,19 +15,19 @@ fn name_of(t: &Table, r: usize, u: usize, agents: &[u8]) -> u16
     ensures { FirstName (rows_of t.now.bytes.now) u agents.now r result }
 {
     let kind = t.kind_of(r);
-    if kind < Kind::ROLE {
+    if kind.number() < Kind::Role.number() {
         return r as u16;
     }
     if u == 0 {
         return Cells::ABSENT;
     }
-    if kind == Kind::ROLE {
+    if kind == Kind::Role {
         return match agents.get(t.left_of(r)) {
             Some(agent) => u16::from(*agent),
             None => Cells::ABSENT,
         };
     }
-    if kind == Kind::LOCAL {
+    if kind == Kind::Local {
         return cell(r, u) as u16;
     }
     Cells::ABSENT
@@ -51,7 +51,7 @@ fn intruder_marks(t: &Table) -> Marks
 {
     let mut marks = [false; 480];
     for r in 0..t.rows {
-        if t.kind_of(r) == Kind::INTRUDER {
+        if t.kind_of(r) == Kind::Intruder {
             marks[r] = true;
         }
     }

@@ -23,6 +23,7 @@ impl TableLimits {
     pub const MOST_ROLES: usize = 4;
 }
 
+// stays: bytes that are checked are no table yet, so these take the bytes and a row's number
 // Whether row a is below row i and agent-like.
 fn agent_like(t: &[u8], i: usize, a: usize) -> bool
     requires { (3 * i ≤ length t.now) × IsTable (take (3 * i) t.now) }
@@ -30,8 +31,8 @@ fn agent_like(t: &[u8], i: usize, a: usize) -> bool
 {
     a < i
         && match rows::kind_of(t, a) {
-            Kind::TRUSTED | Kind::UNTRUSTED | Kind::ROLE => true,
-            Kind::VARIABLE => rows::right_of(t, a) == 0,
+            Some(Kind::Trusted | Kind::Untrusted | Kind::Role) => true,
+            Some(Kind::Variable) => rows::right_of(t, a) == 0,
             _ => false,
         }
 }
@@ -41,7 +42,7 @@ fn no_pair(t: &[u8], i: usize, a: usize) -> bool
     requires { (3 * i ≤ length t.now) × IsTable (take (3 * i) t.now) }
     ensures { result ≡ no_pair (get_elem? (rows_of (take (3 * i) t.now)) a) }
 {
-    a < i && rows::kind_of(t, a) != Kind::PAIR
+    a < i && rows::kind_of(t, a) != Some(Kind::Pair)
 }
 
 // Whether the bytes of row i are a row of the table of kinds that fits the rows below it.
@@ -49,18 +50,19 @@ fn fits_row(t: &[u8], i: usize) -> bool
     requires { (3 * i + 3 ≤ length t.now) × IsTable (take (3 * i) t.now) }
     ensures { result ≡ fits_decoded (rows_of (take (3 * i) t.now)) (decoded_at t.now i) }
 {
-    let kind = rows::kind_of(t, i);
+    let Some(kind) = rows::kind_of(t, i) else {
+        return false;
+    };
     let left = rows::left_of(t, i);
     let right = rows::right_of(t, i);
     match kind {
-        Kind::TRUSTED | Kind::UNTRUSTED | Kind::GLOBAL | Kind::INTRUDER | Kind::LOCAL => right == 0,
-        Kind::ROLE => left < TableLimits::MOST_ROLES && right == 0,
-        Kind::VARIABLE => right <= 1,
-        Kind::PUBLIC_KEY | Kind::SECRET_KEY => right == 0 && agent_like(t, i, left),
-        Kind::SHARED_KEY => agent_like(t, i, left) && agent_like(t, i, right),
-        Kind::PAIR => no_pair(t, i, left) && right < i,
-        Kind::ENCRYPTED => left < i && right < i,
-        _ => false,
+        Kind::Trusted | Kind::Untrusted | Kind::Global | Kind::Intruder | Kind::Local => right == 0,
+        Kind::Role => left < TableLimits::MOST_ROLES && right == 0,
+        Kind::Variable => right <= 1,
+        Kind::PublicKey | Kind::SecretKey => right == 0 && agent_like(t, i, left),
+        Kind::SharedKey => agent_like(t, i, left) && agent_like(t, i, right),
+        Kind::Pair => no_pair(t, i, left) && right < i,
+        Kind::Encrypted => left < i && right < i,
     }
 }
 
@@ -85,7 +87,7 @@ fn with_variable(t: &[u8], i: usize, variables: usize) -> usize
     requires { (3 * i + 2 < length t.now) × (variables ≤ 8) }
     ensures { (get_or t.now (3 * i) 0 ≡ 6 → result ≡ variables + 1) × ((get_or t.now (3 * i) 0 ≡ 6 → ⊥) → result ≡ variables) }
 {
-    variables + usize::from(rows::kind_of(t, i) == Kind::VARIABLE)
+    variables + usize::from(rows::kind_of(t, i) == Some(Kind::Variable))
 }
 
 // Why row i is refused after the rows below it, if it is: as a bad row or as a repeated one.

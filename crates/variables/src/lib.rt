@@ -5,6 +5,7 @@ ghost use Rattle.std.specs.Prelude.{◌≡◌, false, ◌&&◌, ℕ, ◌+◌, �
 ghost use Rattle.std.proofs.Math.Option.{some};
 ghost use Rattle.semantics.specs.Term.{VariableType, Atom, variable};
 ghost use Rattle.semantics.specs.Runs.{atom_at};
+ghost use Rattle.rows.specs.Kinds.{number_of};
 ghost use Rattle.rows.specs.Rows.{rows_of};
 ghost use Rattle.cells.specs.Cells.{cell_of, absent};
 ghost use Rattle.variables.specs.Variables.{Beneath, ClosedFrom, NextUnset, first_run, run_count, TellsValue, NextOf, NotNamed, Among, Unset};
@@ -27,7 +28,7 @@ fn mark_parts(below: &mut [bool; 96], t: &Table, r: usize)
     requires { r < t.now.rows }
     ensures { (x : ℕ) → ClosedFrom (rows_of t.now.bytes.now) x (r + 1) below.old → ClosedFrom (rows_of t.now.bytes.now) x r below.new }
 {
-    if !below[r] || t.kind_of(r) < Kind::FIRST_MADE {
+    if !below[r] || !t.kind_of(r).is_made() {
         return;
     }
     below[t.left_of(r)] = true;
@@ -52,7 +53,7 @@ fn is_unset(t: &Table, names: &Names, below: &[bool; 96], u: usize, y: usize) ->
     requires { (y < t.now.rows) × (u ≤ 4) }
     ensures { IsTrue result ↔ NotNamed t.now.bytes.now names.now u below.now y }
 {
-    below[y] && t.kind_of(y) == Kind::VARIABLE && names[cells::cell(y, u)] == Cells::ABSENT
+    below[y] && t.kind_of(y) == Kind::Variable && names[cells::cell(y, u)] == Cells::ABSENT
 }
 
 // The first row, not below a given one, that is an unset variable of run u beneath the pattern, if there is one.
@@ -76,7 +77,7 @@ pub fn variable_rows(t: &Table, set: &[bool; 96]) -> VariableRows
     let mut found = [0; 8];
     let mut count = 0;
     for x in 0..t.rows {
-        if set[x] && t.kind_of(x) == Kind::VARIABLE {
+        if set[x] && t.kind_of(x) == Kind::Variable {
             found[count] = x;
             count += 1;
         }
@@ -112,25 +113,25 @@ pub fn unset_rows(
 }
 
 // The first run with which a row of a kind is a value: 1 for a local constant, 0 for every other.
-fn first_run(kind: usize) -> usize
-    ensures { (result ≡ first_run kind) × (result ≤ 1) }
+fn first_run(kind: Kind) -> usize
+    ensures { (result ≡ first_run (number_of kind)) × (result ≤ 1) }
 {
-    usize::from(kind == Kind::LOCAL)
+    usize::from(kind == Kind::Local)
 }
 
 // With how many runs a row of a kind is a value of a fresh variable, or of an agent variable.
 #[tactic(auto, unfolding(crate::specs::Variables::run_count))]
-fn run_count(kind: usize, fresh: bool, runs: usize) -> usize
-    ensures { (result ≡ run_count runs fresh kind) × (result ≤ runs + 1) }
+fn run_count(kind: Kind, fresh: bool, runs: usize) -> usize
+    ensures { (result ≡ run_count runs fresh (number_of kind)) × (result ≤ runs + 1) }
 {
     if fresh {
         match kind {
-            Kind::INTRUDER => 1,
-            Kind::LOCAL => runs,
+            Kind::Intruder => 1,
+            Kind::Local => runs,
             _ => 0,
         }
     } else {
-        usize::from(kind <= Kind::UNTRUSTED)
+        usize::from(matches!(kind, Kind::Trusted | Kind::Untrusted))
     }
 }
 

@@ -1,7 +1,6 @@
 -- The laws of cells: parts are lower rows, and cells are told apart. Assumes nothing.
-use Rattle.std.specs.Prelude.{ℕ, zero, suc, ◌+◌, ◌*◌, ◌<◌, ◌≤◌, ◌≡◌, refl, ◌↔◌, Bool, true, false, cond, T, ltb, length, get_or}
-use Rattle.std.proofs.Common.{le_of_suc-le-suc, not-suc-le-zero, eq-or-lt_of_le, ⊎_elim, arith, sym, lt-ltb, le-ltb, ltb-false}
-use mathlib.Core.Logic.Iff
+use Rattle.std.specs.Prelude.{ℕ, zero, suc, ◌+◌, ◌*◌, ◌<◌, ◌≤◌, ◌≡◌, refl, Bool, true, false, cond, ltb, length, get_or}
+use Rattle.std.proofs.Common.{le_of_suc-le-suc, not-suc-le-zero, arith, lt-ltb, le-ltb, ltb-false}
 use mathlib.Core.List.{List, [], ◌∷◌, Memᴰ}
 use Rattle.std.proofs.Math.Option.{some}
 use Rattle.std.proofs.Math.ListN.{get_elem?}
@@ -12,7 +11,7 @@ use Rattle.semantics.proofs.laws.List.{get_elem-there}
 use Rattle.rows.specs.Rows.{rows_of, Shape}
 use Rattle.rows.specs.laws.Table.{table-good, table-row, left-lower as lower-left}
 use Rattle.rows.specs.laws.Decode.{decodes-refers}
-use Rattle.cells.specs.Cells.{cell_of, cell_count, absent, second_of, same_parts, Tells, Matches, FoundInRow, has_run, has_no_run, Found, is_found, not_found}
+use Rattle.cells.specs.Cells.{cell_count, absent, second_of, Matches, FoundInRow, has_run, has_no_run, Found, is_found, not_found}
 
 -- within a list the default does not matter
 pub get_d_any : {A : Type 0} (xs : List A) (i : ℕ) (d e : A) → i < length xs → get_or xs i d ≡ get_or xs i e
@@ -61,30 +60,6 @@ second-right bytes r {k} e l q = rw (le-ltb (get_or bytes (3 * r) 0) 10 (rw e at
 -- what is read of a cell is its class
 pub class-read : (classes : List ℕ) → length classes ≡ cell_count → {c d : ℕ} → c ≡ d → c < cell_count → get_or classes c 0 ≡ get_or classes d absent
 class-read classes sized {d = d} e l = rw e (get_d_any classes d 0 absent (omega arith))
-
-module _ (bytes classes : List ℕ) (x a b w : ℕ) where
-  -- a row without a class matches nothing
-  pub no-class : {class : ℕ} → class ≡ get_or classes (cell_of x w) absent → absent ≤ class → Tells (Matches bytes classes a b x w) false
-  no-class e l m = omega (arith, m.there)
-
-  -- a row with a class matches by its parts
-  pub parts-tell :
-      {class l s first second : ℕ} {r : Bool} → class ≡ get_or classes (cell_of x w) absent → class < absent → l ≡ get_or bytes (3 * x + 1) 0 → s ≡ second_of bytes x
-      → first ≡ get_or classes (cell_of l w) absent → second ≡ get_or classes (cell_of s w) absent → r ≡ same_parts a b first second
-      → Tells (Matches bytes classes a b x w) r
-  parts-tell {class} {l} {s} {first} {second} {r} ec there el es ef eg er = go r (T r) (parts_are (sym er))
-    where
-      parts_are : same_parts a b first second ≡ r → T r ↔ T (same_parts a b (get_or classes (cell_of (get_or bytes (3 * x + 1) 0) w) absent) (get_or classes (cell_of (second_of bytes x) w) absent))
-      parts_are e = rw (← es, ← el, ← eg, ← ef, e) Iff.rfl
-
-      go : (r : Bool) (P : Type 0) → T r ↔ T (same_parts a b (get_or classes (cell_of (get_or bytes (3 * x + 1) 0) w) absent) (get_or classes (cell_of (second_of bytes x) w) absent))
-          → Tells (Matches bytes classes a b x w) r
-      go true P h = record { there = rw ec at there; parts = h.0 tt }
-      go false P h = λ m. h.1 m.parts
-
--- nothing below a number, nor at it, so nothing below the next
-pub none_more : (P : ℕ → Type 0) (w : ℕ) → ((v : ℕ) → v < w → P v → ⊥) → (P w → ⊥) → (v : ℕ) → v < w + 1 → P v → ⊥
-none_more P w before now v l = ⊎_elim (λ (e : v ≡ w). rw e now) (λ (k : v < w). before v k) (eq-or-lt_of_le (omega arith))
 
 module _ {bytes : List ℕ} {n runs : ℕ} {classes : List ℕ} {kind a b : ℕ} where
   -- a class that is found in a row is found

@@ -19,6 +19,7 @@ use Rattle.semantics.proofs.laws.List.{get_elem-below, get_elem-there}
 use Rattle.semantics.proofs.laws.Inference.{derivable-exact}
 use Rattle.cells.specs.Cells.{cell_of, Within, cell_value}
 use Rattle.runs.specs.declared.Runs.{Runs}
+use Rattle.records.specs.Kinds.{byte_of}
 use Rattle.runs.specs.declared.RunEvent.{RunEvent}
 use Rattle.runs.specs.Runs.{ReadsEvent, RunsAt, EventRead}
 use Rattle.state.specs.Readings.{sets_in, sets_of, readings}
@@ -116,13 +117,13 @@ module _ {file : List ℕ} {r : Runs} {sc : Scenario} {d : State} {marks : List 
     found : (ev : Event) × (get_elem? (events_of sc run) j ≡ some ev)
     found = event-there k j at.runs at.is_run below
 
-    is-read : EventRead sc run found.0 e.kind e.own e.peer e.row
+    is-read : EventRead sc run found.0 (byte_of e.kind) e.own e.peer e.row
     is-read = seen sc run found.0 at.runs at.good at.is_run found.1
 
-    pub other_none : (e.kind ≡ 2 → ⊥) → event_breaks sc d k run p j ≡ none
+    pub other_none : (byte_of e.kind ≡ 2 → ⊥) → event_breaks sc d k run p j ≡ none
     other_none n = rw found.1 (other-event found.0 is-read n)
 
-    pub claim-marked : true ≡ all_trusted sc.rows run → e.kind ≡ 2 → {c : ℕ} → c ≡ cell_of e.row (k + 1) → event_breaks sc d k run p j ≡ provided (get_or marks c false) (claim_at k j)
+    pub claim-marked : true ≡ all_trusted sc.rows run → byte_of e.kind ≡ 2 → {c : ℕ} → c ≡ cell_of e.row (k + 1) → event_breaks sc d k run p j ≡ provided (get_or marks c false) (claim_at k j)
     claim-marked trusts h {c} place =
         let same : c ≡ cell_of e.row (suc k) = omega arith in
         rw (found.1, same) (claim-event found.0 is-read trusts h)

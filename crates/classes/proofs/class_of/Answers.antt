@@ -1,31 +1,19 @@
 -- `classes::class_of` meets its contract: each way out is one way for a cell to get its class. Assumes nothing.
 use native.Mathlib.Omega.{arith}
-use Rattle.classes.specs.laws.ClassOf.{first_read, second-read, class-named, class-first, class-second, class-looked}
+use Rattle.classes.specs.laws.ClassOf.{first_read, second-read, class-looked}
 use Rattle.cells.specs.laws.Cells.{left-small, second-small}
 use Rattle.classes.proofs.class_of.Goals as goal
 
-pub returns-then-kind-lt-FIRST_MADE : goal.returns-then-kind-lt-FIRST_MADE
-returns-then-kind-lt-FIRST_MADE c =
-    class-named c.args.t.now.bytes.now c.args.t.now.rows c.args.t.now.runs c.args.names.now c.args.classes.now c.args.u c.args.x c.kind_of-kind.ensures.0 c.if-kind-lt-FIRST_MADE.true c.told-names c.cell-c.ensures.0 c.cell-c.ensures.1
-
 pub cell-requires : goal.cell-requires
 cell-requires c =
-    (left-small c.args.t.now.bytes.now c.args.t.now.rows c.args.t.now.runs c.args.t.now.shape c.args.x c.requires.1 (omega (arith, c.kind_of-kind.ensures.0, c.if-kind-lt-FIRST_MADE.false)) c.left_of.ensures.0, omega (arith, c.args.t.now.shape.few_runs, c.requires.0))
-
-pub returns-then-a-eq-ABSENT : goal.returns-then-a-eq-ABSENT
-returns-then-a-eq-ABSENT c =
-    class-first c.args.t.now.bytes.now c.args.t.now.rows c.args.t.now.runs c.args.names.now c.args.classes.now c.args.u c.args.x c.kind_of-kind.ensures.0 c.if-kind-lt-FIRST_MADE.false (first_read c.args.t.now.bytes.now c.args.classes.now c.args.u c.args.x c.told-classes c.left_of.ensures.0 c.cell.ensures.0 c.cell.ensures.1) c.if-a-eq-ABSENT.true
+    (left-small c.args.t.now.bytes.now c.args.t.now.rows c.args.t.now.runs c.args.t.now.shape c.args.x c.requires.1 (rw c.kind_of-kind.ensures at (c.is_made.ensures.0 c.if-not-is_made.false)) c.left_of.ensures.0, omega (arith, c.args.t.now.shape.few_runs, c.requires.0))
 
 pub cell-requires-2 : goal.cell-requires-2
 cell-requires-2 c =
-    (second-small c.args.t.now.bytes.now c.args.t.now.rows c.args.t.now.runs c.args.t.now.shape c.args.x c.requires.1 (omega (arith, c.kind_of-kind.ensures.0, c.if-kind-lt-FIRST_MADE.false)) c.second_of.ensures.0, omega (arith, c.args.t.now.shape.few_runs, c.requires.0))
-
-pub returns-then-b-eq-ABSENT : goal.returns-then-b-eq-ABSENT
-returns-then-b-eq-ABSENT c =
-    class-second c.args.t.now.bytes.now c.args.t.now.rows c.args.t.now.runs c.args.names.now c.args.classes.now c.args.u c.args.x c.kind_of-kind.ensures.0 c.if-kind-lt-FIRST_MADE.false (first_read c.args.t.now.bytes.now c.args.classes.now c.args.u c.args.x c.told-classes c.left_of.ensures.0 c.cell.ensures.0 c.cell.ensures.1) (second-read c.args.t.now.bytes.now c.args.classes.now c.args.u c.args.x c.told-classes c.second_of.ensures.0 c.cell-2.ensures.0 c.cell-2.ensures.1) c.if-b-eq-ABSENT.true
+    (second-small c.args.t.now.bytes.now c.args.t.now.rows c.args.t.now.runs c.args.t.now.shape c.args.x c.requires.1 (rw c.kind_of-kind.ensures at (c.is_made.ensures.0 c.if-not-is_made.false)) c.second_of.ensures.0, omega (arith, c.args.t.now.shape.few_runs, c.requires.0))
 
 pub returns : goal.returns
 returns c =
     let first = first_read c.args.t.now.bytes.now c.args.classes.now c.args.u c.args.x c.told-classes c.left_of.ensures.0 c.cell.ensures.0 c.cell.ensures.1 in
     let second = second-read c.args.t.now.bytes.now c.args.classes.now c.args.u c.args.x c.told-classes c.second_of.ensures.0 c.cell-2.ensures.0 c.cell-2.ensures.1 in
-    class-looked c.args.t.now.bytes.now c.args.t.now.rows c.args.t.now.runs c.args.names.now c.args.classes.now c.args.u c.args.x c.kind_of-kind.ensures.0 c.if-kind-lt-FIRST_MADE.false first second c.if-a-eq-ABSENT.false c.if-b-eq-ABSENT.false c.found.result c.found.ensures c.cell-c.ensures.0 c.unwrap_or.ensures
+    class-looked c.args.t.now.bytes.now c.args.t.now.rows c.args.t.now.runs c.args.names.now c.args.classes.now c.args.u c.args.x c.kind_of-kind.ensures (c.is_made.ensures.0 c.if-not-is_made.false) first second c.if-a-eq-ABSENT.false c.if-b-eq-ABSENT.false c.class_of_parts.result c.class_of_parts.ensures c.cell-c.ensures.0 c.unwrap_or.ensures

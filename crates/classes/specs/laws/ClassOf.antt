@@ -1,10 +1,10 @@
 -- The class of a cell, from what is read of its row and of its parts' classes. Assumes nothing.
-use Rattle.std.specs.Prelude.{ℕ, ◌+◌, ◌*◌, ◌<◌, ◌≤◌, ◌≡◌, refl, List, length, get_or, Option, Some, None, MatchOption}
+use Rattle.std.specs.Prelude.{ℕ, ◌+◌, ◌*◌, ◌<◌, ◌≤◌, ◌≡◌, List, length, get_or, Option, Some, None, MatchOption}
 use Rattle.std.specs.Option.{unwrap_or}
-use Rattle.std.proofs.Common.{sym, ap, ◌∙◌, arith}
+use Rattle.std.proofs.Common.{ap, ◌∙◌, arith}
 use Rattle.cells.specs.Cells.{cell_of, cell_count, absent, second_of, Found}
 use Rattle.cells.specs.laws.Cells.{class-read}
-use Rattle.classes.specs.Filled.{first_class, second_class, ClassOf, of_atom, no_first, no_second, of_other, of_itself}
+use Rattle.classes.specs.Filled.{first_class, second_class, ClassOf, of_other, of_itself}
 
 module _ (bytes classes : List ℕ) (u x : ℕ) (sized : length classes ≡ cell_count) where
   -- what is read of the parts
@@ -15,20 +15,8 @@ module _ (bytes classes : List ℕ) (u x : ℕ) (sized : length classes ≡ cell
   second-read q e b = class-read classes sized (e ∙ ap (λ r. cell_of r u) q) b
 
 module _ (bytes : List ℕ) (n runs : ℕ) (names classes : List ℕ) (u x : ℕ) {kind : ℕ} (kinds : kind ≡ get_or bytes (3 * x) 0) where
-  -- an atom's name
-  pub class-named : {c : ℕ} → kind < 8 → length names ≡ cell_count → c ≡ cell_of x u → c < cell_count → ClassOf bytes n runs names classes u x (get_or names c 0)
-  class-named l sized e b = of_atom (rw kinds at l) (class-read names sized e b)
-
   module _ (high : 8 ≤ kind) {a : ℕ} (first : a ≡ first_class bytes classes u x) where
-    -- the first part has no class
-    pub class-first : a ≡ absent → ClassOf bytes n runs names classes u x absent
-    class-first e = no_first (rw kinds at high) (sym first ∙ e) refl
-
     module _ {b : ℕ} (second : b ≡ second_class bytes classes u x) where
-      -- the second part has none
-      pub class-second : b ≡ absent → ClassOf bytes n runs names classes u x absent
-      class-second e = no_second (rw kinds at high) (sym second ∙ e) refl
-
       -- a cell with such parts is found, or none is
       pub class-looked : (a ≡ absent → ⊥) → (b ≡ absent → ⊥) → (o : Option ℕ) → MatchOption o (Found bytes n runs classes kind a b absent) (λ f. (f < absent) × Found bytes n runs classes kind a b f)
           → {c class : ℕ} → c ≡ cell_of x u → class ≡ unwrap_or o c → ClassOf bytes n runs names classes u x class

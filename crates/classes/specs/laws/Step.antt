@@ -191,10 +191,7 @@ module _ (bytes : List ℕ) (n runs u : ℕ) (names : List ℕ) (shape : Shape b
       pub row_kept : (get_or classes c 0 ≡ absent → ⊥) → Filled (rows_of bytes) runs u names x (x + 1) classes classes
       row_kept h = λ old new grows naming right. next-kept shape low run names classes grows right (λ e. h (class-read classes sized cell small ∙ e))
 
-  -- no rows, and one row more
-  pub filled_none : {r : ℕ} {classes : List ℕ} → r ≡ 0 → Filled (rows_of bytes) runs u names 0 r classes classes
-  filled_none e = λ old new grows naming right. rw e right
-
+  -- one row more
   pub filled_next : {r : ℕ} {a b c : List ℕ} → (r ≡ 0 → ⊥) → Filled (rows_of bytes) runs u names 0 (r - 1) a b → Filled (rows_of bytes) runs u names (r - 1) (r - 1 + 1) b c
       → Filled (rows_of bytes) runs u names 0 r a c
   filled_next {r} d f g = λ old new grows naming right. let e : r - 1 + 1 ≡ r = omega arith in rw e at (g old new grows naming (f old new grows naming right))

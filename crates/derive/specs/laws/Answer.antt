@@ -4,7 +4,6 @@ use Rattle.std.proofs.Common.{arith, ◌∙◌}
 use Rattle.std.proofs.Math.Path.{refl, sym, ap}
 use mathlib.Core.List.{List, []}
 use Rattle.std.proofs.Math.Option.{none}
-use Rattle.semantics.specs.Answer.{accepted}
 use Rattle.semantics.specs.Table.{rows_from}
 use Rattle.semantics.specs.Value.{value_of, as_atoms}
 use Rattle.semantics.specs.Derive.{absent_from, derivable_row, derived}

@@ -1,5 +1,4 @@
 -- `build` adds only marks that rows give. Assumes nothing.
-use Rattle.std.proofs.Common.{arith}
 use Rattle.knowledge.specs.Steps.{stays}
 use Rattle.knowledge.specs.laws.Steps.{reaches-on}
 use Rattle.knowledge.proofs.+build.Goals as goal

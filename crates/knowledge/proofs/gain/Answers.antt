@@ -1,22 +1,19 @@
 -- `gain` finds a class that a row gives in a run and that is not marked. Assumes nothing.
 use Rattle.std.proofs.Common.{arith, rules, tests}
 use Rattle.rows.specs.laws.Ranges.{told}
-use Rattle.knowledge.specs.laws.Steps.{left_below, parts_below, other-idle, gained-at, class-kept}
+use Rattle.knowledge.specs.laws.Steps.{left_below, parts_below, gained-at, class-kept}
 use Rattle.knowledge.proofs.gain.Goals as goal
-
-pub returns-then-kind-lt-PAIR : goal.returns-then-kind-lt-PAIR
-returns-then-kind-lt-PAIR c = other-idle c.args.x c.args.u c.kind_of-kind.ensures.0 c.if-kind-lt-PAIR.true
 
 pub class_at-left-requires : goal.class_at-left-requires
 class_at-left-requires c =
-    (left_below c.args.t.now.bytes.now c.args.t.now.rows c.args.t.now.runs c.args.t.now.shape c.args.x c.requires.0 c.kind_of-kind.ensures.0 (omega (arith, c.if-kind-lt-PAIR.false)) c.left_of.ensures.0, omega (arith, c.args.t.now.shape.few_runs, c.requires.1))
+    (left_below c.args.t.now.bytes.now c.args.t.now.rows c.args.t.now.runs c.args.t.now.shape c.args.x c.requires.0 c.kind_of-kind.ensures (omega (arith, c.is_compound.ensures.0 c.if-not-is_compound.false)) c.left_of.ensures.0, omega (arith, c.args.t.now.shape.few_runs, c.requires.1))
 
 pub class_at-right-requires : goal.class_at-right-requires
 class_at-right-requires c =
-    ((parts_below c.args.t.now.bytes.now c.args.t.now.rows c.args.t.now.runs c.args.t.now.shape c.args.x c.requires.0 c.kind_of-kind.ensures.0 c.if-kind-lt-PAIR.false c.left_of.ensures.0 c.right_of.ensures.0).1, omega (arith, c.args.t.now.shape.few_runs, c.requires.1))
+    ((parts_below c.args.t.now.bytes.now c.args.t.now.rows c.args.t.now.runs c.args.t.now.shape c.args.x c.requires.0 c.kind_of-kind.ensures (c.is_compound.ensures.0 c.if-not-is_compound.false) c.left_of.ensures.0 c.right_of.ensures.0).1, omega (arith, c.args.t.now.shape.few_runs, c.requires.1))
 
 pub returns : goal.returns
 returns c =
     class-kept c.args.x c.args.u c.given-class.result c.filter.result
-    (gained-at c.args.x c.args.u c.kind_of-kind.ensures.0 c.class_at-whole.ensures c.left_of.ensures.0 c.class_at-left.ensures c.right_of.ensures.0 c.class_at-right.ensures c.given-class.ensures)
+    (gained-at c.args.x c.args.u c.kind_of-kind.ensures c.class_at-whole.ensures c.left_of.ensures.0 c.class_at-left.ensures c.right_of.ensures.0 c.class_at-right.ensures c.given-class.ensures)
     (told c.given-class.result c.filter.ensures (λ e. e) (λ class k. (k.0, search (rules, tests), k.2)))

@@ -1,11 +1,10 @@
 -- The laws of lists of marks: marks set one after another, and how many are missing. Assumes nothing.
-use Rattle.std.specs.Prelude.{ℕ, zero, suc, ◌+◌, ◌<◌, ◌≤◌, ◌≡◌, refl, ◌⊎◌, Bool, true, false, List, [], ◌∷◌, length, get_or, set, replicate}
-use Rattle.std.proofs.Common.{le_of_suc-le-suc, not-suc-le-zero, eq-or-lt_of_le, arith, sym, ◌∙◌, inl, inr, ⊎_elim, length-set, get_or-set_same, get_or-set_other}
+use Rattle.std.specs.Prelude.{ℕ, zero, suc, ◌<◌, ◌≤◌, ◌≡◌, refl, ◌⊎◌, Bool, true, false, List, [], ◌∷◌, length, get_or, set, replicate}
+use Rattle.std.proofs.Common.{le_of_suc-le-suc, not-suc-le-zero, arith, sym, ◌∙◌, inl, inr, ⊎_elim, get_or-set_same, get_or-set_other}
 use Rattle.std.proofs.Math.Decide.{ℕ_discrete}
 use Rattle.std.proofs.lemmas.Bool.{false≢true}
 use Rattle.std.proofs.lemmas.List.{length-replicate}
-use Rattle.cells.specs.Cells.{absent}
-use Rattle.knowledge.specs.Steps.{On, Inside, FilledCells, missing}
+use Rattle.knowledge.specs.Steps.{On, FilledCells, missing}
 
 -- a marked class is one of the list
 pub on_below : (marks : List Bool) (k : ℕ) → On marks k → k < length marks
@@ -29,9 +28,6 @@ is-off e f o = false≢true (sym f ∙ e ∙ o)
 -- and where the class was read
 pub marked : (marks : List Bool) {k j : ℕ} {b : Bool} → b ≡ get_or marks k false → b ≡ true → k ≡ j → On marks j
 marked marks e f q = rw q at (is-on e f)
-
-pub unmarked : (marks : List Bool) {k j : ℕ} {b : Bool} → b ≡ get_or marks k false → b ≡ false → k ≡ j → On marks j → ⊥
-unmarked marks e f q o = is-off e f (rw (← q) at o)
 
 -- after a mark is set, those that stand are it and those that stood
 pub set_on : (marks : List Bool) (k j : ℕ) → On (set marks k true) j → (j ≡ k) ⊎ On marks j
@@ -77,44 +73,4 @@ module _ (n runs : ℕ) (place : ℕ → ℕ → ℕ) (chosen : ℕ → ℕ → 
     size = length-replicate 480 false;
     from = λ k e. absurd (none-on 480 k e);
     onto = λ r u p. ⊎_elim (λ l. absurd (not-suc-le-zero l)) (λ w. absurd (not-suc-le-zero w.1)) p.1;
-  }
-
-  -- one more cell passed
-  before_more : (u r x w : ℕ) → Before n u (r + 1) x w → ((x ≡ r) × (w ≡ u)) ⊎ Before n u r x w
-  before_more u r x w p = ⊎_elim (λ l. inr (p.0, inl l)) (λ q. ⊎_elim (λ e. inl (e, q.0)) (λ l. inr (p.0, inr (q.0, l))) (eq-or-lt_of_le (omega (arith, q.1)))) p.1
-
-  module _ {u r : ℕ} {marks : List Bool} (f : FilledCells n runs place chosen (Before n u r) marks) where
-    -- its mark is set
-    pub filled-set : Inside n runs r u → chosen r u → {k : ℕ} → k ≡ place r u → k < absent → {next : List Bool} → next ≡ set marks k true → FilledCells n runs place chosen (Before n u (r + 1)) next
-    filled-set within c {k} e l q = rw q record {
-      size = length-set marks k true ∙ f.size;
-      from = λ j o. ⊎_elim (λ q. (r, u, within, c, q ∙ e)) (λ h. f.from j h) (set_on marks k j o);
-      onto = λ x w p d b. ⊎_elim
-          (λ q. rw (q.0, q.1, ← e) (get_or-set_same marks k true false (omega (arith, f.size))))
-          (λ h. set_keeps marks k (place x w) (f.onto x w h d b))
-          (before_more u r x w p);
-    }
-
-    -- or it has none
-    pub filled-skip : (chosen r u → place r u < absent → ⊥) → {next : List Bool} → next ≡ marks → FilledCells n runs place chosen (Before n u (r + 1)) next
-    filled-skip no-mark q = rw q record {
-      size = f.size;
-      from = f.from;
-      onto = λ x w p d b. ⊎_elim (λ q. absurd (no-mark (rw (q.0, q.1) at d) (rw (q.0, q.1) at b))) (λ h. f.onto x w h d b) (before_more u r x w p);
-    }
-
-    -- the rows of a run are passed
-    pub filled-run : n ≤ r → FilledCells n runs place chosen (Before n (u + 1) 0) marks
-    filled-run l = record {
-      size = f.size;
-      from = f.from;
-      onto = λ x w p d b. f.onto x w (p.0, ⊎_elim (λ (k : w < u + 1). ⊎_elim (λ (e : w ≡ u). inr (e, omega (arith, p.0))) (λ (h : w < u). inl h) (eq-or-lt_of_le (omega arith))) (λ q. absurd (not-suc-le-zero q.1)) p.1) d b;
-    }
-
-  -- all runs are passed
-  pub filled-all : {u : ℕ} {marks : List Bool} → FilledCells n runs place chosen (Before n u 0) marks → runs < u → FilledCells n runs place chosen (Inside n runs) marks
-  filled-all f l = record {
-    size = f.size;
-    from = f.from;
-    onto = λ x w p. f.onto x w (p.0, inl (omega (arith, p.1)));
   }

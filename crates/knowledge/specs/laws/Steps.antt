@@ -2,13 +2,13 @@
 use Rattle.std.specs.Option.{unwrap_or}
 use Rattle.std.specs.Bool.{then_some}
 use Rattle.std.specs.Prelude.{ℕ, Option, Some, None, MatchOption, ltb, ◌<◌, ◌≤◌, ◌≡◌, refl, Bool, true, false, List, length, get_or, set}
-use Rattle.std.proofs.Common.{ltb-true, ltb-false, arith, sym, ◌∙◌, inl, inr, length-set}
+use Rattle.std.proofs.Common.{ltb-true, ltb-false, arith, sym, ◌∙◌, inr, length-set}
 use Rattle.std.proofs.Math.Decide.{dec_lt}
 use Rattle.std.proofs.Math.ListN.{get_or-eq_default}
 use Rattle.rows.specs.Rows.{Shape}
 use Rattle.cells.specs.Cells.{cell_of, cell_count, absent, Found}
 use Rattle.cells.specs.laws.Cells.{left-lower, second-lower, second-right}
-use Rattle.knowledge.specs.Steps.{class_at, On, kind_at, left_at, right_at, Inside, InverseKinds, pk_sk, sk_pk, Opening, by_other, by_itself, Gives, gives_whole, gives_first, gives_second, gives_content, Idle, Gained, gains, idles, IdleAt, GainedAt, RowGained, row_gains, row_idles, AllIdle, SomeGained, Reaches, stays, grows, missing}
+use Rattle.knowledge.specs.Steps.{class_at, On, kind_at, left_at, right_at, Inside, InverseKinds, pk_sk, sk_pk, Opening, by_other, by_itself, Gives, gives_whole, gives_first, gives_content, Idle, Gained, gains, idles, IdleAt, GainedAt, RowGained, row_gains, row_idles, AllIdle, SomeGained, Reaches, stays, grows, missing}
 use Rattle.knowledge.specs.laws.Filled.{marked, missing-set, missing-falls}
 
 -- a class that is absent has no mark
@@ -31,9 +31,6 @@ module _ {bytes : List ℕ} {n runs : ℕ} {classes : List ℕ} where
   pub reaches-on : {a b c : List Bool} → Reaches bytes n runs classes a b → Reaches bytes n runs classes b c → Reaches bytes n runs classes a c
   reaches-on p stays = p
   reaches-on p (grows q i g l) = grows (reaches-on p q) i g l
-
-  pub reaches_same : {a b c : List Bool} → Reaches bytes n runs classes a b → c ≡ b → Reaches bytes n runs classes a c
-  reaches_same p e = rw e p
 
   -- no more marks are missing than before
   reaches-missing : {a b : List Bool} → Reaches bytes n runs classes a b → missing b ≤ missing a
@@ -75,22 +72,12 @@ module _ {bytes : List ℕ} {n runs : ℕ} {classes : List ℕ} {marks : List Bo
       go (yes l) = gains g l f
       go (no m) = let l : absent ≤ class = omega arith in idles l (i l)
 
-  -- a marked pair gives its parts
-  pub pair-idle : kind ≡ 11 → On marks whole → On marks left → On marks right → Gained bytes n runs classes marks kind whole left right 480
-  pair-idle k o l r = idles (omega arith) (record { has_whole = λ h a b c. o; has_first = λ e a c. l; has_second = λ e a b c. r; has_content = λ h. absurd (omega arith) })
-
-  pub pair-right : kind ≡ 11 → On marks whole → On marks left → (On marks right → ⊥) → Gained bytes n runs classes marks kind whole left right right
-  pair-right k o l f =
-      gained (gives_second k o refl) f (λ m. record { has_whole = λ h a b c. o; has_first = λ e a c. l; has_second = λ e a b c. absurd (omega arith); has_content = λ h. absurd (omega arith) })
-
+  -- a marked pair gives its first part
   pub pair_left : kind ≡ 11 → On marks whole → (On marks left → ⊥) → Gained bytes n runs classes marks kind whole left right left
   pair_left k o f =
       gained (gives_first k o refl) f (λ m. record { has_whole = λ h a b c. o; has_first = λ e a c. absurd (omega arith); has_second = λ e a b c. absurd (f b); has_content = λ h. absurd (omega arith) })
 
   -- a marked encryption gives its content, if it opens
-  pub content-idle : (kind ≡ 11 → ⊥) → On marks whole → On marks left → Gained bytes n runs classes marks kind whole left right 480
-  content-idle f o l = idles (omega arith) (record { has_whole = λ h a b c. o; has_first = λ e. absurd (f e); has_second = λ e. absurd (f e); has_content = λ h a c. inl l })
-
   pub content-left : 11 ≤ kind → (kind ≡ 11 → ⊥) → On marks whole → (On marks left → ⊥) → {b : Bool} → Opening bytes n runs classes marks right b → b ≡ true
       → Gained bytes n runs classes marks kind whole left right left
   content-left k f o l p e =
@@ -106,21 +93,7 @@ module _ {bytes : List ℕ} {n runs : ℕ} {classes : List ℕ} {marks : List Bo
   content-either k f o l {b = true} p = content-left k f o l p refl
   content-either k f o l {b = false} p = content-shut f o p refl
 
-  module _ (f : On marks whole → ⊥) where
-    -- one that is not marked gives itself, if its parts are
-    pub whole-gained : 11 ≤ kind → On marks left → On marks right → Gained bytes n runs classes marks kind whole left right whole
-    whole-gained k l r =
-        gained (gives_whole k l r refl) f
-        (λ m. record { has_whole = λ h a b c. absurd (omega arith); has_first = λ e o. absurd (f o); has_second = λ e o. absurd (f o); has_content = λ h o. absurd (f o) })
-
-    pub whole-idle : (On marks left → On marks right → ⊥) → Gained bytes n runs classes marks kind whole left right 480
-    whole-idle g = idles (omega arith) (record { has_whole = λ h a b c. absurd (g a b); has_first = λ e o. absurd (f o); has_second = λ e o. absurd (f o); has_content = λ h o. absurd (f o) })
-
 module _ {bytes : List ℕ} {n runs : ℕ} {classes : List ℕ} {marks : List Bool} (x u : ℕ) where
-  -- a row of another kind gives nothing
-  pub other-idle : {k : ℕ} → k ≡ kind_at bytes x → k < 11 → GainedAt bytes n runs classes marks x u 480
-  other-idle e l = idles (omega arith) (record { has_whole = λ h. absurd (omega arith); has_first = λ h. absurd (omega arith); has_second = λ h. absurd (omega arith); has_content = λ h. absurd (omega arith) })
-
   -- what is gained by the kind and the classes that were read is gained by the row
   pub gained-at : {k whole l left s right class : ℕ} → k ≡ kind_at bytes x → whole ≡ class_at classes x u → l ≡ left_at bytes x → left ≡ class_at classes l u
       → s ≡ right_at bytes x → right ≡ class_at classes s u → Gained bytes n runs classes marks k whole left right class → GainedAt bytes n runs classes marks x u class

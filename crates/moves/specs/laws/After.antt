@@ -12,6 +12,7 @@ use Rattle.semantics.proofs.laws.Moves.{performed-exact}
 use Rattle.rows.specs.Rows.{rows_of}
 use Rattle.cells.specs.Cells.{Readings, cell_value}
 use Rattle.knowledge.specs.Marks.{LearnsCell}
+use Rattle.records.specs.Kinds.{byte_of}
 use Rattle.runs.specs.declared.RunEvent.{RunEvent}
 use Rattle.state.specs.State.{IsState, Arrays}
 use Rattle.state.specs.laws.Moves.{new_readings, sent-known, unsent, advanced-state}
@@ -45,14 +46,14 @@ module _ {t : List ℕ} {n runs k : ℕ} {e : RunEvent} {classes : List ℕ} {ma
 
   module _ (d' : State) (allowed : state_after m ≡ some d') where
     -- the marks stay unless it is a send
-    pub marks-kept : (e.kind ≡ 0 → ⊥) → IsState m.sc d' (code_after m marks)
+    pub marks-kept : (byte_of e.kind ≡ 0 → ⊥) → IsState m.sc d' (code_after m marks)
     marks-kept z =
         let w = (performed-exact m.sc m.d m.a m.vs d').0 allowed in
-        let known = unsent-keeps e.kind m.a.event.kind m.next.is_event.kind z w.1 in
+        let known = unsent-keeps (byte_of e.kind) m.a.event.kind m.next.is_event.kind z w.1 in
         rw (w.2, known) (known-state m.d.known marks m.ready.arrays)
 
     -- after a send its term, its receiver and its sender are known too
-    module _ (kind : e.kind ≡ 0) (term receiver sender : List Bool) (learns_term : LearnsCell (rows_of t) runs classes e.row (k + 1) marks term)
+    module _ (kind : byte_of e.kind ≡ 0) (term receiver sender : List Bool) (learns_term : LearnsCell (rows_of t) runs classes e.row (k + 1) marks term)
         (learns_receiver : LearnsCell (rows_of t) runs classes e.peer 0 term receiver) (learns_sender : LearnsCell (rows_of t) runs classes e.own 0 receiver sender) where
       is-send : m.a.event.kind ≡ send
       is-send = kind-send _ (rw kind at m.next.is_event.kind)

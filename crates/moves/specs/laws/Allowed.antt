@@ -11,9 +11,10 @@ use Rattle.cells.specs.Cells.{cell_of, cell_count, absent}
 use Rattle.cells.specs.laws.Cells.{get_d_any}
 use Rattle.classes.specs.laws.Classes.{classes-none, classes-there}
 use Rattle.knowledge.specs.Marks.{Marked}
+use Rattle.records.specs.Kinds.{byte_of}
 use Rattle.runs.specs.declared.RunEvent.{RunEvent}
 use Rattle.state.specs.laws.Moves.{sent-known, unsent, claimed, read-allowed, read-refused}
-use Rattle.state.specs.laws.Ready.{kind-send, kind-read, kind-claim, other-kind, own-within, peer-within, row-within}
+use Rattle.state.specs.laws.Ready.{kind-send, kind-read, kind-claim, own-within, peer-within, row-within}
 use Rattle.moves.specs.Moves.{AtEvent, state_after}
 
 -- what an answer says of the state after the move
@@ -31,8 +32,8 @@ module _ {t : List ℕ} {n runs k : ℕ} {e : RunEvent} {classes : List ℕ} {ma
   is-allowed h = sym (ap present h)
 
   -- a claim always is
-  pub claim-told : (e.kind ≡ 1 → ⊥) → (e.kind ≡ 0 → ⊥) → true ≡ present (state_after m)
-  claim-told r z = is-allowed (claimed m.sc m.next.good m.d (suc k) m.a m.next.is_active m.vs (kind-claim _ (rw (other-kind m.next r z) at m.next.is_event.kind)))
+  pub claim-told : byte_of e.kind ≡ 2 → true ≡ present (state_after m)
+  claim-told kind = is-allowed (claimed m.sc m.next.good m.d (suc k) m.a m.next.is_active m.vs (kind-claim _ (rw kind at m.next.is_event.kind)))
 
   -- where the cell of its term stands
   module _ {c : ℕ} (place : c ≡ cell_of e.row (k + 1)) where
@@ -40,7 +41,7 @@ module _ {t : List ℕ} {n runs k : ℕ} {e : RunEvent} {classes : List ℕ} {ma
     at-cell = omega arith
 
     -- a send is allowed exactly if its term has a class
-    module _ (inside : c < cell_count) (kind : e.kind ≡ 0) where
+    module _ (inside : c < cell_count) (kind : byte_of e.kind ≡ 0) where
       is-send : m.a.event.kind ≡ send
       is-send = kind-send _ (rw kind at m.next.is_event.kind)
 
@@ -59,7 +60,7 @@ module _ {t : List ℕ} {n runs k : ℕ} {e : RunEvent} {classes : List ℕ} {ma
               is-allowed (sent-known m.sc m.next.good m.d (suc k) m.a m.next.is_active m.vs m.next.is_event is-send v.1).2
 
   -- a read is allowed exactly if three cells are marked: by the marks that are looked at
-  module _ (kind : e.kind ≡ 1) where
+  module _ (kind : byte_of e.kind ≡ 1) where
     is-read : m.a.event.kind ≡ read
     is-read = kind-read _ (rw kind at m.next.is_event.kind)
 

@@ -8,12 +8,12 @@ use Rattle.open_marks.proofs.inverse_known.Goals as goal
 pub returns-in_default : goal.returns-in_default
 returns-in_default c =
     let own = c.in_default.ensures in (
-      itself-known c.args.t.now.bytes.now c.args.t.now.rows (shape-sized c.args.t.now.shape) c.args.marks.now c.args.k (λ e. own.0 (c.kind_of.ensures.0 ∙ e)) (λ e. own.1 (c.kind_of.ensures.0 ∙ e)) refl,
-      opens-itself c.args.t.now.bytes.now c.args.t.now.rows (shape-sized c.args.t.now.shape) c.args.marks.now c.args.k (λ e. own.0 (c.kind_of.ensures.0 ∙ e)) (λ e. own.1 (c.kind_of.ensures.0 ∙ e)) refl,
+      itself-known c.args.t.now.bytes.now c.args.t.now.rows (shape-sized c.args.t.now.shape) c.args.marks.now c.args.k (λ e. own.0 (c.kind_of.ensures ∙ e)) (λ e. own.1 (c.kind_of.ensures ∙ e)) refl,
+      opens-itself c.args.t.now.bytes.now c.args.t.now.rows (shape-sized c.args.t.now.shape) c.args.marks.now c.args.k (λ e. own.0 (c.kind_of.ensures ∙ e)) (λ e. own.1 (c.kind_of.ensures ∙ e)) refl,
     )
 
 pub returns : goal.returns
 returns c = (
-  other-known c.args.t.now.bytes.now c.args.t.now.rows (shape-sized c.args.t.now.shape) c.args.k c.in-Some.ensures (sym c.kind_of.ensures.0) c.left_of.ensures.0 c.row_marked.ensures,
-  opens-other c.args.t.now.bytes.now c.args.t.now.rows (shape-sized c.args.t.now.shape) c.args.k c.in-Some.ensures (sym c.kind_of.ensures.0) c.left_of.ensures.0 c.row_marked.ensures,
+  other-known c.args.t.now.bytes.now c.args.t.now.rows (shape-sized c.args.t.now.shape) c.args.k c.in-Some.ensures (sym c.kind_of.ensures) c.left_of.ensures.0 c.row_marked.ensures,
+  opens-other c.args.t.now.bytes.now c.args.t.now.rows (shape-sized c.args.t.now.shape) c.args.k c.in-Some.ensures (sym c.kind_of.ensures) c.left_of.ensures.0 c.row_marked.ensures,
 )

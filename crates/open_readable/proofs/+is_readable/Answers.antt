@@ -1,9 +1,10 @@
 -- `is_readable` tells whether a row's term is readable. The measure is the row, since its parts are lower rows. Assumes nothing.
 use Prim.Native.Nat.{ℕ, ◌<◌}
-use native.Mathlib.Omega.{arith}
+use Rattle.std.proofs.Common.{arith, rules, tests}
 use mathlib.Core.Path.{◌≡◌, refl, sym, ◌∙◌}
 use mathlib.Core.Bool.{Bool, true, false}
 use mathlib.Core.List.{List}
+use Rattle.rows.specs.Kinds.{number_of}
 use Rattle.rows.specs.laws.Shape.{shape-sized}
 use Rattle.std.specs.Prelude.{Option, Some, IfSome}
 use Rattle.std.specs.Bool.{then_some}
@@ -20,11 +21,13 @@ use Rattle.open_readable.proofs.+is_readable.Goals as goal
 
 -- the row is a pair
 is-pair : (t : ℕ) (c : After-right_of-s t) → kind_at c.args.t.now.bytes.now c.args.x ≡ 11
-is-pair t c = sym c.kind_of-kind.ensures.0 ∙ c.if-kind-eq-PAIR.true
+is-pair t c = rw (← c.kind_of-kind.ensures) (search (rules, tests))
 
 -- what stands at the places of the pair's parts are lower rows
 low-pair : (t : ℕ) (c : After-is_kept t) → (left_at c.args.t.now.bytes.now c.args.x < c.args.x) × (right_at c.args.t.now.bytes.now c.args.x < c.args.x)
-low-pair t c = parts-lower c.args.t.now.bytes.now c.args.t.now.rows (shape-sized c.args.t.now.shape) c.args.x c.requires.1.1.1 c.kind_of-kind.ensures.0 (omega (arith, c.if-kind-eq-PAIR.true))
+low-pair t c =
+    let e : number_of c.kind_of-kind.result ≡ 11 = search (rules, tests) in
+    parts-lower c.args.t.now.bytes.now c.args.t.now.rows (shape-sized c.args.t.now.shape) c.args.x c.requires.1.1.1 c.kind_of-kind.ensures (omega (arith, e))
 
 -- the parts of the pair are lower rows
 low-parts : (t : ℕ) (c : After-right_of-s t) → (c.left_of-l.result < c.args.x) × (c.right_of-s.result < c.args.x)
@@ -34,11 +37,13 @@ low-parts t c =
 
 -- the row is an encryption
 is-encrypted : (t : ℕ) (c : After-right_of t) → kind_at c.args.t.now.bytes.now c.args.x ≡ 12
-is-encrypted t c = sym c.kind_of-kind.ensures.0 ∙ c.if-kind-eq-ENCRYPTED.true
+is-encrypted t c = rw (← c.kind_of-kind.ensures) (search (rules, tests))
 
 -- the content and the key of the encryption are lower rows
 low-content : (t : ℕ) (c : After-right_of t) → (left_at c.args.t.now.bytes.now c.args.x < c.args.x) × (right_at c.args.t.now.bytes.now c.args.x < c.args.x)
-low-content t c = parts-lower c.args.t.now.bytes.now c.args.t.now.rows (shape-sized c.args.t.now.shape) c.args.x c.requires.1.1.1 c.kind_of-kind.ensures.0 (omega (arith, c.if-kind-eq-ENCRYPTED.true))
+low-content t c =
+    let e : number_of c.kind_of-kind.result ≡ 12 = search (rules, tests) in
+    parts-lower c.args.t.now.bytes.now c.args.t.now.rows (shape-sized c.args.t.now.shape) c.args.x c.requires.1.1.1 c.kind_of-kind.ensures (omega (arith, e))
 
 -- a row that was tried is one of the 96, and the row of which it was found is sure
 tried-fits : (found : Bool) {c : ℕ} {row : Option ℕ} → row ≡ then_some found c → c < 96 → IfSome row (λ x. x < 96)
@@ -77,9 +82,9 @@ returns-then-marks-x t c =
     ] in
     (answer-yes c.args.t.now.bytes.now c.args.t.now.rows (shape-sized c.args.t.now.shape) c.args.marks c.args.x c.args.quick sure, c.requires.1.1.0)
 
-pub returns-then-kind-eq-VARIABLE : goal.returns-then-kind-eq-VARIABLE
-returns-then-kind-eq-VARIABLE t c =
-    (answer-yes c.args.t.now.bytes.now c.args.t.now.rows (shape-sized c.args.t.now.shape) c.args.marks c.args.x c.args.quick (sure-variable c.args.t.now.bytes.now c.args.t.now.rows (shape-sized c.args.t.now.shape) c.args.marks c.args.x (sym c.kind_of-kind.ensures.0 ∙ c.if-kind-eq-VARIABLE.true)), c.requires.1.1.0)
+pub returns-then-eq : goal.returns-then-eq
+returns-then-eq t c =
+    (answer-yes c.args.t.now.bytes.now c.args.t.now.rows (shape-sized c.args.t.now.shape) c.args.marks c.args.x c.args.quick (sure-variable c.args.t.now.bytes.now c.args.t.now.rows (shape-sized c.args.t.now.shape) c.args.marks c.args.x (rw (← c.kind_of-kind.ensures) (search (rules, tests)))), c.requires.1.1.0)
 
 pub returns-then-is_kept : goal.returns-then-is_kept
 returns-then-is_kept t c =
@@ -126,12 +131,12 @@ is_readable-found_too-requires t c =
 pub added-most-requires : goal.added-most-requires
 added-most-requires t c =
     let low = low-parts t (goal.at.added-most-requires t c).After-right_of-s in
-    tried-fits c.is_readable-found_too.result c.then_some-then-kind-eq-PAIR.ensures (omega (arith, c.content_of-d.ensures, low.1, c.requires.1.1.1, c.args.t.now.shape.few))
+    tried-fits c.is_readable-found_too.result c.then_some-then-eq-2.ensures (omega (arith, c.content_of-d.ensures, low.1, c.requires.1.1.1, c.args.t.now.shape.few))
 
 pub is_readable-requires : goal.is_readable-requires
 is_readable-requires t c =
     let low = low-parts t (goal.at.is_readable-requires t c).After-right_of-s in
-    let parts = sure-parts c.args.t.now.bytes.now (shape-sized c.args.t.now.shape) c.learned-with_second.ensures.1 c.learned-with_first.ensures.1 c.shared-both.ensures c.args.sure c.requires.1.0 c.added-more.result c.content_of-c.result c.then_some.ensures c.added-more.ensures c.is_readable-found.ensures.0.yes c.added-most.result c.content_of-d.result c.then_some-then-kind-eq-PAIR.ensures c.added-most.ensures c.is_readable-found_too.ensures.0.yes in
+    let parts = sure-parts c.args.t.now.bytes.now (shape-sized c.args.t.now.shape) c.learned-with_second.ensures.1 c.learned-with_first.ensures.1 c.shared-both.ensures c.args.sure c.requires.1.0 c.added-more.result c.content_of-c.result c.then_some.ensures c.added-more.ensures c.is_readable-found.ensures.0.yes c.added-most.result c.content_of-d.result c.then_some-then-eq-2.ensures c.added-most.ensures c.is_readable-found_too.ensures.0.yes in
     (omega (arith, low.0), (c.requires.0, (parts.0, (c.is_readable-found_too.ensures.1, omega (arith, low.0, c.requires.1.1.1)))))
 
 pub returns-then-not-is_readable : goal.returns-then-not-is_readable
@@ -141,24 +146,24 @@ returns-then-not-is_readable t c =
       c.is_readable.ensures.1,
     )
 
-pub is_readable-requires-then-kind-eq-PAIR : goal.is_readable-requires-then-kind-eq-PAIR
-is_readable-requires-then-kind-eq-PAIR t c =
-    let low = low-parts t (goal.at.is_readable-requires-then-kind-eq-PAIR t c).After-right_of-s in
-    let parts = sure-parts c.args.t.now.bytes.now (shape-sized c.args.t.now.shape) c.learned-with_second.ensures.1 c.learned-with_first.ensures.1 c.shared-both.ensures c.args.sure c.requires.1.0 c.added-more.result c.content_of-c.result c.then_some.ensures c.added-more.ensures c.is_readable-found.ensures.0.yes c.added-most.result c.content_of-d.result c.then_some-then-kind-eq-PAIR.ensures c.added-most.ensures c.is_readable-found_too.ensures.0.yes in
+pub is_readable-requires-then-eq-2 : goal.is_readable-requires-then-eq-2
+is_readable-requires-then-eq-2 t c =
+    let low = low-parts t (goal.at.is_readable-requires-then-eq-2 t c).After-right_of-s in
+    let parts = sure-parts c.args.t.now.bytes.now (shape-sized c.args.t.now.shape) c.learned-with_second.ensures.1 c.learned-with_first.ensures.1 c.shared-both.ensures c.args.sure c.requires.1.0 c.added-more.result c.content_of-c.result c.then_some.ensures c.added-more.ensures c.is_readable-found.ensures.0.yes c.added-most.result c.content_of-d.result c.then_some-then-eq-2.ensures c.added-most.ensures c.is_readable-found_too.ensures.0.yes in
     (omega (arith, low.1), (c.requires.0, (parts.1, (c.is_readable.ensures.1, omega (arith, low.1, c.requires.1.1.1)))))
 
 pub returns-then-not-is_readable-2 : goal.returns-then-not-is_readable-2
 returns-then-not-is_readable-2 t c =
     let pairs = is-pair t (goal.at.returns-then-not-is_readable-2 t c).After-right_of-s in (
-      answer-no c.args.t.now.bytes.now c.args.t.now.rows (shape-sized c.args.t.now.shape) c.args.marks c.args.x c.args.quick (λ q. readable-second c.args.t.now.bytes.now c.args.t.now.rows (shape-sized c.args.t.now.shape) c.args.marks c.args.x c.left_of-l.ensures.0 c.right_of-s.ensures.0 pairs c.learned-with_second.result c.learned-with_second.ensures.0 (sure-readable c.args.t.now.bytes.now c.args.t.now.rows (shape-sized c.args.t.now.shape) c.learned-with_second.result c.left_of-l.result (c.is_readable.ensures.0.yes c.if-not-is_readable.false)) refl c.learned-with_first.result c.learned-with_first.ensures.0 (c.is_readable-then-kind-eq-PAIR.ensures.0.no q c.if-not-is_readable-2.true)),
-      c.is_readable-then-kind-eq-PAIR.ensures.1,
+      answer-no c.args.t.now.bytes.now c.args.t.now.rows (shape-sized c.args.t.now.shape) c.args.marks c.args.x c.args.quick (λ q. readable-second c.args.t.now.bytes.now c.args.t.now.rows (shape-sized c.args.t.now.shape) c.args.marks c.args.x c.left_of-l.ensures.0 c.right_of-s.ensures.0 pairs c.learned-with_second.result c.learned-with_second.ensures.0 (sure-readable c.args.t.now.bytes.now c.args.t.now.rows (shape-sized c.args.t.now.shape) c.learned-with_second.result c.left_of-l.result (c.is_readable.ensures.0.yes c.if-not-is_readable.false)) refl c.learned-with_first.result c.learned-with_first.ensures.0 (c.is_readable-then-eq-2.ensures.0.no q c.if-not-is_readable-2.true)),
+      c.is_readable-then-eq-2.ensures.1,
     )
 
-pub returns-then-kind-eq-PAIR : goal.returns-then-kind-eq-PAIR
-returns-then-kind-eq-PAIR t c =
-    let pairs = is-pair t (goal.at.returns-then-kind-eq-PAIR t c).After-right_of-s in
-    let sure : Sure (rows_of c.args.t.now.bytes.now) c.args.marks c.args.x = sure-pair c.args.t.now.bytes.now c.args.t.now.rows (shape-sized c.args.t.now.shape) c.args.marks c.args.x c.left_of-l.ensures.0 c.right_of-s.ensures.0 pairs c.learned-with_second.ensures.1 (c.is_readable.ensures.0.yes c.if-not-is_readable.false) c.learned-with_first.ensures.1 (c.is_readable-then-kind-eq-PAIR.ensures.0.yes c.if-not-is_readable-2.false) in
-    (answer-yes c.args.t.now.bytes.now c.args.t.now.rows (shape-sized c.args.t.now.shape) c.args.marks c.args.x c.args.quick sure, notes-kept c.args.t.now.bytes.now c.args.t.now.rows (shape-sized c.args.t.now.shape) _ c.is_readable-then-kind-eq-PAIR.ensures.1 c.args.marks c.args.x _ sure c.keep.ensures)
+pub returns-then-eq-2 : goal.returns-then-eq-2
+returns-then-eq-2 t c =
+    let pairs = is-pair t (goal.at.returns-then-eq-2 t c).After-right_of-s in
+    let sure : Sure (rows_of c.args.t.now.bytes.now) c.args.marks c.args.x = sure-pair c.args.t.now.bytes.now c.args.t.now.rows (shape-sized c.args.t.now.shape) c.args.marks c.args.x c.left_of-l.ensures.0 c.right_of-s.ensures.0 pairs c.learned-with_second.ensures.1 (c.is_readable.ensures.0.yes c.if-not-is_readable.false) c.learned-with_first.ensures.1 (c.is_readable-then-eq-2.ensures.0.yes c.if-not-is_readable-2.false) in
+    (answer-yes c.args.t.now.bytes.now c.args.t.now.rows (shape-sized c.args.t.now.shape) c.args.marks c.args.x c.args.quick sure, notes-kept c.args.t.now.bytes.now c.args.t.now.rows (shape-sized c.args.t.now.shape) _ c.is_readable-then-eq-2.ensures.1 c.args.marks c.args.x _ sure c.keep.ensures)
 
 pub inverse_known-requires : goal.inverse_known-requires
 inverse_known-requires t c =
@@ -181,13 +186,13 @@ returns-then-inverse_known t c =
       r.1,
     )
 
-pub returns-then-kind-eq-ENCRYPTED : goal.returns-then-kind-eq-ENCRYPTED
-returns-then-kind-eq-ENCRYPTED t c =
-    let encrypts = is-encrypted t (goal.at.returns-then-kind-eq-ENCRYPTED t c).After-right_of in (
+pub returns-then-eq-3 : goal.returns-then-eq-3
+returns-then-eq-3 t c =
+    let encrypts = is-encrypted t (goal.at.returns-then-eq-3 t c).After-right_of in (
       answer-no c.args.t.now.bytes.now c.args.t.now.rows (shape-sized c.args.t.now.shape) c.args.marks c.args.x c.args.quick (λ q. unreadable-closed c.args.t.now.bytes.now c.args.t.now.rows (shape-sized c.args.t.now.shape) c.args.marks c.args.x refl c.right_of.ensures.0 encrypts c.if-marks-x.false c.inverse_known.ensures.0 c.if-inverse_known.false),
       c.requires.1.1.0,
     )
 
 pub returns : goal.returns
 returns t c =
-    (answer-no c.args.t.now.bytes.now c.args.t.now.rows (shape-sized c.args.t.now.shape) c.args.marks c.args.x c.args.quick (λ q. unreadable c.args.t.now.bytes.now c.args.t.now.rows (shape-sized c.args.t.now.shape) c.args.marks c.args.x c.if-marks-x.false (λ e. c.if-kind-eq-VARIABLE.false (c.kind_of-kind.ensures.0 ∙ e)) (λ e. c.if-kind-eq-PAIR.false (c.kind_of-kind.ensures.0 ∙ e)) (λ e. c.if-kind-eq-ENCRYPTED.false (c.kind_of-kind.ensures.0 ∙ e))), c.requires.1.1.0)
+    (answer-no c.args.t.now.bytes.now c.args.t.now.rows (shape-sized c.args.t.now.shape) c.args.marks c.args.x c.args.quick (λ q. unreadable c.args.t.now.bytes.now c.args.t.now.rows (shape-sized c.args.t.now.shape) c.args.marks c.args.x c.if-marks-x.false (rw (← c.kind_of-kind.ensures) (search (rules, tests))) (rw (← c.kind_of-kind.ensures) (search (rules, tests))) (rw (← c.kind_of-kind.ensures) (search (rules, tests)))), c.requires.1.1.0)

@@ -4,13 +4,12 @@ use Prim.Native.Nat.{ℕ, ◌-◌}
 use native.Mathlib.Omega.{arith}
 use mathlib.Core.List.{List}
 use lib.ListN.{length, take, drop}
-use Rattle.rows.specs.laws.Shape.{shape-sized}
 use Rattle.semantics.specs.Table.{Row}
 use Rattle.rows.specs.Rows.{rows_of}
 use Rattle.rows.specs.Rows.{Place}
 use Rattle.records.specs.laws.Records.{rest-whole}
 use Rattle.open_wellformed.specs.WellFormed.{IllRole}
-use Rattle.open_wellformed.specs.laws.IllFormed.{block_start, block_none, block-good, event-near, block-ill, block_more}
+use Rattle.open_wellformed.specs.laws.IllFormed.{block_start, block_none, block-good, block-ill, block_more}
 use Rattle.open_wellformed.proofs.ill_formed.Goals as goal
 
 -- the first event of the bytes from a place on, as the code takes them

@@ -5,7 +5,9 @@ use mathlib.Core.List.{List}
 use mathlib.Core.Path.{◌≡◌}
 use lib.ListN.{length, get_or}
 use Rattle.rows.specs.laws.Shape.{shape-sized}
-use Rattle.semantics.specs.Roles.{knowledge_count}
+use Rattle.semantics.specs.Roles.{knowledge_count, event_kinds}
+use Rattle.semantics.specs.Table.{Row}
+use Rattle.semantics.proofs.laws.List.{get_elem-below}
 use Rattle.rows.specs.Rows.{rows_of, Shape}
 use Rattle.open_wellformed.specs.WellFormed.{IsEvent}
 use Rattle.open_wellformed.specs.laws.IllFormed.{listed-rows, count_of, events-are, role_start, role-none, role-ill, role-more}
@@ -31,6 +33,15 @@ is-event c =
 row-below : {bytes : List ℕ} {n : ℕ} (s : List ℕ) (at : ℕ) {x : ℕ} → Shape bytes n 0 → IsEvent (rows_of bytes) s at → x ≡ get_or s (at + 3) 0 → x < n
 row-below s at shape is e = omega (arith, is.2, e, shape.count)
 
+-- its kind is one of three
+low-kind : (rows : List Row) (s : List ℕ) (at : ℕ) → IsEvent rows s at → get_or s at 0 ≤ 2
+low-kind rows s at is = let low : get_or s at 0 < 3 = get_elem-below event_kinds (get_or s at 0) is.1 in omega (arith, low)
+
+pub kind_at-event-requires : goal.kind_at-event-requires
+kind_at-event-requires c =
+    let t = (goal.at.kind_at-event-requires c).In-loop-j in
+    (omega (arith, whole (goal.at.kind_at-event-requires c).After-from-events, c.loop-j-test.true), low-kind (rows_of c.args.t.now.bytes.now) c.args.s.now (2 + c.from-count.result + 4 * c.loop-j.j) (is-event t))
+
 pub marks_of-marks-requires : goal.marks_of-marks-requires
 marks_of-marks-requires c =
     (c.requires.0, rw (listed-rows c.args.s.now c.from-count.result c.from-count.ensures) (λ r m. omega (arith, c.requires.1.knows r m, c.args.t.now.shape.count)))
@@ -46,7 +57,7 @@ is_well_formed-requires c = (c.requires.0, row-below c.args.s.now (2 + c.from-co
 pub returns-then-not-is_well_formed : goal.returns-then-not-is_well_formed
 returns-then-not-is_well_formed c =
     role-ill c.args.t.now.bytes.now c.args.t.now.rows (shape-sized c.args.t.now.shape) c.args.own c.args.s.now (2 + c.from-count.result) c.from-events.result (whole (goal.at.returns-then-not-is_well_formed c).After-from-events)
-    c.loop-j.j c.loop-j.marks c.loop-j.invariant c.loop-j-test.true c.from-event.ensures c.from-peer.ensures c.from-x.ensures
+    c.loop-j.j c.loop-j.marks c.loop-j.invariant c.loop-j-test.true c.kind_at-event.ensures c.from-peer.ensures c.from-x.ensures
     (is-event (goal.at.returns-then-not-is_well_formed c).In-loop-j) c.is_well_formed.ensures (c.if-not-is_well_formed.true) (omega arith)
 
 pub event_learned-more-requires : goal.event_learned-more-requires
@@ -55,7 +66,7 @@ event_learned-more-requires c = (c.requires.0, row-below c.args.s.now (2 + c.fro
 pub loop-j-preserved : goal.loop-j-preserved
 loop-j-preserved c =
     role-more c.args.t.now.bytes.now c.args.t.now.rows (shape-sized c.args.t.now.shape) c.args.own c.args.s.now (2 + c.from-count.result) c.from-events.result (whole (goal.at.loop-j-preserved c).After-from-events)
-    c.loop-j.j c.loop-j.marks c.loop-j.invariant c.loop-j-test.true c.from-event.ensures c.from-peer.ensures c.from-x.ensures
+    c.loop-j.j c.loop-j.marks c.loop-j.invariant c.loop-j-test.true c.kind_at-event.ensures c.from-peer.ensures c.from-x.ensures
     (is-event (goal.at.loop-j-preserved c).In-loop-j) c.is_well_formed.ensures (c.if-not-is_well_formed.false) c.event_learned-more.result c.event_learned-more.ensures
 
 pub returns : goal.returns

@@ -1,34 +1,40 @@
 -- `is_well_formed` tells whether an event is well formed. Assumes nothing.
-use mathlib.Core.Path.{refl}
+use denote.Enum.Bare.{differs_true, differs_false}
+use borrow.Author.Rules.{rules}
+use mathlib.Core.Path.{refl, sym, ap, ◌∙◌}
 use mathlib.Core.Logic.{inl}
+use Rattle.records.specs.declared.EventKind.TheVariants.{Read, Claim}
+use Rattle.records.specs.contracts.EventKind.{the_type}
+use Rattle.records.specs.Kinds.{byte_of}
+use Rattle.records.specs.laws.Kinds.{events-differ, event-is, event-other}
 use Rattle.rows.specs.laws.Shape.{shape-sized}
 use Rattle.rows.specs.Rows.{rows_of}
 use Rattle.open_wellformed.specs.laws.WellFormed.{own-unknown, peer-unknown, peer-found, was_read, was-other}
 use Rattle.open_marks.specs.laws.Sure.{sure-none, answer-reads}
 use Rattle.open_marks.specs.laws.Kept.{notes-none}
 use Rattle.open_wellformed.proofs.is_well_formed.Goals as goal
-use Rattle.open_wellformed.proofs.is_well_formed.Goals.{else-kind-ne-CLAIM-via-then-kind-ne-CLAIM+else-not-name_known-2 as peer-known, else-kind-ne-CLAIM-via-else-kind-ne-CLAIM as no-peer}
+use Rattle.open_wellformed.proofs.is_well_formed.Goals.{else-ne-via-then-ne+else-not-name_known-2 as peer-known, else-ne-via-else-ne as no-peer}
 
 pub returns-then-not-name_known : goal.returns-then-not-name_known
 returns-then-not-name_known c =
-    own-unknown c.args.t.now.bytes.now c.args.t.now.rows (shape-sized c.args.t.now.shape) c.args.marks c.args.own c.args.kind c.args.peer c.args.x c.name_known.ensures (c.if-not-name_known.true)
+    own-unknown c.args.t.now.bytes.now c.args.t.now.rows (shape-sized c.args.t.now.shape) c.args.marks c.args.own (byte_of c.args.kind) c.args.peer c.args.x c.name_known.ensures (c.if-not-name_known.true)
 
 pub returns-then-not-name_known-2 : goal.returns-then-not-name_known-2
 returns-then-not-name_known-2 c =
-    peer-unknown c.args.t.now.bytes.now c.args.t.now.rows (shape-sized c.args.t.now.shape) c.args.marks c.args.own c.args.kind c.args.peer c.args.x c.name_known.ensures (c.if-not-name_known.false) c.if-kind-ne-CLAIM.true c.name_known-then-kind-ne-CLAIM.ensures (c.if-not-name_known-2.true)
+    peer-unknown c.args.t.now.bytes.now c.args.t.now.rows (shape-sized c.args.t.now.shape) c.args.marks c.args.own (byte_of c.args.kind) c.args.peer c.args.x c.name_known.ensures (c.if-not-name_known.false) (events-differ (differs_true the_type c.args.kind Claim (sym c.ne.ensures ∙ c.if-ne.true))) c.name_known-then-ne.ensures (c.if-not-name_known-2.true)
 
 pub is_readable-requires : goal.is_readable-requires
 is_readable-requires c =
     (c.requires.0, (sure-none (rows_of c.args.t.now.bytes.now) c.args.marks 480, (notes-none (rows_of c.args.t.now.bytes.now) c.new-notes.result c.new-notes.ensures, c.requires.1)))
 
-pub returns-then-kind-eq-READ : goal.returns-then-kind-eq-READ
-returns-then-kind-eq-READ c =
-    was_read c.args.t.now.bytes.now c.args.t.now.rows (shape-sized c.args.t.now.shape) c.args.marks c.args.own c.args.kind c.args.peer c.args.x c.name_known.ensures (c.if-not-name_known.false)
-    (elim c.else-kind-ne-CLAIM.branch [ peer-known w ↦ peer-found (rows_of c.args.t.now.bytes.now) c.args.marks c.args.kind c.args.peer w.name_known-then-kind-ne-CLAIM.ensures w.if-not-name_known-2.false | no-peer w ↦ inl w.if-kind-ne-CLAIM.false ])
-    c.if-kind-eq-READ.true (answer-reads c.args.t.now.bytes.now c.args.t.now.rows (shape-sized c.args.t.now.shape) c.args.marks c.args.x c.is_readable.result c.is_readable.ensures.0)
+pub returns-then-eq : goal.returns-then-eq
+returns-then-eq c =
+    was_read c.args.t.now.bytes.now c.args.t.now.rows (shape-sized c.args.t.now.shape) c.args.marks c.args.own (byte_of c.args.kind) c.args.peer c.args.x c.name_known.ensures (c.if-not-name_known.false)
+    (elim c.else-ne.branch [ peer-known w ↦ peer-found (rows_of c.args.t.now.bytes.now) c.args.marks (byte_of c.args.kind) c.args.peer w.name_known-then-ne.ensures w.if-not-name_known-2.false | no-peer w ↦ inl (ap byte_of (differs_false the_type (search rules) c.args.kind Claim (sym c.ne.ensures ∙ w.if-ne.false))) ])
+    (event-is c.args.kind Read c.eq.ensures c.if-eq.true) (answer-reads c.args.t.now.bytes.now c.args.t.now.rows (shape-sized c.args.t.now.shape) c.args.marks c.args.x c.is_readable.result c.is_readable.ensures.0)
 
 pub returns : goal.returns
 returns c =
-    was-other c.args.t.now.bytes.now c.args.t.now.rows (shape-sized c.args.t.now.shape) c.args.marks c.args.own c.args.kind c.args.peer c.args.x c.name_known.ensures (c.if-not-name_known.false)
-    (elim c.else-kind-ne-CLAIM.branch [ peer-known w ↦ peer-found (rows_of c.args.t.now.bytes.now) c.args.marks c.args.kind c.args.peer w.name_known-then-kind-ne-CLAIM.ensures w.if-not-name_known-2.false | no-peer w ↦ inl w.if-kind-ne-CLAIM.false ])
-    c.if-kind-eq-READ.false refl
+    was-other c.args.t.now.bytes.now c.args.t.now.rows (shape-sized c.args.t.now.shape) c.args.marks c.args.own (byte_of c.args.kind) c.args.peer c.args.x c.name_known.ensures (c.if-not-name_known.false)
+    (elim c.else-ne.branch [ peer-known w ↦ peer-found (rows_of c.args.t.now.bytes.now) c.args.marks (byte_of c.args.kind) c.args.peer w.name_known-then-ne.ensures w.if-not-name_known-2.false | no-peer w ↦ inl (ap byte_of (differs_false the_type (search rules) c.args.kind Claim (sym c.ne.ensures ∙ w.if-ne.false))) ])
+    (event-other c.args.kind Read c.eq.ensures c.if-eq.false) refl

@@ -35,19 +35,10 @@ read-adds is_send k known t = absurd (omega arith)
 read-adds is_read k known t = refl
 read-adds is_claim k known t = absurd (omega arith)
 
-other-adds : {kind : ℕ} {e : EventKind} → EventIs kind e → (kind ≡ 1 → ⊥) → (known : List Term) (t : Term) → learned known e t ≡ known
-other-adds is_send k known t = refl
-other-adds is_read k known t = absurd (k refl)
-other-adds is_claim k known t = refl
-
 module _ (rows : List Row) (kind x : ℕ) (marks : List Bool) where
   -- so the marks after a read are those with its term known
   pub read-learns : kind ≡ 1 → (more : List Bool) → Learns rows x marks more → EventLearns rows kind x marks more
   read-learns c more learns known e t celled exact k h = rw (read-adds (event-is kind e k) c known t) (learns known t celled exact h)
-
-  -- and after another event they stay
-  pub other-learns : (kind ≡ 1 → ⊥) → EventLearns rows kind x marks marks
-  other-learns c known e t celled exact k h = rw (other-adds (event-is kind e k) c known t) (celled, exact)
 
 -- each term of listed rows is that of a row
 listed-celled : (rows : List Row) (list : List ℕ) → RoleCelled rows (listed_terms rows list)
@@ -208,10 +199,6 @@ module _ (rows : List Row) (i start : ℕ) (s : List ℕ) where
   roles-cons : (parts : List Part) → ill_formed rows i (roles_from (record_at role_length start s ∷ parts)) ≡ first_of (ill_role rows i s start ∷ ill_formed rows (i + 1) (roles_from parts) ∷ [])
   unfolding ill_formed roles_from
   roles-cons parts = rw (add-one i) (rw record-ill)
-
--- the offset of an event that was found
-pub event-near : {rows : List Row} {own : ℕ} {s : List ℕ} {p : Place} → IllRole rows own s p → {event : ℕ} → p ≡ Some event → event ≤ 1277
-event-near found e = rw e at found.near
 
 module _ (rows : List Row) (base : ℕ) (b : List ℕ) where
   -- the first event of the block that is not well formed

@@ -1,10 +1,6 @@
 -- `read_completions::completes` meets its contract: the domains of all values that the variables may take miss no completion. Assumes nothing.
-use Rattle.read_completions.specs.laws.Search.{marked-domains-start, completes-tested}
+use Rattle.read_completions.specs.laws.Search.{completes-tested}
 use Rattle.read_completions.proofs.completes.Goals as goal
-
-pub completable-requires : goal.completable-requires
-completable-requires c =
-    marked-domains-start _ c.of_variables-marked.result c.of_variables-marked.ensures
 
 pub returns : goal.returns
 returns c =

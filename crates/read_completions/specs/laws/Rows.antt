@@ -1,5 +1,5 @@
 -- The classes that variables get where a row is derivable: by its value, by marked cells, and by its parts. Assumes nothing.
-use Rattle.std.specs.Prelude.{ℕ, ◌+◌, ◌%◌, ◌<◌, ◌≤◌, ◌≡◌, refl, Bool, true, false, List, [], Option, None, Some, length, get_or, set, replicate}
+use Rattle.std.specs.Prelude.{ℕ, ◌+◌, ◌<◌, ◌≤◌, ◌≡◌, refl, Bool, true, false, List, [], Option, None, Some, get_or, set, replicate}
 use Rattle.std.specs.Prelude as lists
 use Rattle.std.proofs.Math.Decide.{ℕ_discrete}
 use Rattle.std.proofs.Common.{arith, sym, ◌∙◌, subst, length-set}
@@ -10,7 +10,6 @@ use Rattle.cells.specs.Cells.{cell_of, cell_count, absent, second_of}
 use Rattle.cells.specs.laws.Cells.{left-lower, second-lower}
 use Rattle.classes.specs.laws.Kinds.{first_part, second_part, value_made}
 use Rattle.classes.specs.laws.Values.{cell-kept}
-use Rattle.knowledge.specs.Marks.{Marked}
 use Rattle.knowledge.specs.Steps.{class_at, kind_at, left_at}
 use Rattle.knowledge.specs.laws.Values.{has_value, has-class, inside}
 use Rattle.read_fits.specs.Fits.{Gets, Needed, NeedsMet}
@@ -49,12 +48,6 @@ module _ (pattern : Pattern)
 
   pub takes-class : {q : ℕ} (takes : TakesCell k.extension q) {c : ℕ} → Gets k.extension q c → c ≡ class_at pattern.classes.now takes.row takes.run
   takes-class {q} takes g = gets-one k.extension q g (takes-gets takes)
-
-  -- a variable that is derivable takes a marked value
-  pub takes-marked : {q : ℕ} (takes : TakesCell k.extension q) → GetsDerivable k q → Marked pattern.marks.now takes.row takes.run
-  takes-marked takes d =
-      let same = some-injective d.0 takes.term (sym d.1 ∙ takes.gets) in
-      (k.exact takes.row takes.run (inside pattern.scope.table.bytes.now pattern.scope.table.rows pattern.scope.table.runs k.extension.shape k.extension.old pattern.classes.now k.extension.right takes.inside)).1 (takes.term, takes.has, rw same at d.2)
 
   -- rows that need what they get fit domains that have it
   pub in-domains-fit : (dom : List (List Bool)) {need : List ℕ} → InDomains k dom → Needed k.extension need → Fit pattern.vars dom need

@@ -4,15 +4,14 @@ use Rattle.std.proofs.Math.Decide.{ℕ_discrete}
 use Rattle.std.proofs.Common.{arith, sym, ◌∙◌, subst, true≢false}
 use Rattle.rows.specs.Rows.{rows_of}
 use Rattle.cells.specs.Cells.{cell_count}
-use Rattle.knowledge.specs.Marks.{Marked}
 use Rattle.knowledge.specs.laws.Values.{has-class}
 use Rattle.variables.specs.Variables.{In, Beneath, Unset}
 use Rattle.read_fits.specs.Fits.{Gets}
 use Rattle.read_fits.specs.laws.Fits.{gets-one}
 use Rattle.read_domains.specs.Domains.{InRow, Listed, Narrows, NarrowsTo}
 use Rattle.read_completions.specs.declared.scene.Pattern.{Pattern}
-use Rattle.read_completions.specs.Completions.{NoneEmpty, TakesCell, Completion, GetsClass, InDomains, GetsDerivable, MarkedDomains, MissesNone, CompletionsKept, Completable, Completes}
-use Rattle.read_completions.specs.laws.Rows.{gets-low, takes-gets, takes-class, takes-marked}
+use Rattle.read_completions.specs.Completions.{NoneEmpty, TakesCell, Completion, GetsClass, InDomains, GetsDerivable, MissesNone, CompletionsKept, Completable, Completes}
+use Rattle.read_completions.specs.laws.Rows.{gets-low, takes-gets, takes-class}
 
 -- the domains of the pattern's variables miss no value that counts
 abbrev AllListed : Pattern → (ℕ → ℕ → Type 0) → List (List Bool) → Type 0
@@ -44,10 +43,6 @@ module _ (pattern : Pattern) where
   -- domains of all values that variables may take miss none
   pub in-domains-start : (dom : List (List Bool)) → AllListed pattern Every dom → (k : Completion pattern) → InDomains k dom
   in-domains-start dom listed k i l c g = listed-class Every (InRow dom i) k (listed i l) (k.filled i l) tt c g
-
-  -- and those of marked values miss none of a variable that is derivable
-  pub marked-domains-start : (dom : List (List Bool)) → AllListed pattern (Marked pattern.marks.now) dom → MarkedDomains pattern dom
-  marked-domains-start dom listed k i l d c g = listed-class (Marked pattern.marks.now) (InRow dom i) k (listed i l) (k.filled i l) (takes-marked pattern k (k.filled i l) d) c g
 
   module _ (dom : List (List Bool)) where
     -- one domain is narrowed

@@ -1,5 +1,5 @@
 -- The classes of the values that a variable may take, one cell after the other, and the domains, one variable after the other. Assumes nothing.
-use Rattle.std.specs.Prelude.{ℕ, ◌+◌, ◌/◌, ◌%◌, ◌<◌, ◌≤◌, ◌≡◌, Bool, true, false, List, length, get_or}
+use Rattle.std.specs.Prelude.{ℕ, ◌+◌, ◌/◌, ◌%◌, ◌<◌, ◌≡◌, Bool, true, false, List, length, get_or}
 use Rattle.std.proofs.Common.{eq-or-lt_of_le, arith, sym, ◌∙◌, ⊎_elim}
 use Rattle.std.proofs.lemmas.Bool.{false≢true}
 use Rattle.std.proofs.Math.Option.{some}
@@ -8,7 +8,7 @@ use Rattle.semantics.specs.Runs.{atom_at}
 use Rattle.semantics.specs.Moves.{candidates}
 use Rattle.semantics.specs.Replay.{is_value_of}
 use Rattle.rows.specs.Rows.{rows_of, Shape}
-use Rattle.cells.specs.Cells.{cell_of, cell_count, absent}
+use Rattle.cells.specs.Cells.{cell_of, absent}
 use Rattle.knowledge.specs.Steps.{class_at, Inside}
 use Rattle.variables.specs.Variables.{In, TellsValue, takes, takes_not}
 use Rattle.read_domains.specs.Domains.{InRow, Candidate, Listed, ListedAt}
@@ -23,9 +23,6 @@ module _ (bytes : List ℕ) (n runs : ℕ) (classes : List ℕ) (counts : ℕ �
     pub listed_more : {c : ℕ} {own more : List Bool} → ListedTo c own → ListedAt bytes n runs classes counts q c own more → ListedTo (c + 1) more
     listed_more {c} before at y w l i m k a =
         ⊎_elim (λ (e : cell_of y w ≡ c). at.adds y w e i m k a) (λ (h : cell_of y w < c). at.keeps (class_at classes y w) (before y w h i m k a)) (eq-or-lt_of_le (omega arith))
-
-    pub listed-all : {c : ℕ} (own : List Bool) → Shape bytes n runs → cell_count ≤ c → ListedTo c own → Listed bytes n runs classes counts q (In own)
-    listed-all own shape l listed y w i = listed y w (omega (arith, shape.few, shape.few_runs, i.0, i.1)) i
 
     module _ (c : ℕ) (own : List Bool) where
       -- a cell that adds nothing

@@ -1,5 +1,5 @@
 -- Needs of rows: one that is noted is met, and one that is refused cannot be. Assumes nothing.
-use Rattle.std.specs.Prelude.{ℕ, ◌/◌, ◌%◌, ◌<◌, ◌≤◌, ◌≡◌, refl, Bool, true, false, List, eqb, length, get_or, set, replicate, None}
+use Rattle.std.specs.Prelude.{ℕ, ◌/◌, ◌%◌, ◌<◌, ◌≤◌, ◌≡◌, refl, Bool, true, false, List, eqb, get_or, set, replicate, None}
 use Rattle.std.proofs.Math.Decide.{ℕ_discrete}
 use Rattle.std.proofs.Common.{arith, sym, ◌∙◌, eq-eqb, length-set, get_or-set_same, get_or-set_other}
 use Rattle.std.proofs.lemmas.Bool.{false≢true}
@@ -8,8 +8,8 @@ use Rattle.std.proofs.lemmas.List.{length-replicate, get_or-replicate}
 use Rattle.semantics.specs.Term.{Term}
 use Rattle.semantics.proofs.laws.Value.{value-within}
 use Rattle.rows.specs.Rows.{rows_of}
-use Rattle.cells.specs.Cells.{cell_of, cell_count, absent, second_of}
-use Rattle.cells.specs.laws.Cells.{class-read, left-lower, second-lower}
+use Rattle.cells.specs.Cells.{cell_of, absent, second_of}
+use Rattle.cells.specs.laws.Cells.{left-lower, second-lower}
 use Rattle.classes.specs.laws.Kinds.{first_part, second_part, value_made}
 use Rattle.classes.specs.laws.Values.{cell-kept}
 use Rattle.knowledge.specs.Steps.{class_at, kind_at, left_at, Inside}
@@ -146,14 +146,6 @@ module _ (bytes : List ℕ) (n runs : ℕ) (classes : List ℕ) (marks : List Bo
   -- a marked cell that stands for its own value
   pub take-fits : {class : ℕ} {answer : Bool} → class ≡ c → (CanGet bytes n runs classes u r class → answer ≡ true) → CanTake bytes n runs classes u marks r y w → answer ≡ true
   take-fits e f k = f (rw (e ∙ ec) k.2)
-
-  -- one that does not
-  pub take-other : length classes ≡ cell_count → c < cell_count → (get_or classes c 0 ≡ c → ⊥) → CanTake bytes n runs classes u marks r y w → false ≡ true
-  take-other sized l d k = absurd (d (class-read classes sized ec l ∙ k.1 ∙ sym ec))
-
-  -- one that is not marked
-  pub take-unmarked : get_or marks c false ≡ false → CanTake bytes n runs classes u marks r y w → false ≡ true
-  take-unmarked e k = sym e ∙ rw ec k.0
 
 -- a row can get the value of a marked cell in another row of its kind
 abbrev pub TakesIn : List ℕ → ℕ → ℕ → List ℕ → ℕ → List Bool → ℕ → ℕ → Type 0

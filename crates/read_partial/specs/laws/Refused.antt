@@ -13,6 +13,7 @@ use Rattle.rows.specs.Rows.{rows_of, Shape}
 use Rattle.cells.specs.Cells.{Readings}
 use Rattle.classes.specs.Classes.{Grows}
 use Rattle.knowledge.specs.Marks.{Exact, Celled, Derivable}
+use Rattle.records.specs.Kinds.{byte_of}
 use Rattle.runs.specs.declared.RunEvent.{RunEvent}
 use Rattle.state.specs.declared.State.{State as CodeState}
 use Rattle.state.specs.Readings.{sets_of, with_sets, readings}
@@ -27,7 +28,7 @@ use Rattle.read_completions.specs.Completions.{Completes}
 use Rattle.read_partial.specs.laws.Filled.{completion-extension, completion-filled}
 
 module _ {t : List ℕ} {n runs k : ℕ} {e : RunEvent} {sc : Scenario} {d : State} {s : CodeState} {a : Active} (shape : Shape t n runs) (due : Due n runs k e.own e.peer e.row) (from : ℕ) (xs : List Atom) (vs ws : List Value)
-    {names classes : List ℕ} {marks : List Bool} (next : NextMove t runs k e sc d s a) (kind : e.kind ≡ 1) (setting : Setting sc d a s.names from xs vs names) (arrays : PartArrays sc d a xs vs classes marks) where
+    {names classes : List ℕ} {marks : List Bool} (next : NextMove t runs k e sc d s a) (kind : byte_of e.kind ≡ 1) (setting : Setting sc d a s.names from xs vs names) (arrays : PartArrays sc d a xs vs classes marks) where
   -- the readings with the values that are chosen, and with all of a completion
   abbrev part : Readings
   part = readings sc (with_sets a.index (part_sets a xs vs) (sets_of d.progress))

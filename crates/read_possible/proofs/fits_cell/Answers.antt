@@ -1,17 +1,8 @@
 -- `read_possible::fits_cell` meets its contract: only a marked cell that stands for its own value is looked at. Assumes nothing.
 use Rattle.std.proofs.Common.{◌≡◌, true, Option, None, Some, IsSomeAnd, sym, refl, ◌∙◌}
 use Rattle.std.specs.Option.{is_some}
-use Rattle.read_fits.specs.laws.Fits.{take-fits, take-other, take-unmarked}
+use Rattle.read_fits.specs.laws.Fits.{take-fits}
 use Rattle.read_possible.proofs.fits_cell.Goals as goal
-use Rattle.read_possible.proofs.fits_cell.Goals.{then-not-marked-via-then-not-marked, then-not-marked-via-else-not-marked+then-from-c}
-
-pub returns-then-not-marked : goal.returns-then-not-marked
-returns-then-not-marked c = elim c.then-not-marked.branch [
-  | then-not-marked-via-then-not-marked w ↦
-      take-unmarked c.args.scope.now.table.bytes.now c.args.scope.now.table.rows c.args.scope.now.table.runs c.args.classes.now c.args.marks.now c.args.scope.now.run c.args.r c.args.y c.args.w c.cell-c.ensures.0 w.if-not-marked.true
-  | then-not-marked-via-else-not-marked+then-from-c w ↦
-      take-other c.args.scope.now.table.bytes.now c.args.scope.now.table.rows c.args.scope.now.table.runs c.args.classes.now c.args.marks.now c.args.scope.now.run c.args.r c.args.y c.args.w c.cell-c.ensures.0 c.told-classes c.cell-c.ensures.1 (λ e. w.if-from-c.true (w.from.ensures ∙ e))
-]
 
 -- a value that has something is there
 there : {A : Type 0} (o : Option A) (P : A → Type 0) → IsSomeAnd o P → is_some o ≡ true

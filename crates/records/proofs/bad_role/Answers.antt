@@ -16,7 +16,7 @@ use Rattle.records.proofs.bad_role.Goals as goal
 
 -- what the call tells is told of the role record at the place
 judged : (c : After-good_role) → good_role (rows_of c.args.t.now.bytes.now) c.roles_present-roles.result c.loop-at.i (record_at role_length (c.args.base + c.loop-at.at) (drop c.loop-at.at c.args.b.now)) ≡ c.good_role.result
-judged c = sym (rw rest-whole at (c.good_role.ensures (rows_of c.args.t.now.bytes.now) (c.args.base + c.loop-at.at) c.args.t.now.shape.count (c.clear_rows-clear.ensures without_variables bars-variables)))
+judged c = sym (rw rest-whole at (c.good_role.ensures (rows_of c.args.t.now.bytes.now) (c.args.base + c.loop-at.at) c.args.t.now.shape.count (c.clear_rows-clear.ensures without_variables (rw (c.number.ensures, c.number-2.ensures) bars-variables))))
 
 pub loop-at-init : goal.loop-at-init
 loop-at-init c = (

@@ -10,10 +10,8 @@ use Rattle.semantics.specs.Scenario.{Scenario, opened}
 use Rattle.semantics.specs.State.{State, initial}
 use Rattle.semantics.specs.Moves.{Move}
 use Rattle.semantics.specs.Replay.{after, values_in, first_step, replayed_from, replayed}
-use Rattle.semantics.specs.State as states
 use Rattle.semantics.specs.Verdict.{broken}
 use Rattle.answers.specs.Answers.{Claimed, claimed_as}
-use Rattle.answers.specs.declared.Claim.{Claim}
 use Rattle.answers.specs.Answers.{opened_as, replayed_as}
 use Rattle.answers.specs.laws.Answers.{opened-refused}
 use Rattle.answers.specs.declared.Refusal.{Refusal}

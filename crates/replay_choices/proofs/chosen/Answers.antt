@@ -18,21 +18,6 @@ loop-x-init c =
     let v = c.args.values.now in
     (omega arith, omega arith, λ e sc d s a next same row kind. subst (λ (m : List ℕ). ValuesPart sc d a s.names v 0 0 m) (sym same) (part_none next kind v), search rules)
 
-pub next_unset-requires : goal.next_unset-requires
-next_unset-requires c = (omega (arith, c.args.t.now.shape.few_runs, c.requires.0), c.loop-x.invariant.0)
-
-pub overflow_add-i : goal.overflow_add-i
-overflow_add-i c = record { fits = omega (arith, c.loop-x.invariant.0, c.loop-x.invariant.1, c.args.t.now.shape.few) }
-
-pub overflow_add-i-in-Some : goal.overflow_add-i-in-Some
-overflow_add-i-in-Some c = record { fits = omega (arith, c.loop-x.invariant.0, c.loop-x.invariant.1, c.args.t.now.shape.few) }
-
-pub overflow_add-i-in-Some-2 : goal.overflow_add-i-in-Some-2
-overflow_add-i-in-Some-2 c = record { fits = omega (arith, c.loop-x.invariant.0, c.loop-x.invariant.1, c.args.t.now.shape.few) }
-
-pub overflow_add-i-2 : goal.overflow_add-i-2
-overflow_add-i-2 c = record { fits = omega (arith, c.loop-x.invariant.0, c.loop-x.invariant.1, c.args.t.now.shape.few) }
-
 pub returns-then-values-i-2 : goal.returns-then-values-i-2
 returns-then-values-i-2 c e sc d s a next same row kind =
     let view = rw c.in_default.is at (c.next_unset.ensures _ c.beneath-below.ensures) in

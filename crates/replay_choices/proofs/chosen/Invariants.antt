@@ -7,6 +7,7 @@ use Rattle.semantics.specs.Scenario.{Scenario}
 use Rattle.semantics.specs.State as definitions
 use Rattle.semantics.specs.State.{Active}
 use Rattle.cells.specs.Cells.{cell_count}
+use Rattle.records.specs.Kinds.{byte_of}
 use Rattle.runs.specs.declared.RunEvent.{RunEvent}
 use Rattle.state.specs.declared.State.{State}
 use Rattle.state.specs.State.{NextMove}
@@ -15,7 +16,7 @@ use Rattle.replay_choices.proofs.chosen.Given as goal
 
 abbrev pub Parted : List ℕ → ℕ → ℕ → ℕ → List ℕ → List ℕ → List ℕ → ℕ → ℕ → Type 0
 Parted t runs k row values names more from i =
-    (e : RunEvent) (sc : Scenario) (d : definitions.State) (s : State) (a : Active) → NextMove t runs k e sc d s a → names ≡ s.names → row ≡ e.row → e.kind ≡ 1 → ValuesPart sc d a s.names values from i more
+    (e : RunEvent) (sc : Scenario) (d : definitions.State) (s : State) (a : Active) → NextMove t runs k e sc d s a → names ≡ s.names → row ≡ e.row → byte_of e.kind ≡ 1 → ValuesPart sc d a s.names values from i more
 
 abbrev pub invariant-loop-x : goal.invariant-loop-x
 invariant-loop-x l = (l.from ≤ l.t.rows) × (l.i ≤ 2 * l.from) × Parted l.t.bytes.now l.t.runs l.k l.row l.values l.names l.more l.from l.i × (length l.more ≡ cell_count)

@@ -11,6 +11,7 @@ use Rattle.semantics.specs.State.{Value, State, Active}
 use Rattle.semantics.specs.Moves.{to_set, candidates}
 use Rattle.semantics.specs.Replay.{is_value_of, suits, values_in}
 use Rattle.cells.specs.Cells.{cell_of, absent}
+use Rattle.records.specs.Kinds.{byte_of}
 use Rattle.runs.specs.declared.RunEvent.{RunEvent}
 use Rattle.state.specs.declared.State.{State as CodeState}
 use Rattle.state.specs.State.{NextMove, Sets}
@@ -68,7 +69,7 @@ pub record ValuesPart (sc : Scenario) (d : State) (a : Active) (before bytes : L
   pub all : values_in bytes ≡ taken ++ values_in (drop i bytes)
   pub same : suits sc.rows (length sc.runs) (to_set sc a) (values_in bytes) ≡ suits sc.rows (length sc.runs) (unset_from sc.rows a.progress.values a.event.row from) (values_in (drop i bytes))
 
-module _ {t : List ℕ} {runs k : ℕ} {e : RunEvent} {sc : Scenario} {d : State} {s : CodeState} {a : Active} (next : NextMove t runs k e sc d s a) (kind : e.kind ≡ 1) (bytes : List ℕ) where
+module _ {t : List ℕ} {runs k : ℕ} {e : RunEvent} {sc : Scenario} {d : State} {s : CodeState} {a : Active} (next : NextMove t runs k e sc d s a) (kind : byte_of e.kind ≡ 1) (bytes : List ℕ) where
   is-read : a.event.kind ≡ read
   is-read = sym (some-injective read a.event.kind (rw kind at next.is_event.kind))
 
@@ -141,7 +142,7 @@ part-carry {sc} {d} {a} {before} {bytes} x k i r w names more e f g part =
     subst (λ (m : ℕ). ValuesPart sc d a before bytes m (i + 2) more) (sym (add-one x)) (subst (λ (l : List ℕ). ValuesPart sc d a before bytes (suc x) (i + 2) l) same part)
 
 -- an event that is no read sets nothing
-module _ {t : List ℕ} {runs k : ℕ} {e : RunEvent} {sc : Scenario} {d : State} {s : CodeState} {a : Active} (next : NextMove t runs k e sc d s a) (kind : e.kind ≡ 1 → ⊥) (bytes : List ℕ) where
+module _ {t : List ℕ} {runs k : ℕ} {e : RunEvent} {sc : Scenario} {d : State} {s : CodeState} {a : Active} (next : NextMove t runs k e sc d s a) (kind : byte_of e.kind ≡ 1 → ⊥) (bytes : List ℕ) where
   pub none-suit : length bytes < 2 → Suited sc d a (values_in bytes) (Some s.names)
   none-suit l =
       let ended : values_in bytes ≡ [] = values-end bytes 0 (omega arith) in

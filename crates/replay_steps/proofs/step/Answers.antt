@@ -7,6 +7,7 @@ use mathlib.Core.Option.{some}
 use mathlib.Core.Bool.{Bool}
 use mathlib.Core.List.{List}
 use lib.ListN.{length, get_or, take, drop}
+use Rattle.records.specs.Kinds.{byte_of}
 use Rattle.semantics.specs.Scenario.{Scenario}
 use Rattle.semantics.specs.State as definitions
 use Rattle.semantics.specs.State.{Active, active}
@@ -35,11 +36,11 @@ run-low z l = omega arith
 
 -- the next event of run u
 module _ {file t : List ℕ} {n : ℕ} {r : Runs} {sc : Scenario} {d : definitions.State} {s : State} (given : Given file t n r sc) (state : IsState sc d s) {u : ℕ} (nonzero : u ≡ 0 → ⊥) (few : u ≤ r.count)
-    (to_come : get_or s.done (u - 1) 0 < get_or r.events (u - 1) 0) {e : RunEvent} (read : ReadsEvent file r (u - 1) (get_or s.done (u - 1) 0) e) where
+    (to_come : get_or s.done (u - 1) 0 < get_or r.events (u - 1) 0) (e : RunEvent) (read : ReadsEvent file r (u - 1) (get_or s.done (u - 1) 0) e) where
   coming : (a : Active) × Coming given state (u - 1) (run-low nonzero few) a
   coming = run-coming given state (u - 1) (run-low nonzero few) to_come
 
-  is_read : EventRead sc coming.0.run coming.0.event e.kind e.own e.peer e.row
+  is_read : EventRead sc coming.0.run coming.0.event (byte_of e.kind) e.own e.peer e.row
   is_read = read sc coming.0.run coming.0.event given.runs given.good coming.1.of_run coming.1.of_event
 
   is-active : active sc d u ≡ some coming.0
@@ -58,7 +59,7 @@ module _ {file t : List ℕ} {n : ℕ} {r : Runs} {sc : Scenario} {d : definitio
 
     -- the event with values that suit, and classes and marks that were worked on for it
     abbrev at-event : (values : List ℕ) {names : List ℕ} → Suited sc d coming.0 (values_in values) (Some names) → length s.done ≡ 4
-        → (classes : List ℕ) (marks : List Bool) → Worked (rows_of t) runs (u - 1 + 1) e.kind names s.classes s.marks classes marks → AtEvent t n runs (u - 1) e classes marks
+        → (classes : List ℕ) (marks : List Bool) → Worked (rows_of t) runs (u - 1 + 1) (byte_of e.kind) names s.classes s.marks classes marks → AtEvent t n runs (u - 1) e classes marks
     at-event values {names} suited size classes marks worked = record {
       sc = sc;
       d = d;
@@ -94,52 +95,41 @@ returns-then-r-k c sc d given state =
     refuses-inactive sc d _ c.if-trace-lt2.false c.from.ensures refl c.if-trace-end.false c.from-u.ensures
     (ap (active sc d) (sym (run-number c.if-u-eq0.false)) ∙ run-ended given state _ (run-low c.if-u-eq0.false c.if-r-u.false) c.if-r-k.true)
 
-pub event_of-e-requires : goal.event_of-e-requires
-event_of-e-requires c =
-    let given = c.requires.2 in
-    (c.requires.0, given.runs, given.good, run-low c.if-u-eq0.false c.if-r-u.false, c.if-r-k.false)
-
 pub valued-requires : goal.valued-requires
 valued-requires c =
-    let of = due c.requires.2 c.requires.3 c.if-u-eq0.false c.if-r-u.false c.if-r-k.false c.event_of-e.ensures c.args.opened.now.counted in
+    let of = due c.requires.2 c.requires.3 c.if-u-eq0.false c.if-r-u.false c.if-r-k.false c.event_of-e.result c.event_of-e.ensures c.args.opened.now.counted in
     (of.is_run, of.term)
 
 pub is_allowed-requires : goal.is_allowed-requires
 is_allowed-requires c =
     let size : length c.worked-more.new.classes ≡ 480 = search (rules, c.worked-more.auto.classes, c.requires.3.arrays.classed.size) in
-    let of = due c.requires.2 c.requires.3 c.if-u-eq0.false c.if-r-u.false c.if-r-k.false c.event_of-e.ensures c.args.opened.now.counted in
+    let of = due c.requires.2 c.requires.3 c.if-u-eq0.false c.if-r-u.false c.if-r-k.false c.event_of-e.result c.event_of-e.ensures c.args.opened.now.counted in
     let few = c.requires.2.shape.few in
     (omega (arith, c.requires.2.runs.few, of.is_run), (omega (arith, few, of.agent), (omega (arith, few, of.other), omega (arith, few, of.term))))
 
 pub perform-after-requires : goal.perform-after-requires
 perform-after-requires c =
     let size : length c.worked-more.new.classes ≡ 480 = search (rules, c.worked-more.auto.classes, c.requires.3.arrays.classed.size) in
-    let of = due c.requires.2 c.requires.3 c.if-u-eq0.false c.if-r-u.false c.if-r-k.false c.event_of-e.ensures c.args.opened.now.counted in
+    let of = due c.requires.2 c.requires.3 c.if-u-eq0.false c.if-r-u.false c.if-r-k.false c.event_of-e.result c.event_of-e.ensures c.args.opened.now.counted in
     of
-
-pub advance-done-requires : goal.advance-done-requires
-advance-done-requires c =
-    let given = c.requires.2 in
-    let low : c.from-u.result - 1 < 4 = omega (arith, given.runs.few, run-low c.if-u-eq0.false c.if-r-u.false) in
-    (low, omega (arith, c.if-r-k.false, given.runs.small (c.from-u.result - 1) low))
 
 pub returns : goal.returns
 returns c sc d given state =
     let values : List ℕ = take (2 + 2 * c.from.result - 2) (drop 2 c.args.trace.now) in
-    let suited = c.in_ok-names.ensures sc d (coming given state c.if-u-eq0.false c.if-r-u.false c.if-r-k.false c.event_of-e.ensures).0 (next given state c.if-u-eq0.false c.if-r-u.false c.if-r-k.false c.event_of-e.ensures c.args.opened.now.counted) in
-    let m = at-event given state c.if-u-eq0.false c.if-r-u.false c.if-r-k.false c.event_of-e.ensures c.args.opened.now.counted values suited (search rules) c.worked-more.new.classes c.worked-more.result c.worked-more.ensures in
+    let suited = c.in_ok-names.ensures sc d (coming given state c.if-u-eq0.false c.if-r-u.false c.if-r-k.false c.event_of-e.result c.event_of-e.ensures).0 (next given state c.if-u-eq0.false c.if-r-u.false c.if-r-k.false c.event_of-e.result c.event_of-e.ensures c.args.opened.now.counted) in
+    let m = at-event given state c.if-u-eq0.false c.if-r-u.false c.if-r-k.false c.event_of-e.result c.event_of-e.ensures c.args.opened.now.counted values suited (search rules) c.worked-more.new.classes c.worked-more.result c.worked-more.ensures in
     let w = told-some (c.is_allowed.ensures _ _ _ m) c.if-not-is_allowed.false in
-    step-performed sc d c.args.trace.now c.if-trace-lt2.false c.from.ensures refl c.if-trace-end.false c.from-u.ensures (is-active given state c.if-u-eq0.false c.if-r-u.false c.if-r-k.false c.event_of-e.ensures) values refl suited refl w.1 (rw (c.after.ensures, c.advance-done.ensures) (c.perform-after.ensures m w.0 w.1))
+    step-performed sc d c.args.trace.now c.if-trace-lt2.false c.from.ensures refl c.if-trace-end.false c.from-u.ensures (is-active given state c.if-u-eq0.false c.if-r-u.false c.if-r-k.false c.event_of-e.result c.event_of-e.ensures) values refl suited refl w.1 (rw (c.after.ensures, c.advance-done.ensures) (c.perform-after.ensures m w.0 w.1))
 
 pub returns-then-not-is_allowed : goal.returns-then-not-is_allowed
 returns-then-not-is_allowed c sc d given state =
     let values : List ℕ = take (2 + 2 * c.from.result - 2) (drop 2 c.args.trace.now) in
-    let suited = c.in_ok-names.ensures sc d (coming given state c.if-u-eq0.false c.if-r-u.false c.if-r-k.false c.event_of-e.ensures).0 (next given state c.if-u-eq0.false c.if-r-u.false c.if-r-k.false c.event_of-e.ensures c.args.opened.now.counted) in
-    let m = at-event given state c.if-u-eq0.false c.if-r-u.false c.if-r-k.false c.event_of-e.ensures c.args.opened.now.counted values suited (search rules) c.worked-more.new.classes c.worked-more.result c.worked-more.ensures in
-    step-refused sc d c.args.trace.now c.if-trace-lt2.false c.from.ensures refl c.if-trace-end.false c.from-u.ensures (is-active given state c.if-u-eq0.false c.if-r-u.false c.if-r-k.false c.event_of-e.ensures) values refl suited refl (told_none (c.is_allowed.ensures _ _ _ m) c.if-not-is_allowed.true)
+    let suited = c.in_ok-names.ensures sc d (coming given state c.if-u-eq0.false c.if-r-u.false c.if-r-k.false c.event_of-e.result c.event_of-e.ensures).0 (next given state c.if-u-eq0.false c.if-r-u.false c.if-r-k.false c.event_of-e.result c.event_of-e.ensures c.args.opened.now.counted) in
+    let m = at-event given state c.if-u-eq0.false c.if-r-u.false c.if-r-k.false c.event_of-e.result c.event_of-e.ensures c.args.opened.now.counted values suited (search rules) c.worked-more.new.classes c.worked-more.result c.worked-more.ensures in
+    step-refused sc d c.args.trace.now c.if-trace-lt2.false c.from.ensures refl c.if-trace-end.false c.from-u.ensures (is-active given state c.if-u-eq0.false c.if-r-u.false c.if-r-k.false c.event_of-e.result c.event_of-e.ensures) values refl suited refl (told_none (c.is_allowed.ensures _ _ _ m) c.if-not-is_allowed.true)
 
 pub returns-in_err-names : goal.returns-in_err-names
 returns-in_err-names c sc d given state =
     let values : List ℕ = take (2 + 2 * c.from.result - 2) (drop 2 c.args.trace.now) in
-    let suited = c.in_err-names.ensures sc d (coming given state c.if-u-eq0.false c.if-r-u.false c.if-r-k.false c.event_of-e.ensures).0 (next given state c.if-u-eq0.false c.if-r-u.false c.if-r-k.false c.event_of-e.ensures c.args.opened.now.counted) in
-    rw c.from_residual.ensures (refuses-unsuited sc d c.args.trace.now c.if-trace-lt2.false c.from.ensures refl c.if-trace-end.false c.from-u.ensures (is-active given state c.if-u-eq0.false c.if-r-u.false c.if-r-k.false c.event_of-e.ensures) values refl suited refl)
+    let suited = c.in_err-names.ensures sc d (coming given state c.if-u-eq0.false c.if-r-u.false c.if-r-k.false c.event_of-e.result c.event_of-e.ensures).0 (next given state c.if-u-eq0.false c.if-r-u.false c.if-r-k.false c.event_of-e.result c.event_of-e.ensures c.args.opened.now.counted) in
+    rw c.from_residual.ensures (refuses-unsuited sc d c.args.trace.now c.if-trace-lt2.false c.from.ensures refl c.if-trace-end.false c.from-u.ensures (is-active given state c.if-u-eq0.false c.if-r-u.false c.if-r-k.false c.event_of-e.result c.event_of-e.ensures) values refl suited refl)

@@ -8,6 +8,7 @@ use Rattle.semantics.specs.Scenario.{Scenario}
 use Rattle.semantics.specs.State.{Value, State, Active, active}
 use Rattle.semantics.specs.Moves.{Move, to_set, performed}
 use Rattle.semantics.specs.Replay.{suits, after, values_in, first_step}
+use Rattle.records.specs.Kinds.{byte_of}
 use Rattle.runs.specs.declared.RunEvent.{RunEvent}
 use Rattle.state.specs.declared.State.{State as CodeState}
 use Rattle.rows.specs.Rows.{rows_of, Shape}
@@ -138,11 +139,11 @@ module _ (sc : Scenario) (d : State) (bytes : List ℕ) where
 
 -- values that suit an event that is no read are none
 pub suited-none : {t : List ℕ} {runs k : ℕ} {e : RunEvent} {sc : Scenario} {d : State} {s : CodeState} {a : Active} → NextMove t runs k e sc d s a → (values : List ℕ)
-    → suits sc.rows (length sc.runs) (to_set sc a) (values_in values) ≡ true → (e.kind ≡ 1 → ⊥) → values_in values ≡ []
+    → suits sc.rows (length sc.runs) (to_set sc a) (values_in values) ≡ true → (byte_of e.kind ≡ 1 → ⊥) → values_in values ≡ []
 suited-none next values h kind = only_none next kind values (values_in values) h
 
 -- classes and marks that were worked on are ready for the event
 pub worked-ready : {t : List ℕ} {n runs k : ℕ} {e : RunEvent} {sc : Scenario} {d : State} {s : CodeState} {a : Active} → NextMove t runs k e sc d s a → Shape t n runs → Due n runs k e.own e.peer e.row → (vs : List Value) (names : List ℕ)
-    → Sets sc d a vs names → ((e.kind ≡ 1 → ⊥) → vs ≡ []) → {classes : List ℕ} {marks : List Bool} → Worked (rows_of t) runs (k + 1) e.kind names s.classes s.marks classes marks → Ready sc d a vs names classes marks
+    → Sets sc d a vs names → ((byte_of e.kind ≡ 1 → ⊥) → vs ≡ []) → {classes : List ℕ} {marks : List Bool} → Worked (rows_of t) runs (k + 1) (byte_of e.kind) names s.classes s.marks classes marks → Ready sc d a vs names classes marks
 worked-ready next shape due vs names sets only (for_read kind refilled settled) = grown-ready next shape due vs names sets refilled settled
 worked-ready next shape due vs names sets only (for_other kind e f) = let z = only kind in rw (z, e, f) (kept-ready next (rw z at sets))

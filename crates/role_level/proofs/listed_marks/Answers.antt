@@ -1,6 +1,6 @@
 -- `listed_marks` marks the listed rows. Assumes nothing.
 use Rattle.std.proofs.Common.{arith, refl, length-set}
-use Rattle.role_level.specs.laws.Loops.{listed-none, listed_more, listed-all, at_mem}
+use Rattle.role_level.specs.laws.Loops.{listed-none, listed_more, at_mem}
 use Rattle.role_level.proofs.listed_marks.Goals as goal
 
 pub loop-r-init : goal.loop-r-init
@@ -12,6 +12,3 @@ loop-r-preserved c =
       simp length-set c.loop-r.invariant.0,
       rw c.from.ensures (listed_more c.args.t.now.rows c.args.list.now c.loop-r.r-index c.loop-r.marks c.loop-r-test.true (omega (arith, low, c.args.t.now.shape.few, c.loop-r.invariant.0)) c.loop-r.invariant.1),
     )
-
-pub returns : goal.returns
-returns c = record { listed = listed-all c.args.t.now.rows c.args.list.now c.loop-r.r-index c.loop-r.marks c.loop-r-test.false c.loop-r.invariant.1 }

@@ -1,6 +1,6 @@
 -- The laws of the marks of listed rows. Assumes nothing.
 use Rattle.std.specs.Prelude.{ℕ, zero, suc, ◌+◌, ◌<◌, ◌≤◌, ◌≡◌, refl, ◌↔◌, Bool, true, false, length, get_or, take, set, replicate}
-use Rattle.std.proofs.Common.{add-one, arith, sym, ◌∙◌, ⊎_elim, take-suc, take_all, get_or-set_same, get_or-set_other}
+use Rattle.std.proofs.Common.{add-one, arith, sym, ◌∙◌, ⊎_elim, take-suc, get_or-set_same, get_or-set_other}
 use Rattle.std.proofs.Math.Decide.{ℕ_discrete}
 use Rattle.std.proofs.lemmas.Bool.{false≢true}
 use mathlib.Core.List.Memᴰ
@@ -26,9 +26,6 @@ listed_more n list i marks l k marked r h = rw (add-one i, take-suc list i 0 l) 
       λ m. get_or-set_other marks (get_or list i 0) r true false d
           ∙ (marked r h).1 (⊎_elim (λ x. x) (λ x. absurd (d (Memᴰ.eq_of_singleton x))) (Memᴰ.append_cases (take i list) m)),
     )
-
-pub listed-all : (n : ℕ) (list : List ℕ) (i : ℕ) (marks : List Bool) → length list ≤ i → ListedTo n list i marks → (r : ℕ) → r < n → (get_or marks r false ≡ true) ↔ Memᴰ r list
-listed-all n list i marks l marked r h = rw take_all at (marked r h)
 
 -- an element of a list is an element
 pub at_mem : (list : List ℕ) (i : ℕ) → i < length list → Memᴰ (get_or list i 0) list

@@ -1,5 +1,5 @@
 -- What is read of a run that stands in a file: its agents and its events. Assumes nothing.
-use Rattle.std.specs.Prelude.{ℕ, ◌+◌, ◌*◌, ◌<◌, ◌≡◌, T, length, get_or}
+use Rattle.std.specs.Prelude.{ℕ, ◌+◌, ◌*◌, ◌<◌, ◌≤◌, ◌≡◌, T, length, get_or}
 use Rattle.std.proofs.Common.{arith, sym, ap, ◌∙◌, ltb→lt, eqb→eq}
 use mathlib.Core.List.{List, Memᴰ}
 use Rattle.std.proofs.Math.Option.{Option, none, some, none-ne-some}
@@ -64,6 +64,10 @@ module _ (file : List ℕ) (sc : Scenario) (run : Run) (start first events : ℕ
         bytes-event (get_elem? event_kinds (get_or file (first + 4 * j) 0)) (get_or file (first + 4 * j + 2) 0) (get_or file (first + 4 * j + 3) 0) (first + 4 * j)
         (sym (stands.each j below) ∙ listed)
 
+    -- the first is the byte of a kind
+    kind-low : get_or file (first + 4 * j) 0 ≤ 2
+    kind-low = let l : get_or file (first + 4 * j) 0 < 3 = get_elem-below event_kinds _ event-bytes.0 in omega (arith, l)
+
     -- the role that has it
     role-of : (r : Role) × (GoodRole sc.rows (length sc.roles) r × Memᴰ ev r.events)
     role-of =
@@ -124,3 +128,7 @@ module _ (file : List ℕ) (r : Runs) (k : ℕ) where
 
     pub peer-inside : {b : ℕ} → b ≡ get_or file (get_or r.firsts k 0 + 4 * j + 2) 0 → get_or r.starts k 0 + 1 + b < length file
     peer-inside {b} e = agent-inside file w.0 run _ _ _ stands w.2 k found b (peer-below file w.0 run _ _ _ stands w.2 k found j event.0 event.1 e)
+
+    -- the event's first byte is that of a kind
+    pub kind-there : get_or file (get_or r.firsts k 0 + 4 * j) 0 ≤ 2
+    kind-there = kind-low file w.0 run _ _ _ stands w.2 k found j event.0 event.1

@@ -19,6 +19,7 @@ use Rattle.rows.specs.Rows.{rows_of}
 use Rattle.cells.specs.Cells.{cell_of}
 use Rattle.classes.specs.Classes.{Refilled}
 use Rattle.knowledge.specs.Marks.{Settled}
+use Rattle.records.specs.Kinds.{byte_of}
 use Rattle.runs.specs.declared.RunEvent.{RunEvent}
 use Rattle.state.specs.declared.State.{State as CodeState}
 use Rattle.variables.specs.Variables.{NextValue, is_value, Beneath, unset_from, NextUnset, values_from, NamesAtom, NotBefore, NextOf, has_next, has_none}
@@ -85,7 +86,7 @@ takes-more : {rows : List Row} {runs : ℕ} {xs : List Atom} {vs : List Value} {
 takes-more takes_none may = takes_more may takes_none
 takes-more (takes_more m takes) may = takes_more m (takes-more takes may)
 
-module _ {plan : Plan} {sc : Scenario} {d : State} {s : CodeState} {ms : List Move} {at k : ℕ} {e : RunEvent} {a : Active} (move : AtMove plan sc d s ms at k e a) (kind : e.kind ≡ 1)
+module _ {plan : Plan} {sc : Scenario} {d : State} {s : CodeState} {ms : List Move} {at k : ℕ} {e : RunEvent} {a : Active} (move : AtMove plan sc d s ms at k e a) (kind : byte_of e.kind ≡ 1)
     {from : ℕ} {xs : List Atom} {vs : List Value} {names classes : List ℕ} {marks : List Bool} {values : Values} (choosing : Choosing sc d s a from xs vs names classes marks values) {x : ℕ} (view : NextUnset (rows_of plan.opened.table.bytes.now) s.names (k + 1) e.row from x) where
   abbrev pub left-to-set : List Atom
   left-to-set = unset_from sc.rows a.progress.values a.event.row from

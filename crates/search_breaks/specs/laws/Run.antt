@@ -12,6 +12,7 @@ use Rattle.semantics.specs.Scenario.{Scenario}
 use Rattle.semantics.specs.Guarantee.{Guarantee}
 use Rattle.semantics.specs.State.{Active, events_of}
 use Rattle.semantics.specs.Allowed.{Takes, takes_none}
+use Rattle.records.specs.Kinds.{byte_of}
 use Rattle.runs.specs.declared.RunEvent.{RunEvent}
 use Rattle.runs.specs.declared.Runs.{Runs}
 use Rattle.runs.specs.Runs.{RunsAt, EventRead}
@@ -37,7 +38,7 @@ use Rattle.search_breaks.specs.laws.Walk.{finds-nil, finds-same}
 -- an event of a run, as it was read off the file
 abbrev pub ReadOff : List ℕ → Runs → ℕ → ℕ → RunEvent → Type 0
 ReadOff file r k j e =
-    (sc : Scenario) (run : Run) (ev : Event) → RunsAt file sc r → Guarantee sc → get_elem? sc.runs k ≡ some run → get_elem? (events_of sc run) j ≡ some ev → EventRead sc run ev e.kind e.own e.peer e.row
+    (sc : Scenario) (run : Run) (ev : Event) → RunsAt file sc r → Guarantee sc → get_elem? sc.runs k ≡ some run → get_elem? (events_of sc run) j ≡ some ev → EventRead sc run ev (byte_of e.kind) e.own e.peer e.row
 
 module _ {plan : Plan} (course : Course) {names classes : List ℕ} {marks : List Bool} (reach : Reach) (m : SomeClear plan (state_of course names classes marks) reach.at) (k : ℕ) (low : k < plan.opened.runs.count) where
   pub here : Here plan m.sc m.d (state_of course names classes marks) m.ms reach.at
@@ -50,12 +51,12 @@ module _ {plan : Plan} (course : Course) {names classes : List ℕ} {marks : Lis
   pub run-over : get_or plan.opened.runs.events k 0 ≤ get_or course.done k 0 → (b : List ℕ) → Finds m.sc reach.left (below plan m.sc reach.depth (of_run m.sc m.d k)) b reach.at b (Ok 0)
   run-over l b = finds-nil m.sc reach.left (run_none plan m.sc reach.depth m.d (suc k) (run-ended given here.state k low l)) b reach.at
 
-  module _ (more : get_or course.done k 0 < get_or plan.opened.runs.events k 0) {e : RunEvent} (off : ReadOff plan.opened.file.now plan.opened.runs k (get_or course.done k 0) e) where
+  module _ (more : get_or course.done k 0 < get_or plan.opened.runs.events k 0) (e : RunEvent) (off : ReadOff plan.opened.file.now plan.opened.runs k (get_or course.done k 0) e) where
     -- its next event
     pub its : (a : Active) × Coming given here.state k low a
     its = run-coming given here.state k low more
 
-    reads : EventRead m.sc its.0.run its.0.event e.kind e.own e.peer e.row
+    reads : EventRead m.sc its.0.run its.0.event (byte_of e.kind) e.own e.peer e.row
     reads = off m.sc its.0.run its.0.event given.runs given.good its.1.of_run its.1.of_event
 
     pub at-move : AtMove plan m.sc m.d (state_of course names classes marks) m.ms reach.at k e its.0
@@ -71,7 +72,7 @@ module _ {plan : Plan} (course : Course) {names classes : List ℕ} {marks : Lis
       turn = record { run = k; event = e; values = values }
 
       -- a read: no value is chosen yet
-      module _ (kind : e.kind ≡ 1) where
+      module _ (kind : byte_of e.kind ≡ 1) where
         is-read : its.0.event.kind ≡ read
         is-read = sym (some-injective read its.0.event.kind (sym (ap (get_elem? event_kinds) kind) ∙ reads.kind))
 
@@ -93,7 +94,7 @@ module _ {plan : Plan} (course : Course) {names classes : List ℕ} {marks : Lis
               finds-same m.sc reach.left (run-some plan m.sc reach.depth m.d (suc k) at-move.next.is_active ∙ ap (λ (xs : List Atom). below plan m.sc reach.depth (branches m.sc m.d (suc k) its.0 [] xs)) none-set.split) (told read_none)
 
       -- any other event sets nothing
-      module _ (kind : e.kind ≡ 1 → ⊥) where
+      module _ (kind : byte_of e.kind ≡ 1 → ⊥) where
         pub move-none : SomeMove plan course names classes marks reach.at turn
         move-none = record {
           sc = m.sc;

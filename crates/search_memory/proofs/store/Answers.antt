@@ -8,9 +8,9 @@ use Rattle.search_memory.proofs.store.Goals as goal
 pub bounds-memory-at-2 : goal.bounds-memory-at-2
 bounds-memory-at-2 c =
     let slot = c.slot_for-at in
-    omega (arith, length-set c.write_key.new.memory (40 * slot.result + 38) c.low_half.result, c.write_key.ensures.size, c.told-memory, slot.ensures)
+    omega (arith, length-set c.write_key.new.memory (40 * slot.result + 38) c.halves-low.result.0, c.write_key.ensures.size, c.told-memory, slot.ensures)
 
 pub returns : goal.returns
 returns c =
     let slot = c.slot_for-at in
-    slot-stored c.args.memory.now c.write_key.new.memory c.args.key.now slot.result c.args.count c.low_half.result c.high_half.result slot.ensures c.told-memory c.write_key.ensures c.low_half.ensures c.high_half.ensures
+    slot-stored c.args.memory.now c.write_key.new.memory c.args.key.now slot.result c.args.count c.halves-low.result.0 c.halves-low.result.1 slot.ensures c.told-memory c.write_key.ensures c.halves-low.ensures.0 c.halves-low.ensures.1

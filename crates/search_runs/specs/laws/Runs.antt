@@ -1,9 +1,9 @@
 -- Which runs send or claim next, and the runs that a list goes on with. Assumes nothing.
-use Rattle.std.specs.Prelude.{ℕ, zero, suc, ◌+◌, ◌-◌, ◌<◌, ◌≤◌, ◌≡◌, Bool, true, false, not, eqb, length}
+use Rattle.std.specs.Prelude.{ℕ, zero, suc, ◌+◌, ◌-◌, ◌<◌, ◌≤◌, ◌≡◌, Bool, true, false, not, length}
+use denote.Enum.Bare.{sameb}
 use native.Mathlib.Omega.{arith}
 use Rattle.std.proofs.Math.Path.{refl, ap}
-use Rattle.std.proofs.Common.{◌∙◌, eqb-true}
-use Rattle.std.proofs.lemmas.Bool.{eqb-false}
+use Rattle.std.proofs.Common.{◌∙◌}
 use mathlib.Core.List.{List}
 use Rattle.std.proofs.Math.Option.{Option, none, some, none-ne-some}
 use Rattle.std.proofs.Math.ListN.{get_or, get_elem?}
@@ -14,6 +14,10 @@ use Rattle.semantics.specs.State.{State, events_of}
 use Rattle.semantics.specs.Moves.{send_or_claim, ready_at, run_numbers, alone_or, runs_in}
 use Rattle.semantics.proofs.laws.Broken.{first_found, first-none}
 use Rattle.runs.specs.declared.Runs.{Runs}
+use Rattle.records.specs.contracts.EventKind.{the_type}
+use Rattle.records.specs.declared.EventKind.TheVariants.{Read}
+use Rattle.records.specs.Kinds.{byte_of}
+use Rattle.records.specs.laws.Kinds.{event-is, event-other}
 use Rattle.runs.specs.declared.RunEvent.{RunEvent}
 use Rattle.runs.specs.Runs.{ReadsEvent}
 use Rattle.state.specs.laws.Active.{run-ended, run-coming}
@@ -34,19 +38,15 @@ byte-other (suc (suc zero)) read h n = cc
 byte-other (suc (suc (suc b))) read h n = absurd (none-ne-some read h)
 byte-other b (claim k) h n = refl
 
-byte_told : (b : ℕ) (kind : EventKind) → get_elem? event_kinds b ≡ some kind → (c : Bool) → eqb b 1 ≡ c → send_or_claim kind ≡ not c
-byte_told b kind h true q = byte_one b kind h (eqb-true b 1 q)
-byte_told b kind h false q = byte-other b kind h (eqb-false b 1 q)
-
 module _ {file : List ℕ} {r : Runs} {done : List ℕ} {k : ℕ} (low : k < r.count) where
   -- a run that has made all its events
   pub ready-ended : get_or r.events k 0 ≤ get_or done k 0 → TellsReady file r done k false
   unfolding ready_at
   ready-ended l sc d at = rw (run-ended at.given at.state k low (rw at.is_done at l)) refl
 
-  module _ (more : get_or done k 0 < get_or r.events k 0) {e : RunEvent} (reads : ReadsEvent file r k (get_or done k 0) e) where
+  module _ (more : get_or done k 0 < get_or r.events k 0) (e : RunEvent) (reads : ReadsEvent file r k (get_or done k 0) e) where
     -- by the kind of its next event
-    by_kind : (b : Bool) → ((kind : EventKind) → get_elem? event_kinds e.kind ≡ some kind → send_or_claim kind ≡ b) → TellsReady file r done k b
+    by_kind : (b : Bool) → ((kind : EventKind) → get_elem? event_kinds (byte_of e.kind) ≡ some kind → send_or_claim kind ≡ b) → TellsReady file r done k b
     unfolding ready_at
     by_kind b kinds sc d at =
         let more' : get_or at.s.done k 0 < get_or r.events k 0 = rw at.is_done at more in
@@ -55,8 +55,12 @@ module _ {file : List ℕ} {r : Runs} {done : List ℕ} {k : ℕ} (low : k < r.c
         let seen = reads sc w.0.run w.0.event at.given.runs at.given.good w.1.of_run there in
         rw (w.1.is_active, kinds w.0.event.kind seen.kind) refl
 
-    pub ready-told : TellsReady file r done k (not (eqb e.kind 1))
-    ready-told = by_kind (not (eqb e.kind 1)) (λ kind h. byte_told e.kind kind h (eqb e.kind 1) refl)
+    pub ready-told : {b : Bool} → b ≡ not (sameb the_type e.kind Read) → TellsReady file r done k b
+    ready-told q = rw q (go (sameb the_type e.kind Read) refl)
+      where
+        go : (c : Bool) → sameb the_type e.kind Read ≡ c → TellsReady file r done k (not c)
+        go true s = by_kind false (λ kind h. byte_one (byte_of e.kind) kind h (event-is e.kind Read refl s))
+        go false s = by_kind true (λ kind h. byte-other (byte_of e.kind) kind h (event-other e.kind Read refl s))
 
 -- none of the first k runs sends or claims next
 abbrev pub UnreadyTo : List ℕ → Runs → List ℕ → ℕ → Type 0

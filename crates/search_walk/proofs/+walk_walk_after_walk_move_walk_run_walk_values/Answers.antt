@@ -6,6 +6,8 @@ use Prim.Native.Nat.{ℕ, suc, ◌-◌}
 use mathlib.Core.Path.{◌≡◌, refl, ap, ◌∙◌}
 use mathlib.Core.List.{List}
 use lib.ListN.{length, get_or}
+use Rattle.records.specs.declared.EventKind.TheVariants.{Read}
+use Rattle.records.specs.laws.Kinds.{event-is, event-other}
 use Rattle.std.proofs.Common.{subst}
 use mathlib.Core.Bool.{Bool}
 use Rattle.runs.specs.declared.RunEvent.{RunEvent}
@@ -118,9 +120,8 @@ walk_after-key_of-key-requires t c =
 
 pub walk_after-returns-in-Some : goal.walk_after-returns-in-Some
 walk_after-returns-in-Some t c =
-    let many : length c.args.course.done ≡ 4 = search (rules, c.well_formed) in
     record {
-      finds_step = λ m. known.known-finds c.args.reach m many c.advance-next.ensures c.requires.room.remembers c.key_of-key.ensures c.in-Some.ensures.1 c.in-Some.ensures.0 c.known.ensures c.args.trace.now;
+      finds_step = λ m. known.known-finds c.args.reach m c.args.state.now.size c.advance-next.ensures c.requires.room.remembers c.key_of-key.ensures c.in-Some.ensures.1 c.in-Some.ensures.0 c.known.ensures c.args.trace.now;
       remembers = c.requires.room.remembers;
     }
 
@@ -138,40 +139,34 @@ walk_after-overflow_add-reach t c = let m = c.requires.some_step.of in record { 
 
 pub walk_after-walk-found-requires : goal.walk_after-walk-found-requires
 walk_after-walk-found-requires t c =
-    let many : length c.args.course.done ≡ 4 = search (rules, c.well_formed) in
-    (omega arith, (of-move.after-state c.args.reach c.requires.some_step (performed c.args.plan.now.opened.counted c.perform-after.ensures) many c.advance-next.ensures, room-on c.requires.room refl c.requires.room.remembers _ (omega arith) (omega arith)))
+    (omega arith, (of-move.after-state c.args.reach c.requires.some_step (performed c.args.plan.now.opened.counted c.perform-after.ensures) c.args.state.now.size c.advance-next.ensures, room-on c.requires.room refl c.requires.room.remembers _ (omega arith) (omega arith)))
 
 pub walk_after-keep-requires : goal.walk_after-keep-requires
 walk_after-keep-requires t c =
-    let many : length c.args.course.done ≡ 4 = search (rules, c.well_formed) in
-    let found = of-move.found_after c.args.reach c.requires.some_step (performed c.args.plan.now.opened.counted c.perform-after.ensures) many c.advance-next.ensures c.walk-found.ensures.finds_from in
+    let found = of-move.found_after c.args.reach c.requires.some_step (performed c.args.plan.now.opened.counted c.perform-after.ensures) c.args.state.now.size c.advance-next.ensures c.walk-found.ensures.finds_from in
     omega (arith, finds-size _ _ _ _ (rw c.in-Ok.is at found), c.requires.room.budget)
 
 pub walk_after-write_before-requires : goal.walk_after-write_before-requires
 walk_after-write_before-requires t c =
-    let many : length c.args.course.done ≡ 4 = search (rules, c.well_formed) in
-    of-move.step_fits c.args.reach c.requires.some_step (performed c.args.plan.now.opened.counted c.perform-after.ensures) many c.advance-next.ensures c.walk-found.ensures.finds_from c.requires.room.buffer
+    of-move.step_fits c.args.reach c.requires.some_step (performed c.args.plan.now.opened.counted c.perform-after.ensures) c.args.state.now.size c.advance-next.ensures c.walk-found.ensures.finds_from c.requires.room.buffer
 
 pub walk_after-after_step-requires : goal.walk_after-after_step-requires
 walk_after-after_step-requires t c =
-    let many : length c.args.course.done ≡ 4 = search (rules, c.well_formed) in
     let m = c.requires.some_step in
-    (omega (arith, of-move.step-length c.args.reach m (performed c.args.plan.now.opened.counted c.perform-after.ensures) many c.advance-next.ensures c.walk-found.ensures.finds_from), omega (arith, of-move.few-chosen m.of))
+    (omega (arith, of-move.step-length c.args.reach m (performed c.args.plan.now.opened.counted c.perform-after.ensures) c.args.state.now.size c.advance-next.ensures c.walk-found.ensures.finds_from), omega (arith, of-move.few-chosen m.of))
 
 pub walk_after-returns-in-Ok : goal.walk_after-returns-in-Ok
 walk_after-returns-in-Ok t c =
-    let many : length c.args.course.done ≡ 4 = search (rules, c.well_formed) in
     record {
-      finds_step = λ m. of-move.step-finds c.args.reach m (performed c.args.plan.now.opened.counted c.perform-after.ensures) many c.advance-next.ensures c.walk-found.ensures.finds_from c.requires.room.buffer (rw c.in-Ok.is refl) (rw c.in-Ok.is refl);
-      remembers = let found = of-move.found_after c.args.reach c.requires.some_step (performed c.args.plan.now.opened.counted c.perform-after.ensures) many c.advance-next.ensures c.walk-found.ensures.finds_from in
-          known.kept-right c.args.reach c.requires.some_step many c.advance-next.ensures c.walk-found.ensures.remembers c.key_of-key.ensures (rw c.in-Ok.is at found) c.keep.ensures;
+      finds_step = λ m. of-move.step-finds c.args.reach m (performed c.args.plan.now.opened.counted c.perform-after.ensures) c.args.state.now.size c.advance-next.ensures c.walk-found.ensures.finds_from c.requires.room.buffer (rw c.in-Ok.is refl) (rw c.in-Ok.is refl);
+      remembers = let found = of-move.found_after c.args.reach c.requires.some_step (performed c.args.plan.now.opened.counted c.perform-after.ensures) c.args.state.now.size c.advance-next.ensures c.walk-found.ensures.finds_from in
+          known.kept-right c.args.reach c.requires.some_step c.args.state.now.size c.advance-next.ensures c.walk-found.ensures.remembers c.key_of-key.ensures (rw c.in-Ok.is at found) c.keep.ensures;
     }
 
 pub walk_after-returns : goal.walk_after-returns
 walk_after-returns t c =
-    let many : length c.args.course.done ≡ 4 = search (rules, c.well_formed) in
     record {
-      finds_step = λ m. of-move.step-finds c.args.reach m (performed c.args.plan.now.opened.counted c.perform-after.ensures) many c.advance-next.ensures c.walk-found.ensures.finds_from c.requires.room.buffer c.write_before.ensures c.after_step.ensures;
+      finds_step = λ m. of-move.step-finds c.args.reach m (performed c.args.plan.now.opened.counted c.perform-after.ensures) c.args.state.now.size c.advance-next.ensures c.walk-found.ensures.finds_from c.requires.room.buffer c.write_before.ensures c.after_step.ensures;
       remembers = c.walk-found.ensures.remembers;
     }
 
@@ -183,28 +178,25 @@ walk_move-is_allowed-requires t c =
 
 pub walk_move-returns-then-not-is_allowed : goal.walk_move-returns-then-not-is_allowed
 walk_move-returns-then-not-is_allowed t c =
-    let many : length c.args.course.done ≡ 4 = search (rules, c.well_formed) in
     record {
-      finds_move = λ m. of-move.move-refused m c.is_allowed.ensures many (c.if-not-is_allowed.true) c.args.reach c.args.trace.now;
+      finds_move = λ m. of-move.move-refused m c.is_allowed.ensures c.args.state.now.size (c.if-not-is_allowed.true) c.args.reach c.args.trace.now;
       remembers = c.requires.room.remembers;
     }
 
 pub walk_move-walk_after-requires : goal.walk_move-walk_after-requires
 walk_move-walk_after-requires t c =
-    let many : length c.args.course.done ≡ 4 = search (rules, c.well_formed) in
-    (omega arith, (of-move.move_taken c.requires.some_move c.is_allowed.ensures many c.if-not-is_allowed.false, c.requires.room))
+    (omega arith, (of-move.move_taken c.requires.some_move c.is_allowed.ensures c.args.state.now.size c.if-not-is_allowed.false, c.requires.room))
 
 pub walk_move-returns : goal.walk_move-returns
 walk_move-returns t c =
-    let many : length c.args.course.done ≡ 4 = search (rules, c.well_formed) in
     record {
-      finds_move = λ m. of-move.move-done c.args.reach m c.is_allowed.ensures many (c.if-not-is_allowed.false) c.walk_after.ensures.finds_step;
+      finds_move = λ m. of-move.move-done c.args.reach m c.is_allowed.ensures c.args.state.now.size (c.if-not-is_allowed.false) c.walk_after.ensures.finds_step;
       remembers = c.walk_after.ensures.remembers;
     }
 
 pub walk_run-returns-then-runs-k : goal.walk_run-returns-then-runs-k
 walk_run-returns-then-runs-k t c = record {
-  finds_run = λ m. of-run.run-over c.args.course c.args.reach m c.args.k c.requires.k_lt_count c.if-runs-k.true c.args.trace.now;
+  finds_run = λ m. of-run.run-over c.args.state.now.course c.args.reach m c.args.k c.requires.k_lt_count c.if-runs-k.true c.args.trace.now;
   remembers = c.requires.room.remembers;
 }
 
@@ -216,26 +208,26 @@ walk_run-event_of-event-requires t c =
 pub walk_run-beneath-under-requires : goal.walk_run-beneath-under-requires
 walk_run-beneath-under-requires t c =
     let m = c.requires.some_clear in
-    (of-run.at-move c.args.course c.args.reach m c.args.k c.requires.k_lt_count c.if-runs-k.false c.event_of-event.ensures).due.term
+    (of-run.at-move c.args.state.now.course c.args.reach m c.args.k c.requires.k_lt_count c.if-runs-k.false c.event_of-event.result c.event_of-event.ensures).due.term
 
 pub walk_run-walk_values-requires : goal.walk_run-walk_values-requires
 walk_run-walk_values-requires t c =
     let m = c.requires.some_clear in
-    (omega (arith, m.clear.here.reached.given.shape.few), (of-run.read_none c.args.course c.args.reach m c.args.k c.requires.k_lt_count c.if-runs-k.false c.event_of-event.ensures c.no_values.ensures c.if-event-eq-READ.true c.beneath-under.ensures, c.requires.room))
+    (omega (arith, m.clear.here.reached.given.shape.few), (of-run.read_none c.args.state.now.course c.args.reach m c.args.k c.requires.k_lt_count c.if-runs-k.false c.event_of-event.result c.event_of-event.ensures c.no_values.ensures (event-is c.event_of-event.result.kind Read c.eq.ensures c.if-eq.true) c.beneath-under.ensures, c.requires.room))
 
-pub walk_run-returns-then-event-eq-READ : goal.walk_run-returns-then-event-eq-READ
-walk_run-returns-then-event-eq-READ t c = record {
-  finds_run = λ m. of-run.run-read c.args.course c.args.reach m c.args.k c.requires.k_lt_count c.if-runs-k.false c.event_of-event.ensures c.no_values.ensures c.if-event-eq-READ.true c.beneath-under.ensures c.walk_values.ensures.finds_choice;
+pub walk_run-returns-then-eq : goal.walk_run-returns-then-eq
+walk_run-returns-then-eq t c = record {
+  finds_run = λ m. of-run.run-read c.args.state.now.course c.args.reach m c.args.k c.requires.k_lt_count c.if-runs-k.false c.event_of-event.result c.event_of-event.ensures c.no_values.ensures (event-is c.event_of-event.result.kind Read c.eq.ensures c.if-eq.true) c.beneath-under.ensures c.walk_values.ensures.finds_choice;
   remembers = c.walk_values.ensures.remembers;
 }
 
 pub walk_run-walk_move-requires : goal.walk_run-walk_move-requires
 walk_run-walk_move-requires t c =
-    (omega arith, (of-run.move-none c.args.course c.args.reach c.requires.some_clear c.args.k c.requires.k_lt_count c.if-runs-k.false c.event_of-event.ensures c.no_values.ensures c.if-event-eq-READ.false, c.requires.room))
+    (omega arith, (of-run.move-none c.args.state.now.course c.args.reach c.requires.some_clear c.args.k c.requires.k_lt_count c.if-runs-k.false c.event_of-event.result c.event_of-event.ensures c.no_values.ensures (event-other c.event_of-event.result.kind Read c.eq.ensures c.if-eq.false), c.requires.room))
 
 pub walk_run-returns : goal.walk_run-returns
 walk_run-returns t c = record {
-  finds_run = λ m. of-run.run-other c.args.course c.args.reach m c.args.k c.requires.k_lt_count c.if-runs-k.false c.event_of-event.ensures c.no_values.ensures c.if-event-eq-READ.false c.walk_move.ensures.finds_move;
+  finds_run = λ m. of-run.run-other c.args.state.now.course c.args.reach m c.args.k c.requires.k_lt_count c.if-runs-k.false c.event_of-event.result c.event_of-event.ensures c.no_values.ensures (event-other c.event_of-event.result.kind Read c.eq.ensures c.if-eq.false) c.walk_move.ensures.finds_move;
   remembers = c.walk_move.ensures.remembers;
 }
 

@@ -29,13 +29,13 @@ decreases-walk_values l = l.reach.depth * 400 + 3 + 2 * (l.plan.now.opened.table
 abbrev pub invariant-walk-loop-k : goal.invariant-walk-loop-k
 invariant-walk-loop-k l =
     (l.trace ≡ l.initial.trace) × (l.count ≤ l.reach.left) × (l.k-end ≤ l.plan.opened.runs.count) × (0 < l.reach.depth)
-    × ((m : SomeState l.plan (state_of l.course l.names l.classes l.marks) l.reach.at) → (broken m.sc m.d ≡ none) × Passed m.sc l.reach.left (entries_from l.plan l.reach.depth m.sc m.d) (runs_from l.plan m.sc (l.reach.depth - 1) m.d l.k-end l.k) l.count)
+    × ((m : SomeState l.plan (state_of l.state.course l.state.names.now l.state.classes.now l.state.marks) l.reach.at) → (broken m.sc m.d ≡ none) × Passed m.sc l.reach.left (entries_from l.plan l.reach.depth m.sc m.d) (runs_from l.plan m.sc (l.reach.depth - 1) m.d l.k-end l.k) l.count)
     × Remembers l.plan l.memory
 
 abbrev pub invariant-walk_values-loop-value : goal.invariant-walk_values-loop-value
 invariant-walk_values-loop-value l =
     (l.trace ≡ l.initial.trace) × (l.count ≤ l.reach.left) × (l.row ≤ l.plan.opened.table.rows)
-    × ((m : SomeChoice l.plan l.course l.own l.names l.classes l.marks l.reach.at l.choice) (unset : of_values.NextFor l.plan.opened.table.bytes.now l.own l.choice l.x) (more : l.x ≡ l.plan.opened.table.rows → ⊥) → of_values.Tried unset l.reach m more l.row l.run l.count)
+    × ((m : SomeChoice l.plan l.state.course l.own l.state.names.now l.state.classes.now l.state.marks l.reach.at l.choice) (unset : of_values.NextFor l.plan.opened.table.bytes.now l.own l.choice l.x) (more : l.x ≡ l.plan.opened.table.rows → ⊥) → of_values.Tried unset l.reach m more l.row l.run l.count)
     × Remembers l.plan l.memory
 
 abbrev pub decreases-walk_values-loop-value : goal.decreases-walk_values-loop-value

@@ -9,6 +9,7 @@ use Rattle.semantics.specs.Runs.{Run, atom_of, atom_at, is_agent}
 use Rattle.semantics.specs.Scenario.{Scenario}
 use Rattle.semantics.specs.State.{Progress, State, Active, active, events_of}
 use Rattle.semantics.proofs.laws.List.{get_elem-below, get_elem-there}
+use Rattle.records.specs.Kinds.{byte_of}
 use Rattle.runs.specs.declared.RunEvent.{RunEvent}
 use Rattle.runs.specs.declared.Runs.{Runs}
 use Rattle.runs.specs.Runs.{EventRead}
@@ -75,15 +76,15 @@ module _ {file t : List ℕ} {n : ℕ} {r : Runs} {sc : Scenario} (given : Given
       (record { index = k; run = here.0; progress = here.1; event = e.0 }, record { is_active = active-from sc d k here.2 here.3 e.1; of_run = here.2; of_event = ap (get_elem? (events_of sc here.0)) done ∙ e.1 })
 
   -- so its next move is as it was read
-  pub coming-move : (a : Active) → Coming a → {e : RunEvent} → EventRead sc a.run a.event e.kind e.own e.peer e.row → NextMove t r.count k e sc d s a
+  pub coming-move : (a : Active) → Coming a → {e : RunEvent} → EventRead sc a.run a.event (byte_of e.kind) e.own e.peer e.row → NextMove t r.count k e sc d s a
   coming-move a coming read = record { rows = given.rows; count = given.runs.count; good = given.good; is_state = state; is_active = coming.is_active; is_event = read }
 
-  pub coming-due : (a : Active) → Coming a → {e : RunEvent} → EventRead sc a.run a.event e.kind e.own e.peer e.row → Due n r.count k e.own e.peer e.row
-  coming-due a coming {e} read =
+  pub coming-due : (a : Active) → Coming a → {kind own peer row : ℕ} → EventRead sc a.run a.event kind own peer row → Due n r.count k own peer row
+  coming-due a coming {own = own} {peer = peer} read =
       let rows-n : length sc.rows ≡ n = ap length given.rows ∙ sym given.shape.count in
       record {
         is_run = low;
-        agent = omega (arith, rows-n, agent-below sc.rows e.own read.own_agent);
-        other = omega (arith, rows-n, agent-below sc.rows e.peer read.peer_agent);
+        agent = omega (arith, rows-n, agent-below sc.rows own read.own_agent);
+        other = omega (arith, rows-n, agent-below sc.rows peer read.peer_agent);
         term = omega (arith, rows-n, read.row_below);
       }

@@ -1,9 +1,9 @@
 -- The next event of a run: its kind, its cells, and arrays that are ready for it. Assumes nothing.
-use Rattle.std.specs.Prelude.{ℕ, zero, suc, ◌+◌, ◌≡◌, refl, Bool, length, get_or, set}
+use Rattle.std.specs.Prelude.{ℕ, suc, ◌+◌, ◌≡◌, Bool, length, get_or, set}
 use Rattle.std.proofs.Common.{add-one, arith, ◌∙◌, subst}
 use Rattle.std.proofs.Math.Path.{sym, ap}
 use mathlib.Core.List.{List, [], ◌++◌, append-nil}
-use Rattle.std.proofs.Math.Option.{some, some-injective, none-ne-some}
+use Rattle.std.proofs.Math.Option.{some, some-injective}
 use Rattle.std.proofs.Math.ListN.{get_elem?}
 use Rattle.semantics.specs.Term.{Atom}
 use Rattle.semantics.specs.Roles.{secrecy, EventKind, send, read, claim, event_kinds}
@@ -97,13 +97,3 @@ module _ {t : List ℕ} {runs k : ℕ} {e : RunEvent} {sc : Scenario} {d : State
         → Ready sc d a vs names classes marks
     unfolding set_after
     grown-ready vs names sets refilled settled = record { sets = sets; arrays = grown-arrays shape next.rows next.count (grows (paired (to_set sc a) vs)) next.is_state.arrays names sets.named refilled settled }
-
--- an event of another kind is a claim
-pub other-kind : {t : List ℕ} {runs k : ℕ} {e : RunEvent} {sc : Scenario} {d : State} {s : CodeState} {a : Active} → NextMove t runs k e sc d s a → (e.kind ≡ 1 → ⊥) → (e.kind ≡ 0 → ⊥) → e.kind ≡ 2
-other-kind {e = e} {a = a} next r z = go e.kind a.event.kind next.is_event.kind r z
-  where
-    go : (b : ℕ) (kind : EventKind) → get_elem? event_kinds b ≡ some kind → (b ≡ 1 → ⊥) → (b ≡ 0 → ⊥) → b ≡ 2
-    go zero kind h r z = absurd (z refl)
-    go (suc zero) kind h r z = absurd (r refl)
-    go (suc (suc zero)) kind h r z = refl
-    go (suc (suc (suc b))) kind h r z = absurd (none-ne-some kind h)

@@ -36,7 +36,7 @@ use Rattle.runs.specs.Runs.{RunsAt, RunAt}
 use Rattle.state.specs.Readings.{SetsOf, sets_in, sets_of, readings}
 use Rattle.state.specs.State.{Given, Arrays, IsState}
 use Rattle.state.specs.laws.Readings.{reading-run}
-use Rattle.state_start.specs.Start.{first_reading, AreAgents, Entered, StartMarks}
+use Rattle.state_start.specs.Start.{first_reading, Entered, StartMarks}
 use Rattle.state.specs.Start.{up_to, Agents, BegunTo}
 
 -- an atom's row is a row of the table
@@ -344,9 +344,6 @@ module _ {file t : List ℕ} {n : ℕ} {r : Runs} {sc : Scenario} (given : Given
 
   pub given-none : Begun 0 (replicate 480 480) (replicate 480 480)
   given-none = begun-none sc.rows given.good.table (length sc.runs) (readings sc (λ k. []))
-
-  pub given-agents : {u : ℕ} {agents : List ℕ} → Agents sc u agents → AreAgents (rows_of t) agents
-  given-agents agents = rw (← given.rows) agents.are
 
   pub given-more : (u : ℕ) (agents names more classes after : List ℕ) → Begun u names classes → Entered (rows_of t) u agents names more → Agents sc u agents
       → Refilled (rows_of t) r.count u more classes after → Begun (u + 1) more after

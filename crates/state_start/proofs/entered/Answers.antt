@@ -1,16 +1,8 @@
 -- `entered` fills in the names of a run. Assumes nothing.
 use native.Mathlib.Omega.{arith}
-use borrow.Author.Rules.{rules}
-use mathlib.Core.Path.{◌≡◌}
-use lib.ListN.{length}
 use Rattle.rows.specs.Rows.{rows_of}
-use Rattle.state_start.specs.laws.Start.{entered-none, entered-more, entered_all}
+use Rattle.state_start.specs.laws.Start.{entered-more, entered_all}
 use Rattle.state_start.proofs.entered.Goals as goal
-
-pub loop-r-init : goal.loop-r-init
-loop-r-init c =
-    let size : length c.args.names ≡ 480 = search rules in
-    entered-none (rows_of c.args.t.now.bytes.now) c.args.u c.args.agents.now c.args.names size
 
 pub loop-r-preserved : goal.loop-r-preserved
 loop-r-preserved c =

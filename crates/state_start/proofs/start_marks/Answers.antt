@@ -1,18 +1,11 @@
 -- `start_marks` marks the intruder constants and the listed rows. Assumes nothing.
 use native.Mathlib.Omega.{arith}
 use Rattle.role_level.specs.laws.Loops.{at_mem}
-use Rattle.state_start.specs.laws.Start.{listed_more, listed-all}
+use Rattle.state_start.specs.laws.Start.{listed_more}
 use Rattle.state_start.proofs.start_marks.Goals as goal
 
 pub loop-r-init : goal.loop-r-init
 loop-r-init c = c.intruder_marks-marks.ensures
-
-pub bounds-marks-from : goal.bounds-marks-from
-bounds-marks-from c =
-    let l = c.requires _ (at_mem c.args.list.now c.loop-r.r-index c.loop-r-test.true) in
-    let few = c.args.t.now.shape.few in
-    let size = c.loop-r.invariant.size in
-    omega (arith, l, c.from.ensures, few, size)
 
 pub loop-r-preserved : goal.loop-r-preserved
 loop-r-preserved c =
@@ -20,7 +13,3 @@ loop-r-preserved c =
     let low = c.loop-r-test.true in
     let l = c.requires _ (at_mem c.args.list.now i low) in
     listed_more c.args.t.now.bytes.now c.args.t.now.rows c.args.list.now i c.loop-r.marks c.from.ensures low (omega (arith, l, c.from.ensures)) c.args.t.now.shape.few c.loop-r.invariant
-
-pub returns : goal.returns
-returns c =
-    listed-all c.args.t.now.bytes.now c.args.t.now.rows c.args.list.now c.loop-r.r-index c.loop-r.marks c.loop-r-test.false c.loop-r.invariant

@@ -1,6 +1,6 @@
 -- What a scenario starts with: names row by row, and marks of what is known. Assumes nothing.
 use Rattle.std.specs.Prelude.{ℕ, ◌+◌, ◌<◌, ◌≤◌, ◌≡◌, refl, Bool, true, false, List, [], ◌∷◌, ◌++◌, length, get_or, set, take, replicate}
-use Rattle.std.proofs.Common.{eq-or-lt_of_le, add-one, arith, sym, ap, ◌∙◌, subst, inl, inr, ⊎_elim, length-set, take-suc, take_all, get_or-set_same, get_or-set_other}
+use Rattle.std.proofs.Common.{eq-or-lt_of_le, add-one, arith, sym, ap, ◌∙◌, subst, inl, inr, ⊎_elim, length-set, take-suc, get_or-set_same, get_or-set_other}
 use Rattle.std.proofs.Math.Decide.{dec_lt}
 use Rattle.std.proofs.lemmas.Bool.{false≢true}
 use mathlib.Core.List.Memᴰ
@@ -25,9 +25,6 @@ pub record EnteredTo (rows : List Row) (u : ℕ) (agents : List ℕ) (before : L
   pub size : length names ≡ cell_count
   pub here : (x : ℕ) → x < r → FirstName rows u agents x (get_or names (cell_of x u) absent)
   pub elsewhere : (x w : ℕ) → x < 96 → (w ≡ u → ⊥) → get_or names (cell_of x w) absent ≡ get_or before (cell_of x w) absent
-
-pub entered-none : (rows : List Row) (u : ℕ) (agents names : List ℕ) → length names ≡ cell_count → EnteredTo rows u agents names 0 names
-entered-none rows u agents names size = record { size = size; here = λ x l. absurd (omega arith); elsewhere = λ x w l d. refl }
 
 pub entered-more : (rows : List Row) (u : ℕ) (agents before names : List ℕ) (r name : ℕ) {c : ℕ} → r < 96 → c ≡ cell_of r u → c < cell_count → EnteredTo rows u agents before r names → FirstName rows u agents r name
     → EnteredTo rows u agents before (r + 1) (set names c name)
@@ -74,14 +71,6 @@ module _ (bytes : List ℕ) (n r : ℕ) (marks : List Bool) (low : r < n) (few :
     onto = λ x l h. ⊎_elim (λ (e : x ≡ r). absurd (k (rw (← e) h))) (λ (m : x < r). done.onto x m h) (eq-or-lt_of_le (omega arith));
   })
 
-pub intruders-all : (bytes : List ℕ) (n r : ℕ) (marks : List Bool) → n ≤ r → IntrudersTo bytes n r marks → StartMarks bytes n [] marks
-intruders-all bytes n r marks l done = record {
-  size = done.size;
-  from = λ c o. let w = done.from c o in (w.0, inl w.1);
-  intruders = λ x h k. done.onto x (omega arith) k;
-  listed = λ x m. absurd (Memᴰ.not-nil m);
-}
-
 taken_more : (list : List ℕ) (i : ℕ) {c : ℕ} → c ≡ get_or list i 0 → i < length list → take (i + 1) list ≡ take i list ++ (c ∷ [])
 taken_more list i e l = rw (add-one i, take-suc list i 0 l, e) refl
 
@@ -94,6 +83,3 @@ listed_more bytes n list i marks {c} e l low few done = subst (λ (taken : List 
   intruders = λ x h k. set_keeps marks c x (done.intruders x h k);
   listed = λ x m. ⊎_elim (λ m'. set_keeps marks c x (done.listed x m')) (λ m'. let f : x ≡ c = Memᴰ.eq_of_singleton m' in rw f (get_or-set_same marks c true false (omega (arith, done.size)))) (Memᴰ.append_cases (take i list) m);
 })
-
-pub listed-all : (bytes : List ℕ) (n : ℕ) (list : List ℕ) (i : ℕ) (marks : List Bool) → length list ≤ i → StartMarks bytes n (take i list) marks → StartMarks bytes n list marks
-listed-all bytes n list i marks l done = rw take_all at done

@@ -1,4 +1,5 @@
 -- `table::no_pair` meets its contract: a row below row i is a pair by its kind. Assumes nothing.
+use Rattle.std.proofs.Common.{rules, tests, refl}
 use mathlib.Core.Path.{sym, ap, ◌∙◌}
 use borrow.Author.Tests.{le-ltb}
 use Rattle.semantics.specs.Table.{no_pair}
@@ -10,4 +11,4 @@ returns-else-a-i c = le-ltb _ _ c.if-a-i.false ∙ sym (ap no_pair (below_none c
 
 pub returns-then-a-i : goal.returns-then-a-i
 returns-then-a-i c =
-    sym (below-pair c.args.t.now c.args.i c.requires.0 c.requires.1 c.args.a c.if-a-i.true c.kind_of.ensures.0)
+    search (rules, tests) ∙ sym (below-pair c.args.t.now c.args.i c.requires.0 c.requires.1 c.args.a c.if-a-i.true refl)

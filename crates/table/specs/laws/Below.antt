@@ -1,13 +1,15 @@
 -- The rows below row i of some bytes, where those before it are a table: how many there are, and what their bytes say of them. Assumes nothing.
-use Rattle.std.specs.Prelude.{ℕ, suc, ◌+◌, ◌*◌, ◌≤◌, ◌<◌, ◌≡◌, refl, Bool, true, false, not, List, [], ◌∷◌, ltb, eqb, length, get_or, take}
-use Rattle.std.proofs.Common.{not-suc-le-zero, le_of_suc-le-suc, arith, length-take-le, get_or-take, ltb-true, ltb-false}
+use Rattle.std.specs.Prelude.{None, Some, ℕ, suc, ◌+◌, ◌*◌, ◌≤◌, ◌<◌, ◌≡◌, refl, Bool, true, false, not, List, [], ◌∷◌, ltb, eqb, length, get_or, take}
+use Rattle.std.proofs.Common.{not-suc-le-zero, le_of_suc-le-suc, arith, sym, ◌∙◌, length-take-le, get_or-take, ltb-true, ltb-false}
 use Rattle.std.proofs.Math.Option.{none, some}
 use Rattle.std.proofs.Math.ListN.{get_elem?}
 use Rattle.semantics.specs.Basic.{present}
 use Rattle.semantics.specs.Table.{Row, agent_like, no_pair}
 use Rattle.semantics.specs.Encoding.{RowBytes}
 use Rattle.semantics.proofs.laws.List.{get_elem-there}
+use Rattle.rows.specs.Kinds.{kind_as}
 use Rattle.rows.specs.Rows.{IsTable, rows_of}
+use Rattle.rows.specs.laws.Kinds.{row-kind}
 use Rattle.rows.specs.laws.Table.{table-length, row_here}
 use Rattle.rows.specs.laws.Decode.{agent_kind, decodes-agent, decodes-pair}
 
@@ -44,6 +46,13 @@ module _ (t : List ℕ) (i : ℕ) (within : 3 * i ≤ length t) (table : IsTable
     below_row l =
         let w = row_here (take (3 * i) t) table a (omega (arith, below_length)) in
         (w.0, w.1, rw (get_or-take (3 * i) t (3 * a) 0 (omega arith), get_or-take (3 * i) t (3 * a + 1) 0 (omega arith), get_or-take (3 * i) t (3 * a + 2) 0 (omega arith)) at w.2)
+
+    -- its byte says a kind
+    pub below-unsaid : a < i → kind_as (get_or t (3 * a) 0) ≡ None → ⊥
+    below-unsaid l unsaid =
+        let w = row-kind (below_row l).2 in
+        let q : None ≡ Some w.0 = sym unsaid ∙ w.1 in
+        cc
 
     -- whether it is agent-like
     pub below-agent : a < i → {k : ℕ} → k ≡ get_or t (3 * a) 0 → agent_like (get_elem? (rows_below t i) a) ≡ agent_kind k (get_or t (3 * a + 2) 0)

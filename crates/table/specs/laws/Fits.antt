@@ -2,16 +2,17 @@
 use Prim.Native.Nat.{ℕ, zero, suc, ◌+◌, ◌*◌, ◌≤◌, ◌<◌}
 use Rattle.std.proofs.Common.{eq-or-lt_of_le, inl, inr}
 use native.Mathlib.Omega.{arith}
-use Rattle.std.specs.Prelude.{◌≡◌, ◌⊎◌, Bool, List, leb, eqb, get_or}
+use Rattle.std.specs.Prelude.{None, Some, ◌≡◌, ◌⊎◌, Bool, List, leb, eqb, get_or}
 use Rattle.std.proofs.Math.Path.{refl, sym}
 use Rattle.std.proofs.Math.Logic.{⊎_elim}
 use Rattle.std.proofs.Math.Bool.{true, false}
-use Rattle.std.proofs.Math.Option.{none}
-use Rattle.std.proofs.Math.ListN.{get_elem?, get_or-eq_default}
+use Rattle.std.proofs.Math.ListN.{get_elem?}
 use borrow.Author.Tests.{ne_eqb, lt-leb, lt-ltb, le-ltb}
 use Rattle.semantics.specs.Basic.{provided, present}
 use Rattle.semantics.specs.Term.{Atom, trusted, untrusted, global, intruder, role, local}
-use Rattle.semantics.specs.Table.{Row, atomic, decode, kinds, agent_like, no_pair, fits}
+use Rattle.semantics.specs.Table.{Row, atomic, decode, agent_like, no_pair, fits}
+use Rattle.rows.specs.declared.Kind.{Kind}
+use Rattle.rows.specs.Kinds.{kind_as}
 use Rattle.rows.specs.Rows.{decoded_at}
 use Rattle.table.specs.Check.{fits_decoded}
 
@@ -19,6 +20,10 @@ use Rattle.table.specs.Check.{fits_decoded}
 pub decoded-as : (t : List ℕ) (i : ℕ) {k l r : ℕ} → k ≡ get_or t (3 * i) 0 → l ≡ get_or t (3 * i + 1) 0 → r ≡ get_or t (3 * i + 2) 0 → decoded_at t i ≡ decode k l r
 unfolding decoded_at
 decoded-as t i e f g = rw (e, f, g)
+
+-- a byte does not say a kind and none
+said : {k : Kind} → Some k ≡ None → ⊥
+said e = cc
 
 module _ (below : List Row) where
   -- an atom fits wherever it is decoded
@@ -45,12 +50,23 @@ module _ (below : List Row) where
   fits-variable l (suc zero) = refl
   fits-variable l (suc (suc r)) = sym (lt-leb (suc (suc r)) 1 (omega arith))
 
-  -- no row has a kind beyond 12, or 0
-  pub fits-none : (k l r : ℕ) → (k < 1) ⊎ (12 < k) → fits_decoded below (decode k l r) ≡ false
+  -- no row has a byte that says no kind
+  pub fits-none : (k l r : ℕ) → kind_as k ≡ None → fits_decoded below (decode k l r) ≡ false
   unfolding decode
-  fits-none zero l r w = refl
-  fits-none (suc k) l r (inl h) = absurd (omega arith)
-  fits-none (suc k) l r (inr h) = rw (get_or-eq_default kinds (λ l r. none) {n = suc k} (omega arith))
+  fits-none zero l r e = refl
+  fits-none (suc zero) l r e = absurd (said e)
+  fits-none (suc (suc zero)) l r e = absurd (said e)
+  fits-none (suc (suc (suc zero))) l r e = absurd (said e)
+  fits-none (suc (suc (suc (suc zero)))) l r e = absurd (said e)
+  fits-none (suc (suc (suc (suc (suc zero))))) l r e = absurd (said e)
+  fits-none (suc (suc (suc (suc (suc (suc zero)))))) l r e = absurd (said e)
+  fits-none (suc (suc (suc (suc (suc (suc (suc zero))))))) l r e = absurd (said e)
+  fits-none (suc (suc (suc (suc (suc (suc (suc (suc zero)))))))) l r e = absurd (said e)
+  fits-none (suc (suc (suc (suc (suc (suc (suc (suc (suc zero))))))))) l r e = absurd (said e)
+  fits-none (suc (suc (suc (suc (suc (suc (suc (suc (suc (suc zero)))))))))) l r e = absurd (said e)
+  fits-none (suc (suc (suc (suc (suc (suc (suc (suc (suc (suc (suc zero))))))))))) l r e = absurd (said e)
+  fits-none (suc (suc (suc (suc (suc (suc (suc (suc (suc (suc (suc (suc zero)))))))))))) l r e = absurd (said e)
+  fits-none (suc (suc (suc (suc (suc (suc (suc (suc (suc (suc (suc (suc (suc k))))))))))))) l r e = refl
 
   module _ (l r : ℕ) where
     -- a role fits with a number below 4 and a right byte 0

@@ -8,6 +8,6 @@ use Rattle.tejorva.proofs.tejorva_search_short.Goals as goal
 
 pub returns : goal.returns
 returns c = record {
-  value = c.verdict.ensures ∙ ap packed_searching c.search_short.ensures.value ∙ packed-searched (searched_in short c.args.file.now c.args.trace.now) (searched-known short c.args.file.now c.args.trace.now);
-  trace_after = c.search_short.ensures.trace_after;
+  value = c.verdict.ensures ∙ ap packed_searching c.search_in.ensures.value ∙ packed-searched (searched_in short c.args.file.now c.args.trace.now) (searched-known short c.args.file.now c.args.trace.now);
+  trace_after = c.search_in.ensures.trace_after;
 }

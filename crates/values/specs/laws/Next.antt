@@ -18,6 +18,7 @@ use Rattle.rows.specs.Rows.{rows_of, Shape}
 use Rattle.rows.specs.laws.Decode.{variable-six}
 use Rattle.cells.specs.Cells.{cell_of, absent}
 use Rattle.cells.specs.laws.Cells.{row-there, row-decodes}
+use Rattle.records.specs.Kinds.{byte_of}
 use Rattle.runs.specs.declared.RunEvent.{RunEvent}
 use Rattle.state.specs.declared.State.{State as CodeState}
 use Rattle.state.specs.State.{NextMove}
@@ -57,9 +58,9 @@ module _ {t : List ℕ} {runs k : ℕ} {e : RunEvent} {sc : Scenario} {d : State
       go (no_next z q) = absurd (more (omega (arith, ap length next.rows)))
 
   -- an event that is no read sets nothing
-  pub nothing-set : (e.kind ≡ 1 → ⊥) → to_set sc a ≡ []
+  pub nothing-set : (byte_of e.kind ≡ 1 → ⊥) → to_set sc a ≡ []
   unfolding new_variables
-  nothing-set kind = go a.event.kind e.kind next.is_event.kind kind
+  nothing-set kind = go a.event.kind (byte_of e.kind) next.is_event.kind kind
     where
       go : (kind : EventKind) (b : ℕ) → get_elem? event_kinds b ≡ some kind → (b ≡ 1 → ⊥) → new_variables sc.rows a.progress.values kind a.event.row ≡ []
       go send b h n = refl

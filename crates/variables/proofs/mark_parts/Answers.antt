@@ -4,13 +4,13 @@ use Rattle.cells.specs.laws.Cells.{left-small, second-small}
 use Rattle.variables.specs.laws.Beneath.{closed-unmarked, closed-atom, closed_parts}
 use native.Mathlib.Omega.{arith}
 use Rattle.variables.proofs.mark_parts.Goals as goal
-use Rattle.variables.proofs.mark_parts.Goals.{then-not-below-r-via-then-not-below-r, then-not-below-r-via-else-not-below-r+then-kind_of-lt-FIRST_MADE}
+use Rattle.variables.proofs.mark_parts.Goals.{then-not-below-r-via-then-not-below-r, then-not-below-r-via-else-not-below-r+then-not-is_made}
 
 pub returns-then-not-below-r : goal.returns-then-not-below-r
 returns-then-not-below-r c = elim c.then-not-below-r.branch [
   | then-not-below-r-via-then-not-below-r w ↦ closed-unmarked c.args.t.now.bytes.now c.args.t.now.rows (shape-sized c.args.t.now.shape) c.args.r c.requires c.args.below.now w.if-not-below-r.true
-  | then-not-below-r-via-else-not-below-r+then-kind_of-lt-FIRST_MADE w ↦
-      closed-atom c.args.t.now.bytes.now c.args.t.now.rows (shape-sized c.args.t.now.shape) c.args.r c.requires c.args.below.now (rw w.kind_of.ensures.0 at w.if-kind_of-lt-FIRST_MADE.true)
+  | then-not-below-r-via-else-not-below-r+then-not-is_made w ↦
+      closed-atom c.args.t.now.bytes.now c.args.t.now.rows (shape-sized c.args.t.now.shape) c.args.r c.requires c.args.below.now (rw w.kind_of.ensures at (w.is_made.ensures.1 w.if-not-is_made.true))
 ]
 
 pub bounds-below-left_of : goal.bounds-below-left_of

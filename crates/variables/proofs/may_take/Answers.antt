@@ -11,10 +11,10 @@ returns-then-t-r c =
 pub returns-then-first-w : goal.returns-then-first-w
 returns-then-first-w c =
     λ a e. may-counted c.args.t.now.bytes.now c.args.t.now.rows c.args.t.now.runs c.args.t.now.shape c.args.x c.requires.0 c.requires.1 c.args.r c.args.w e c.if-t-r.false
-    (first_read c.args.t.now.bytes.now c.args.t.now.rows c.args.t.now.runs c.args.t.now.shape c.args.x c.requires.0 c.args.r c.kind_of-kind.ensures.0 c.first_run-first.ensures.0)
-    (count-read c.args.t.now.bytes.now c.args.t.now.rows c.args.t.now.runs c.args.t.now.shape c.args.x c.requires.0 c.args.r c.kind_of-kind.ensures.0 c.is_fresh.ensures c.run_count.ensures.0) c.if-first-w.true refl
+    (first_read c.args.t.now.bytes.now c.args.t.now.rows c.args.t.now.runs c.args.t.now.shape c.args.x c.requires.0 c.args.r c.kind_of-kind.ensures c.first_run-first.ensures.0)
+    (count-read c.args.t.now.bytes.now c.args.t.now.rows c.args.t.now.runs c.args.t.now.shape c.args.x c.requires.0 c.args.r c.kind_of-kind.ensures c.is_fresh.ensures c.run_count.ensures.0) c.if-first-w.true refl
 
 pub returns-else-first-w : goal.returns-else-first-w
 returns-else-first-w c =
     λ a e. rw (lt-leb c.first_run-first.result c.args.w c.if-first-w.false) (may-below c.args.t.now.bytes.now c.args.t.now.rows c.args.t.now.runs c.args.t.now.shape c.args.x c.requires.0 c.requires.1 c.args.r c.args.w e
-    (first_read c.args.t.now.bytes.now c.args.t.now.rows c.args.t.now.runs c.args.t.now.shape c.args.x c.requires.0 c.args.r c.kind_of-kind.ensures.0 c.first_run-first.ensures.0) c.if-first-w.false)
+    (first_read c.args.t.now.bytes.now c.args.t.now.rows c.args.t.now.runs c.args.t.now.shape c.args.x c.requires.0 c.args.r c.kind_of-kind.ensures c.first_run-first.ensures.0) c.if-first-w.false)

@@ -1,17 +1,16 @@
 -- The rows of a table's variables, one after the other. Assumes nothing.
-use Rattle.std.specs.Prelude.{ℕ, zero, suc, ◌+◌, ◌*◌, ◌<◌, ◌≤◌, ◌≡◌, refl, Bool, true, false, List, [], ◌∷◌, T, length, get_or, take, set, replicate}
+use Rattle.std.specs.Prelude.{ℕ, zero, suc, ◌+◌, ◌*◌, ◌<◌, ◌≤◌, ◌≡◌, refl, Bool, true, false, List, [], ◌∷◌, T, length, get_or, take, set}
 use Rattle.std.proofs.Math.Decide.{ℕ_discrete, dec_lt}
 use Rattle.std.proofs.Common.{add-one, arith, below_more, sym, ap, ◌∙◌, length-set, get_or-set_same, get_or-set_other}
 use Rattle.std.proofs.Math.Option.{some, some-injective, none-ne-some}
 use Rattle.std.proofs.Math.ListN.{get_elem?, get_or-eq_default}
-use Rattle.std.proofs.lemmas.List.{get_or-replicate}
 use Rattle.semantics.specs.Basic.{keep}
 use Rattle.semantics.specs.Table.{variable_row}
 use Rattle.semantics.proofs.laws.List.{keep-cons, get_elem-there}
 use Rattle.rows.specs.Rows.{rows_of, Sized}
 use Rattle.rows.specs.laws.Decode.{six-variable}
 use Rattle.rows.specs.laws.Table.{table-good, table-row}
-use Rattle.variables.specs.Variables.{In, Among}
+use Rattle.variables.specs.Variables.{In}
 
 -- how many of the first rows are variables
 abbrev pub variables_below : List ℕ → ℕ → ℕ
@@ -69,18 +68,6 @@ pub record GatheredRows (t : List ℕ) (n : ℕ) (wanted : List Bool) (rows : Li
   pub each : (i : ℕ) → i < count → In wanted (get_or rows i 0)
   pub all : (y : ℕ) → y < x → get_or t (3 * y) 0 ≡ 6 → In wanted y → (i : ℕ) × (i < count) × (get_or rows i 0 ≡ y)
 
--- no row
-pub gathered_none : (t : List ℕ) (n : ℕ) (wanted : List Bool) → GatheredRows t n wanted (replicate 8 0) 0 0
-gathered_none t n wanted = record {
-  size = refl;
-  few = omega arith;
-  small = λ i l. omega (arith, get_or-replicate {A = ℕ} 8 i 0 0 l);
-  row = λ i l. absurd (omega arith);
-  kind = λ i l. absurd (omega arith);
-  each = λ i l. absurd (omega arith);
-  all = λ y l. absurd (omega arith);
-}
-
 module _ (t : List ℕ) (n : ℕ) (sized : Sized t n) where
   -- there is a place for one more variable
   pub place-left : {count x : ℕ} → count ≤ variables_below t x → x < n → get_or t (3 * x) 0 ≡ 6 → count + 1 ≤ variables_below t (x + 1) × (count < 8)
@@ -134,13 +121,3 @@ module _ (t : List ℕ) (n : ℕ) (sized : Sized t n) where
         go : Dec (j < 8) → get_or rows j 0 < 96
         go (yes l) = g.small j l
         go (no h) = omega (arith, get_or-eq_default rows 0 {n = j} (omega (arith, g.size)))
-
-    -- all rows
-    pub gathered-all : n ≤ x → (few : count ≤ 8) (low : (j : ℕ) → get_or rows j 0 < 96) → Among t n wanted (record { rows = rows; count = count; few = few; low = low })
-    gathered-all l few low = record {
-      low = record { few = few; row = g.row; kind = g.kind };
-      size = g.size;
-      small = g.small;
-      each = g.each;
-      all = λ y h. g.all y (omega arith);
-    }

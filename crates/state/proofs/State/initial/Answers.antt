@@ -4,7 +4,7 @@ use Prim.Native.Nat.{◌+◌}
 use mathlib.Core.Path.{refl}
 use Rattle.semantics.specs.Scenario.{Scenario}
 use Rattle.state.specs.State.{Given}
-use Rattle.state.specs.laws.Start.{Begun, given-none, given-agents, given-more, given-listed, given-start}
+use Rattle.state.specs.laws.Start.{Begun, given-none, given-more, given-listed, given-start}
 use Rattle.state.proofs.State.initial.Goals as goal
 
 pub loop-u-init : goal.loop-u-init
@@ -14,11 +14,6 @@ pub agents_of-agents-requires : goal.agents_of-agents-requires
 agents_of-agents-requires c =
     let given = c.requires.1.0 in
     (c.requires.0, (given.runs, (omega arith, given.size)))
-
-pub entered-names-requires : goal.entered-names-requires
-entered-names-requires c =
-    let given = c.requires.1.0 in
-    (omega (arith, given.runs.few, c.loop-u-test.true), given-agents given (c.agents_of-agents.ensures c.requires.0 given.runs given.good))
 
 pub loop-u-preserved : goal.loop-u-preserved
 loop-u-preserved c =
