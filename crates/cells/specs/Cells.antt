@@ -1,5 +1,6 @@
 -- Cells, each a row in a run; their values; and the look-up of a class. Assumes nothing.
-use Rattle.std.specs.Prelude.{ℕ, ◌+◌, ◌*◌, ◌<◌, ◌≤◌, ◌≡◌, Bool, true, false, cond, ◌&&◌, List, T, ltb, eqb, length, get_or}
+use Rattle.std.specs.Prelude.{ℕ, ◌+◌, ◌*◌, ◌<◌, ◌≤◌, ◌≡◌, ◌⊎◌, ◌↔◌, Bool, true, false, cond, ◌&&◌, List, T, ltb, eqb, length, get_or}
+use mathlib.Core.List.{Memᴰ}
 use Rattle.std.proofs.Math.Option.{Option}
 use Rattle.semantics.specs.Term.{Atom, trusted, untrusted, global, intruder, role, variable, local, Term}
 use Rattle.semantics.specs.Table.{Row}
@@ -38,6 +39,15 @@ Canonical (intruder n) w = w ≡ 0
 Canonical (role i) w = w ≡ 0
 Canonical (variable n t) w = w ≡ 0
 Canonical (local n v) w = Unit {0}
+
+-- every listed row is one that a table may have
+abbrev pub RowsLow : List ℕ → Type 0
+RowsLow list = (r : ℕ) → Memᴰ r list → r < 96
+
+-- marks that stand where they stood before, and at the listed rows in run 0
+pub record WithListed (list : List ℕ) (before marks : List Bool) : Type 0 where
+  pub size : length marks ≡ cell_count
+  pub each : (c : ℕ) → (get_or marks c false ≡ true) ↔ ((get_or before c false ≡ true) ⊎ Memᴰ c list)
 
 -- the second part of a row of kind 8 to 12; a key of one agent has that agent twice
 abbrev pub second_of : List ℕ → ℕ → ℕ

@@ -1,2 +1,3 @@
 -- The laws of cells, with their proofs.
 pub mod Cells
+pub mod Listed

@@ -1,9 +1,9 @@
 // Cells, each a row in a run, and the look-up of a class by the classes of its parts.
 #![tactic(auto)]
 
-ghost use Rattle.std.specs.Prelude.{◌≡◌, ℕ, ◌+◌, ◌*◌, ◌<◌, ◌≤◌, length, get_or, MatchOption};
+ghost use Rattle.std.specs.Prelude.{◌≡◌, ℕ, ◌+◌, ◌*◌, ◌/◌, ◌%◌, ◌<◌, ◌≤◌, length, get_or, MatchOption};
 ghost use Rattle.rows.specs.Kinds.{number_of};
-ghost use Rattle.cells.specs.Cells.{cell_of, cell_count, absent, second_of, same_parts, Tells, Matches, Found, FoundInRow};
+ghost use Rattle.cells.specs.Cells.{cell_of, cell_count, absent, second_of, same_parts, RowsLow, WithListed, Tells, Matches, Found, FoundInRow};
 
 use rows::{Kind, Table};
 
@@ -41,6 +41,24 @@ pub fn cell(r: usize, u: usize) -> usize
     ensures { (result ≡ cell_of r u) × (result < cell_count) }
 {
     u * 96 + r
+}
+
+// The row and the run of a cell; of a class, those of the cell that gives it its number.
+pub fn place_of(c: usize) -> (usize, usize)
+    ensures { (result.0 ≡ c % 96) × (result.1 ≡ c / 96) }
+{
+    (c % 96, c / 96)
+}
+
+// The marks with those of the listed rows, in run 0.
+pub fn with_listed(mut marks: Marks, list: &[u8]) -> Marks
+    requires { RowsLow list.now }
+    ensures { WithListed list.now marks result }
+{
+    for &r in list {
+        marks[usize::from(r)] = true;
+    }
+    marks
 }
 
 // The second part of a row of kind 8 to 12; a key of one agent has that agent twice.

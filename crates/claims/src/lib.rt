@@ -20,7 +20,7 @@ fn claims_derivable(file: &[u8], r: Runs, marks: &Marks, k: usize, j: usize) -> 
     requires { (sc : Scenario) × (RunsAt file.now sc r × (Guarantee sc × (k < r.count))) }
     ensures { AnswersEvent file.now r marks.now k j result }
 {
-    if r.events[k] <= j {
+    if r.runs[k].events <= j {
         return false;
     }
     let e = runs::event_of(file, r, k, j);

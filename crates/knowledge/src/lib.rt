@@ -97,8 +97,7 @@ pub fn inverse_of(kind: Kind) -> Option<Kind>
 fn opens(marks: &Marks, t: &Table, classes: &Classes, key: u16) -> bool
     ensures { Opening t.now.bytes.now t.now.rows t.now.runs classes.now marks.now key result }
 {
-    let x = usize::from(key) % 96;
-    let u = usize::from(key) / 96;
+    let (x, u) = cells::place_of(usize::from(key));
     if t.rows <= x || t.runs < u {
         return false;
     }

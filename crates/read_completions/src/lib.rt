@@ -21,7 +21,7 @@ fn needs_at(pattern: &Pattern, dom: &Domains, r: usize, c: usize) -> Option<[u16
     ensures { NeedsAt pattern.now dom.now r c result }
 {
     let t = &pattern.scope.table;
-    let y = c % 96;
+    let (y, _) = cells::place_of(c);
     let class = pattern.classes[c];
     if t.rows <= y || usize::from(class) != c || t.kind_of(y) != t.kind_of(r) {
         return None;

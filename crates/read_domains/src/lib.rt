@@ -26,7 +26,7 @@ fn add_value(set: &mut ClassSet, classes: &Classes, marks: Option<&Marks>, c: us
             return;
         }
     }
-    let class = knowledge::class_at(classes, c % 96, c / 96);
+    let class = classes[c];
     if class < Cells::ABSENT {
         set[usize::from(class)] = true;
     }
@@ -39,7 +39,8 @@ fn values_of(classes: &Classes, marks: Option<&Marks>, scope: &Scope, q: usize) 
 {
     let mut set = [false; Cells::COUNT];
     for c in 0..Cells::COUNT {
-        if variables::may_take(&scope.table, q, c % 96, c / 96) {
+        let (y, w) = cells::place_of(c);
+        if variables::may_take(&scope.table, q, y, w) {
             add_value(&mut set, classes, marks, c);
         }
     }

@@ -59,8 +59,7 @@ fn follow(need: &mut [u16; 96], classes: &Classes, scope: &Scope, q: usize) -> b
     if Cells::ABSENT <= class || !kind.is_made() {
         return true;
     }
-    let y = usize::from(class) % 96;
-    let w = usize::from(class) / 96;
+    let (y, w) = cells::place_of(usize::from(class));
     if t.rows <= y || t.runs < w || t.kind_of(y) != kind {
         return false;
     }

@@ -58,7 +58,7 @@ pub fn step(opened: &Opened, s: State, trace: &[u8]) -> Option<Stepped>
     }
     let k = u - 1;
     let j = s.done[k];
-    if r.events[k] <= j {
+    if r.runs[k].events <= j {
         return None;
     }
     let e = runs::event_of(opened.file, r, k, j);

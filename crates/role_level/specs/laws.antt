@@ -1,3 +1,2 @@
 -- The laws of role level, with their proofs.
-pub mod Loops
 pub mod RoleLevel

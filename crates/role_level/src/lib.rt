@@ -21,11 +21,7 @@ fn listed_marks(t: &Table, list: &[u8]) -> Marks
     requires { ListedBelow t.now.rows list.now }
     ensures { ListedMarks t.now.rows list.now result }
 {
-    let mut marks = [false; 480];
-    for &r in list {
-        marks[usize::from(r)] = true;
-    }
-    marks
+    cells::with_listed([false; Cells::COUNT], list)
 }
 
 // The classes of a table's rows.

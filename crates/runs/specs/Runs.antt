@@ -10,6 +10,7 @@ use Rattle.semantics.specs.Guarantee.{Guarantee}
 use Rattle.semantics.specs.State.{events_of}
 use Rattle.rows.specs.Rows.{rows_of}
 use Rattle.records.specs.Records.{event_at}
+use Rattle.runs.specs.declared.RunPlace.{RunPlace}
 use Rattle.runs.specs.declared.Runs.{Runs}
 use Rattle.records.specs.Kinds.{byte_of}
 use Rattle.runs.specs.declared.RunEvent.{RunEvent}
@@ -24,14 +25,22 @@ pub record RunAt (file : List ℕ) (sc : Scenario) (run : Run) (start first even
   pub events_inside : first + 4 * events ≤ length file
   pub each : (j : ℕ) → j < events → get_elem? (events_of sc run) j ≡ event_at file (first + 4 * j) (first + 4 * j)
 
+-- the place of no run
+abbrev pub no_place : RunPlace
+no_place = record { start = 0; first = 0; events = 0 }
+
+-- where run k stands
+abbrev pub run_at : Runs → ℕ → RunPlace
+run_at r k = get_or r.runs k no_place
+
 -- the runs of a scenario, and how many there are
 pub record RunsAt (file : List ℕ) (sc : Scenario) (r : Runs) : Type 0 where
   pub count : r.count ≡ length sc.runs
   pub few : r.count ≤ 4
   pub roles : r.roles ≡ length sc.roles
   pub few_roles : r.roles ≤ 4
-  pub each : (k : ℕ) (run : Run) → get_elem? sc.runs k ≡ some run → RunAt file sc run (get_or r.starts k 0) (get_or r.firsts k 0) (get_or r.events k 0)
-  pub small : (k : ℕ) → k < 4 → get_or r.events k 0 ≤ 8
+  pub each : (k : ℕ) (run : Run) → get_elem? sc.runs k ≡ some run → RunAt file sc run (run_at r k).start (run_at r k).first (run_at r k).events
+  pub small : (k : ℕ) → k < 4 → (run_at r k).events ≤ 8
 
 -- An event as the code reads it: the kind byte k, the agents' rows a of the run's own role and b of the peer, and the term's row r.
 pub record EventRead (sc : Scenario) (run : Run) (e : Event) (k a b r : ℕ) : Type 0 where

@@ -8,20 +8,26 @@ ghost use Rattle.semantics.specs.Guarantee.{Guarantee};
 ghost use Rattle.semantics.specs.Scenario.{Scenario};
 ghost use Rattle.rows.specs.Rows.{rows_of};
 ghost use Rattle.answers.specs.Answers.{scenario_in, Accepts};
-ghost use Rattle.runs.specs.Runs.{RunsAt, IsRun, AgentsAt, FindsEvents, ReadsEvent, TellsTrusted};
+ghost use Rattle.runs.specs.Runs.{RunsAt, IsRun, AgentsAt, FindsEvents, ReadsEvent, TellsTrusted, run_at};
 
 use answers::Layout;
 use records::EventKind;
 use rows::Table;
 
-// Where the runs stand: how many, how many agents each names; for each the offset of its record, that of its role's first event, and how many events it has.
+// Where a run stands: the offset of its record, that of its role's first event, and how many events it has.
+#[derive(Clone, Copy)]
+pub struct RunPlace {
+    pub start: usize,
+    pub first: usize,
+    pub events: usize,
+}
+
+// Where the runs stand: how many, how many agents each names, and the place of each.
 #[derive(Clone, Copy)]
 pub struct Runs {
     pub count: usize,
     pub roles: usize,
-    pub starts: [usize; 4],
-    pub firsts: [usize; 4],
-    pub events: [usize; 4],
+    pub runs: [RunPlace; 4],
 }
 
 // An event of a run: its kind, the agents' rows of the run's own role and of the peer, and the term's row.
@@ -62,24 +68,22 @@ pub fn runs_of(file: &[u8], l: Layout) -> Runs
 {
     let count = l.runs.count;
     let roles = l.roles.count;
-    let mut starts = [0; 4];
-    let mut firsts = [0; 4];
-    let mut events = [0; 4];
+    let mut runs = [RunPlace {
+        start: 0,
+        first: 0,
+        events: 0,
+    }; 4];
     let mut start = l.runs.start;
     for k in 0..count {
         let found = events_from(file, start);
-        starts[k] = start;
-        firsts[k] = found.first;
-        events[k] = found.count;
+        runs[k] = RunPlace {
+            start,
+            first: found.first,
+            events: found.count,
+        };
         start += 1 + roles;
     }
-    Runs {
-        count,
-        roles,
-        starts,
-        firsts,
-        events,
-    }
+    Runs { count, roles, runs }
 }
 
 // The row of a role's agent in the run whose record begins at an offset.
@@ -92,11 +96,11 @@ fn agent_of(file: &[u8], start: usize, role: usize) -> usize
 
 // Event j of run k.
 pub fn event_of(file: &[u8], r: Runs, k: usize, j: usize) -> RunEvent
-    requires { (sc : Scenario) × RunsAt file.now sc r × Guarantee sc × (k < r.count) × (j < get_or r.events k 0) }
+    requires { (sc : Scenario) × RunsAt file.now sc r × Guarantee sc × (k < r.count) × (j < (run_at r k).events) }
     ensures { ReadsEvent file.now r k j result }
 {
-    let start = r.starts[k];
-    let at = r.firsts[k] + 4 * j;
+    let RunPlace { start, first, .. } = r.runs[k];
+    let at = first + 4 * j;
     RunEvent {
         kind: records::kind_at(file, at),
         own: agent_of(file, start, usize::from(file[start])),
@@ -118,6 +122,5 @@ pub fn all_trusted(file: &[u8], t: &Table, r: Runs, k: usize) -> bool
     requires { (sc : Scenario) × RunsAt file.now sc r × Guarantee sc × (k < r.count) }
     ensures { TellsTrusted file.now t.now.bytes.now r k result }
 {
-    let start = r.starts[k];
-    trusted_from(file, t, start, r.roles)
+    trusted_from(file, t, r.runs[k].start, r.roles)
 }

@@ -1,11 +1,12 @@
 // Search, by the full list or the short one: the verdict on a scenario file, with the trace of a broken claim in the lent buffer; refused as Open, or with 10.
 #![tactic(auto)]
 
-ghost use Rattle.std.specs.Prelude.{◌≡◌, ℕ, ◌<◌, ◌≤◌, length, get_or, take};
+ghost use Rattle.std.specs.Prelude.{◌≡◌, ℕ, ◌<◌, ◌≤◌, length, map, take};
 ghost use Rattle.semantics.specs.Basic.{total};
 ghost use Rattle.semantics.specs.Answer.{accepted};
 ghost use Rattle.semantics.specs.Verdict.{verdict, searched_in, written, buffer_in};
 ghost use Rattle.answers.specs.Answers.{scenario_in, Accepts, verdict_as, searched_as};
+ghost use Rattle.runs.specs.Runs.{run_at};
 ghost use Rattle.search_runs.specs.Runs.{list_as};
 ghost use Rattle.search_breaks.specs.Walk.{FindsAll};
 
@@ -19,13 +20,13 @@ use state::{Opened, State};
 
 // How many events the runs have together.
 fn event_count(r: Runs) -> usize
-    requires { (r.count ≤ 4) × ((k : ℕ) → k < 4 → get_or r.events k 0 ≤ 8) }
-    ensures { (result ≡ total (take r.count r.events)) × (result ≤ 32) }
+    requires { (r.count ≤ 4) × ((k : ℕ) → k < 4 → (run_at r k).events ≤ 8) }
+    ensures { (result ≡ total (map (λ p. p.events) (take r.count r.runs))) × (result ≤ 32) }
 {
     // stays: `sum()` over a part of an array leaves its bound unproved
     let mut sum = 0;
-    for n in &r.events[..r.count] {
-        sum += *n;
+    for run in &r.runs[..r.count] {
+        sum += run.events;
     }
     sum
 }

@@ -27,7 +27,7 @@ fn is_ready(file: &[u8], r: Runs, done: [usize; 4], k: usize) -> bool
     ensures { TellsReady file.now r done k result }
 {
     let j = done[k];
-    j < r.events[k] && runs::event_of(file, r, k, j).kind != EventKind::Read
+    j < r.runs[k].events && runs::event_of(file, r, k, j).kind != EventKind::Read
 }
 
 // The lowest run whose next event is a send or claim, if there is one.

@@ -80,7 +80,7 @@ fn walk_run(
     let runs = plan.opened.runs;
     let done = state.course.done;
     let j = done[k];
-    if runs.events[k] <= j {
+    if runs.runs[k].events <= j {
         return Ok(0);
     }
     let event = runs::event_of(plan.opened.file, runs, k, j);

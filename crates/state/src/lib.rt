@@ -84,8 +84,7 @@ fn agents_of(file: &[u8], r: Runs, u: usize) -> &[u8]
         return &file[0..0];
     }
     let k = u - 1;
-    let starts = r.starts;
-    let first = starts[k] + 1;
+    let first = r.runs[k].start + 1;
     let end = first + r.roles;
     &file[first..end]
 }

@@ -63,9 +63,5 @@ pub fn start_marks(t: &Table, list: &[u8]) -> Marks
     requires { ListedBelow t.now.rows list.now }
     ensures { StartMarks t.now.bytes.now t.now.rows list.now result }
 {
-    let mut marks = intruder_marks(t);
-    for r in list {
-        marks[usize::from(*r)] = true;
-    }
-    marks
+    cells::with_listed(intruder_marks(t), list)
 }

@@ -21,7 +21,7 @@ use Rattle.cells.specs.Cells.{cell_of, Within, cell_value}
 use Rattle.runs.specs.declared.Runs.{Runs}
 use Rattle.records.specs.Kinds.{byte_of}
 use Rattle.runs.specs.declared.RunEvent.{RunEvent}
-use Rattle.runs.specs.Runs.{ReadsEvent, RunsAt, EventRead}
+use Rattle.runs.specs.Runs.{ReadsEvent, RunsAt, EventRead, run_at}
 use Rattle.state.specs.Readings.{sets_in, sets_of, readings}
 use Rattle.state.specs.laws.Readings.{reading-run}
 use Rattle.claims.specs.AtRun.{AtRun, claim_at, event_breaks}
@@ -67,12 +67,12 @@ and_then-none none f h = refl
 and_then-none (some x) f h = h x
 
 -- the event, where there is one
-event-there : {file : List ℕ} {r : Runs} {sc : Scenario} (k j : ℕ) {run : Run} → RunsAt file sc r → get_elem? sc.runs k ≡ some run → j < get_or r.events k 0
+event-there : {file : List ℕ} {r : Runs} {sc : Scenario} (k j : ℕ) {run : Run} → RunsAt file sc r → get_elem? sc.runs k ≡ some run → j < (run_at r k).events
     → (ev : Event) × (get_elem? (events_of sc run) j ≡ some ev)
 event-there {sc = sc} k j {run} runs is_run l = get_elem-there (events_of sc run) j (omega (arith, (runs.each k run is_run).count))
 
 -- its row has cells
-pub row-below : (file : List ℕ) (r : Runs) (k j : ℕ) (e : RunEvent) → ((sc : Scenario) × (RunsAt file sc r × (Guarantee sc × (k < r.count)))) → ReadsEvent file r k j e → j < get_or r.events k 0
+pub row-below : (file : List ℕ) (r : Runs) (k j : ℕ) (e : RunEvent) → ((sc : Scenario) × (RunsAt file sc r × (Guarantee sc × (k < r.count)))) → ReadsEvent file r k j e → j < (run_at r k).events
     → e.row < 96
 row-below file r k j e w seen l =
     let runs = w.1.0 in
@@ -83,7 +83,7 @@ row-below file r k j e w seen l =
 
 module _ {file : List ℕ} {r : Runs} {sc : Scenario} {d : State} {marks : List Bool} {k : ℕ} {run : Run} {p : Progress} (at : AtRun file r sc d marks k run p) (j : ℕ) where
   -- past the last event there is none
-  pub past-none : get_or r.events k 0 ≤ j → event_breaks sc d k run p j ≡ none
+  pub past-none : (run_at r k).events ≤ j → event_breaks sc d k run p j ≡ none
   past-none l = rw (none-past (events_of sc run) j (omega (arith, (at.runs.each k run at.is_run).count))) refl
 
   module _ (ev : Event) {kind own peer row : ℕ} (is : EventRead sc run ev kind own peer row) where
@@ -113,7 +113,7 @@ module _ {file : List ℕ} {r : Runs} {sc : Scenario} {d : State} {marks : List 
         ∙ (λ i. provided (sym trusts i && mark-decides (get_or marks (cell_of row (suc k)) false) d.known value (rw same-value at exact) i) (claim_at k j))
 
   -- the same of an event as the code reads it
-  module _ (e : RunEvent) (seen : ReadsEvent file r k j e) (below : j < get_or r.events k 0) where
+  module _ (e : RunEvent) (seen : ReadsEvent file r k j e) (below : j < (run_at r k).events) where
     found : (ev : Event) × (get_elem? (events_of sc run) j ≡ some ev)
     found = event-there k j at.runs at.is_run below
 

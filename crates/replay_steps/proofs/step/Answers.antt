@@ -18,7 +18,7 @@ use Rattle.state.specs.State.{Given, Due, IsState, NextMove}
 use Rattle.state.specs.laws.Active.{active-zero, active-high, run-ended, Coming, run-coming, coming-move, coming-due}
 use Rattle.runs.specs.declared.RunEvent.{RunEvent}
 use Rattle.runs.specs.declared.Runs.{Runs}
-use Rattle.runs.specs.Runs.{EventRead, ReadsEvent}
+use Rattle.runs.specs.Runs.{EventRead, ReadsEvent, run_at}
 use Rattle.moves.specs.Moves.{AtEvent}
 use Rattle.moves.specs.laws.Allowed.{told-some, told_none}
 use Rattle.replay_choices.specs.Choices.{Suited}
@@ -36,7 +36,7 @@ run-low z l = omega arith
 
 -- the next event of run u
 module _ {file t : List ℕ} {n : ℕ} {r : Runs} {sc : Scenario} {d : definitions.State} {s : State} (given : Given file t n r sc) (state : IsState sc d s) {u : ℕ} (nonzero : u ≡ 0 → ⊥) (few : u ≤ r.count)
-    (to_come : get_or s.done (u - 1) 0 < get_or r.events (u - 1) 0) (e : RunEvent) (read : ReadsEvent file r (u - 1) (get_or s.done (u - 1) 0) e) where
+    (to_come : get_or s.done (u - 1) 0 < (run_at r (u - 1)).events) (e : RunEvent) (read : ReadsEvent file r (u - 1) (get_or s.done (u - 1) 0) e) where
   coming : (a : Active) × Coming given state (u - 1) (run-low nonzero few) a
   coming = run-coming given state (u - 1) (run-low nonzero few) to_come
 

@@ -1,14 +1,13 @@
 -- `listed_marks` marks the listed rows. Assumes nothing.
-use Rattle.std.proofs.Common.{arith, refl, length-set}
-use Rattle.role_level.specs.laws.Loops.{listed-none, listed_more, at_mem}
+use Rattle.std.proofs.Common.{arith, inr, ⊎_elim}
+use Rattle.cells.specs.Cells.{cell_count}
+use Rattle.knowledge.specs.laws.Filled.{none-on}
 use Rattle.role_level.proofs.listed_marks.Goals as goal
 
-pub loop-r-init : goal.loop-r-init
-loop-r-init c = (refl, listed-none c.args.t.now.rows c.args.list.now c.args.t.now.shape.few)
+pub with_listed-requires : goal.with_listed-requires
+with_listed-requires c r m = omega (arith, c.requires r m, c.args.t.now.shape.few)
 
-pub loop-r-preserved : goal.loop-r-preserved
-loop-r-preserved c =
-    let low = c.requires _ (at_mem c.args.list.now c.loop-r.r-index c.loop-r-test.true) in (
-      simp length-set c.loop-r.invariant.0,
-      rw c.from.ensures (listed_more c.args.t.now.rows c.args.list.now c.loop-r.r-index c.loop-r.marks c.loop-r-test.true (omega (arith, low, c.args.t.now.shape.few, c.loop-r.invariant.0)) c.loop-r.invariant.1),
-    )
+pub returns : goal.returns
+returns c = record {
+  listed = λ r l. let marked = c.with_listed.ensures.each r in (λ o. ⊎_elim (λ e. absurd (none-on cell_count r e)) (λ m. m) (marked.0 o), λ m. marked.1 (inr m));
+}

@@ -8,4 +8,4 @@ use Rattle.runs.proofs.runs_of.Given as goal
 
 abbrev pub invariant-loop-k : goal.invariant-loop-k
 invariant-loop-k l =
-    (l.count ≤ 4) × (l.roles ≤ 4) × ((sc : Scenario) → opened l.file ≡ accepted sc → FoundTo l.file sc l.count l.roles l.k l.start l.starts l.firsts l.events)
+    (l.count ≤ 4) × (l.roles ≤ 4) × ((sc : Scenario) → opened l.file ≡ accepted sc → FoundTo l.file sc l.count l.roles l.k l.start l.runs)

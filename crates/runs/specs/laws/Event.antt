@@ -10,7 +10,7 @@ use Rattle.semantics.specs.Scenario.{Scenario}
 use Rattle.semantics.specs.State.{events_of}
 use Rattle.semantics.specs.Guarantee.{GoodRole, GoodRun, Guarantee}
 use Rattle.semantics.proofs.laws.List.{mem-get_elem, get_elem-below, get_elem-there}
-use Rattle.runs.specs.Runs.{RunAt, RunsAt, EventRead}
+use Rattle.runs.specs.Runs.{RunAt, RunsAt, EventRead, run_at}
 use Rattle.runs.specs.declared.Runs.{Runs}
 
 -- the bytes of an event
@@ -97,7 +97,7 @@ module _ (file : List ℕ) (sc : Scenario) (run : Run) (start first events : ℕ
 
 -- some scenario whose runs stand in a file has event j of run k
 abbrev pub SomeEvent : List ℕ → Runs → ℕ → ℕ → Type 0
-SomeEvent file r k j = (sc : Scenario) × RunsAt file sc r × Guarantee sc × (k < r.count) × (j < get_or r.events k 0)
+SomeEvent file r k j = (sc : Scenario) × RunsAt file sc r × Guarantee sc × (k < r.count) × (j < (run_at r k).events)
 
 module _ (file : List ℕ) (r : Runs) (k : ℕ) where
   run_of : (sc : Scenario) → RunsAt file sc r → k < r.count → (run : Run) × (get_elem? sc.runs k ≡ some run)
@@ -110,25 +110,25 @@ module _ (file : List ℕ) (r : Runs) (k : ℕ) where
     found : get_elem? w.0.runs k ≡ some run
     found = (run_of w.0 w.1 w.3).1
 
-    stands : RunAt file w.0 run (get_or r.starts k 0) (get_or r.firsts k 0) (get_or r.events k 0)
+    stands : RunAt file w.0 run (run_at r k).start (run_at r k).first (run_at r k).events
     stands = w.1.each k run found
 
     event : (ev : Event) × (get_elem? (events_of w.0 run) j ≡ some ev)
     event = get_elem-there (events_of w.0 run) j (omega (arith, stands.count, w.4))
 
     -- what is read of them is inside the file: the run's role, its agent and that of the event's peer, and the event
-    pub record-inside : get_or r.starts k 0 < length file
+    pub record-inside : (run_at r k).start < length file
     record-inside = omega (arith, stands.agents_inside)
 
-    pub own-inside : {role : ℕ} → role ≡ get_or file (get_or r.starts k 0) 0 → get_or r.starts k 0 + 1 + role < length file
+    pub own-inside : {role : ℕ} → role ≡ get_or file (run_at r k).start 0 → (run_at r k).start + 1 + role < length file
     own-inside {role} e = agent-inside file w.0 run _ _ _ stands w.2 k found role (own_below file w.0 run _ _ _ stands w.2 k found e)
 
-    pub bytes_inside : get_or r.firsts k 0 + 4 * j + 3 < length file
+    pub bytes_inside : (run_at r k).first + 4 * j + 3 < length file
     bytes_inside = event-inside file w.0 run _ _ _ stands w.2 k found j event.0 event.1
 
-    pub peer-inside : {b : ℕ} → b ≡ get_or file (get_or r.firsts k 0 + 4 * j + 2) 0 → get_or r.starts k 0 + 1 + b < length file
+    pub peer-inside : {b : ℕ} → b ≡ get_or file ((run_at r k).first + 4 * j + 2) 0 → (run_at r k).start + 1 + b < length file
     peer-inside {b} e = agent-inside file w.0 run _ _ _ stands w.2 k found b (peer-below file w.0 run _ _ _ stands w.2 k found j event.0 event.1 e)
 
     -- the event's first byte is that of a kind
-    pub kind-there : get_or file (get_or r.firsts k 0 + 4 * j) 0 ≤ 2
+    pub kind-there : get_or file ((run_at r k).first + 4 * j) 0 ≤ 2
     kind-there = kind-low file w.0 run _ _ _ stands w.2 k found j event.0 event.1

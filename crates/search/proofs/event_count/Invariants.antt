@@ -2,8 +2,8 @@
 use Prim.Native.Nat.{◌*◌, ◌≤◌}
 use mathlib.Core.Path.{◌≡◌}
 use lib.ListN.{take}
-use Rattle.semantics.specs.Basic.{total}
+use Rattle.search.specs.laws.Events.{event_total}
 use Rattle.search.proofs.event_count.Given as goal
 
-abbrev pub invariant-loop-n : goal.invariant-loop-n
-invariant-loop-n l = (l.sum ≡ total (take l.n-index l.n-items)) × (l.sum ≤ 8 * l.n-index)
+abbrev pub invariant-loop-run : goal.invariant-loop-run
+invariant-loop-run l = (l.sum ≡ event_total (take l.run-index l.run-items)) × (l.sum ≤ 8 * l.run-index)

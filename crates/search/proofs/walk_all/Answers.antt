@@ -1,7 +1,6 @@
 -- `walk_all` walks through the whole list of an accepted file. The memory is an array of zeros at first, which says nothing. Assumes nothing.
 use native.Mathlib.Omega.{arith}
 use borrow.Author.Rules.{rules}
-use Rattle.rows.specs.laws.Shape.{shape-sized}
 use mathlib.Core.Path.{◌≡◌, refl, ap, ◌∙◌}
 use lib.ListN.{length}
 use Rattle.semantics.specs.Scenario.{opened}
@@ -36,9 +35,9 @@ walk-requires c =
 
 pub returns : goal.returns
 returns c =
-    let events-size : length c.of-opened.result.runs.events ≡ 4 = search rules in
+    let size : length c.of-opened.result.runs.runs ≡ 4 = search rules in
     let p = c.requires.0 in
     let given = c.of-opened.ensures.given in
     let state = c.initial-s.ensures _ given (opened-knowledge _ _ p.is_opened c.block_of.ensures) in
-    let depth = c.event_count.ensures.0 ∙ total_left _ _ _ given.runs (events-size) in
+    let depth = c.event_count.ensures.0 ∙ total_left _ _ _ given.runs size in
     first_finds _ (ap opened c.of-opened.ensures.file ∙ p.is_opened) given state refl depth c.walk.ensures.finds_from

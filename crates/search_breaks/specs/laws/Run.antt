@@ -15,7 +15,7 @@ use Rattle.semantics.specs.Allowed.{Takes, takes_none}
 use Rattle.records.specs.Kinds.{byte_of}
 use Rattle.runs.specs.declared.RunEvent.{RunEvent}
 use Rattle.runs.specs.declared.Runs.{Runs}
-use Rattle.runs.specs.Runs.{RunsAt, EventRead}
+use Rattle.runs.specs.Runs.{RunsAt, EventRead, run_at}
 use Rattle.state.specs.State.{Given}
 use Rattle.state.specs.laws.Active.{run-ended, Coming, run-coming, coming-move, coming-due}
 use Rattle.state.specs.laws.Ready.{none-ready}
@@ -48,10 +48,10 @@ module _ {plan : Plan} (course : Course) {names classes : List ℕ} {marks : Lis
   given = here.reached.given
 
   -- the run has made all its events
-  pub run-over : get_or plan.opened.runs.events k 0 ≤ get_or course.done k 0 → (b : List ℕ) → Finds m.sc reach.left (below plan m.sc reach.depth (of_run m.sc m.d k)) b reach.at b (Ok 0)
+  pub run-over : (run_at plan.opened.runs k).events ≤ get_or course.done k 0 → (b : List ℕ) → Finds m.sc reach.left (below plan m.sc reach.depth (of_run m.sc m.d k)) b reach.at b (Ok 0)
   run-over l b = finds-nil m.sc reach.left (run_none plan m.sc reach.depth m.d (suc k) (run-ended given here.state k low l)) b reach.at
 
-  module _ (more : get_or course.done k 0 < get_or plan.opened.runs.events k 0) (e : RunEvent) (off : ReadOff plan.opened.file.now plan.opened.runs k (get_or course.done k 0) e) where
+  module _ (more : get_or course.done k 0 < (run_at plan.opened.runs k).events) (e : RunEvent) (off : ReadOff plan.opened.file.now plan.opened.runs k (get_or course.done k 0) e) where
     -- its next event
     pub its : (a : Active) × Coming given here.state k low a
     its = run-coming given here.state k low more

@@ -1,5 +1,5 @@
 -- The walk from a state: its own trace, then those that go on with each run in order. Assumes nothing.
-use Rattle.std.specs.Prelude.{ℕ, zero, suc, ◌+◌, ◌-◌, ◌<◌, ◌≤◌, ◌≡◌, true, false, List, [], ◌∷◌, ◌++◌, Err, Ok, is_ok}
+use Rattle.std.specs.Prelude.{ℕ, zero, suc, ◌+◌, ◌-◌, ◌<◌, ◌≤◌, ◌≡◌, true, List, [], ◌∷◌, ◌++◌, Err, Ok, is_ok}
 use Rattle.std.proofs.Common.{add-one, arith, sym, ap, ◌∙◌, subst, true≢false}
 use Rattle.std.proofs.Math.Path.{refl}
 use Rattle.std.proofs.Math.Option.{Option, none, some, some-injective, none-ne-some}

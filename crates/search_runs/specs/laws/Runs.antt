@@ -19,7 +19,7 @@ use Rattle.records.specs.declared.EventKind.TheVariants.{Read}
 use Rattle.records.specs.Kinds.{byte_of}
 use Rattle.records.specs.laws.Kinds.{event-is, event-other}
 use Rattle.runs.specs.declared.RunEvent.{RunEvent}
-use Rattle.runs.specs.Runs.{ReadsEvent}
+use Rattle.runs.specs.Runs.{ReadsEvent, run_at}
 use Rattle.state.specs.laws.Active.{run-ended, run-coming}
 use Rattle.search_runs.specs.declared.Listing.TheVariants.{Full, Short}
 use Rattle.search_runs.specs.Runs.{Standing, TellsReady, NoneReady, LowestReady, GoesOn}
@@ -40,16 +40,16 @@ byte-other b (claim k) h n = refl
 
 module _ {file : List ℕ} {r : Runs} {done : List ℕ} {k : ℕ} (low : k < r.count) where
   -- a run that has made all its events
-  pub ready-ended : get_or r.events k 0 ≤ get_or done k 0 → TellsReady file r done k false
+  pub ready-ended : (run_at r k).events ≤ get_or done k 0 → TellsReady file r done k false
   unfolding ready_at
   ready-ended l sc d at = rw (run-ended at.given at.state k low (rw at.is_done at l)) refl
 
-  module _ (more : get_or done k 0 < get_or r.events k 0) (e : RunEvent) (reads : ReadsEvent file r k (get_or done k 0) e) where
+  module _ (more : get_or done k 0 < (run_at r k).events) (e : RunEvent) (reads : ReadsEvent file r k (get_or done k 0) e) where
     -- by the kind of its next event
     by_kind : (b : Bool) → ((kind : EventKind) → get_elem? event_kinds (byte_of e.kind) ≡ some kind → send_or_claim kind ≡ b) → TellsReady file r done k b
     unfolding ready_at
     by_kind b kinds sc d at =
-        let more' : get_or at.s.done k 0 < get_or r.events k 0 = rw at.is_done at more in
+        let more' : get_or at.s.done k 0 < (run_at r k).events = rw at.is_done at more in
         let w = run-coming at.given at.state k low more' in
         let there = ap (λ (l : List ℕ). get_elem? (events_of sc w.0.run) (get_or l k 0)) at.is_done ∙ w.1.of_event in
         let seen = reads sc w.0.run w.0.event at.given.runs at.given.good w.1.of_run there in

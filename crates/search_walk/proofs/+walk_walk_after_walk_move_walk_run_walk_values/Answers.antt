@@ -1,11 +1,10 @@
 -- The walk finds what the definitions list, in their order: `walk` from a state, `walk_run` for a run, `walk_values` for the values of a read, `walk_move` and `walk_after` for one move.
 -- The measure is the depth, and within it the functions in their order and the rows left. Assumes nothing.
 use native.Mathlib.Omega.{arith}
-use borrow.Author.Rules.{rules}
 use Prim.Native.Nat.{ℕ, suc, ◌-◌}
 use mathlib.Core.Path.{◌≡◌, refl, ap, ◌∙◌}
 use mathlib.Core.List.{List}
-use lib.ListN.{length, get_or}
+use lib.ListN.{get_or}
 use Rattle.records.specs.declared.EventKind.TheVariants.{Read}
 use Rattle.records.specs.laws.Kinds.{event-is, event-other}
 use Rattle.std.proofs.Common.{subst}

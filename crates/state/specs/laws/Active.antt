@@ -12,7 +12,7 @@ use Rattle.semantics.proofs.laws.List.{get_elem-below, get_elem-there}
 use Rattle.records.specs.Kinds.{byte_of}
 use Rattle.runs.specs.declared.RunEvent.{RunEvent}
 use Rattle.runs.specs.declared.Runs.{Runs}
-use Rattle.runs.specs.Runs.{EventRead}
+use Rattle.runs.specs.Runs.{EventRead, run_at}
 use Rattle.state.specs.declared.State.{State as CodeState}
 use Rattle.state.specs.State.{Given, Due, IsState, NextMove}
 
@@ -56,11 +56,11 @@ module _ {file t : List ℕ} {n : ℕ} {r : Runs} {sc : Scenario} (given : Given
       let g = get_elem-there d.progress k (omega (arith, given.runs.count, state.placed.progress)) in
       (f.0, g.0, f.1, g.1)
 
-  events-of : get_or r.events k 0 ≡ length (events_of sc here.0)
+  events-of : (run_at r k).events ≡ length (events_of sc here.0)
   events-of = (given.runs.each k here.0 here.2).count
 
   -- a run that has made all its events has none to come
-  pub run-ended : get_or r.events k 0 ≤ get_or s.done k 0 → active sc d (suc k) ≡ none
+  pub run-ended : (run_at r k).events ≤ get_or s.done k 0 → active sc d (suc k) ≡ none
   run-ended l = inactive-from sc d k here.2 here.3 (get_elem-past (events_of sc here.0) here.1.done (omega (arith, events-of, state.placed.positions k here.1 here.3)))
 
   -- every other has its next
@@ -69,7 +69,7 @@ module _ {file t : List ℕ} {n : ℕ} {r : Runs} {sc : Scenario} (given : Given
     pub of_run : get_elem? sc.runs k ≡ some a.run
     pub of_event : get_elem? (events_of sc a.run) (get_or s.done k 0) ≡ some a.event
 
-  pub run-coming : get_or s.done k 0 < get_or r.events k 0 → (a : Active) × Coming a
+  pub run-coming : get_or s.done k 0 < (run_at r k).events → (a : Active) × Coming a
   run-coming l =
       let done = state.placed.positions k here.1 here.3 in
       let e = get_elem-there (events_of sc here.0) here.1.done (omega (arith, events-of, done)) in

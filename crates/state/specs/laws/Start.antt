@@ -32,7 +32,7 @@ use Rattle.knowledge.specs.Marks.{Marked, Derivable, Covers, Settled}
 use Rattle.knowledge.specs.Steps.{kind_at}
 use Rattle.role_level.specs.RoleLevel.{ListedBelow}
 use Rattle.runs.specs.declared.Runs.{Runs}
-use Rattle.runs.specs.Runs.{RunsAt, RunAt}
+use Rattle.runs.specs.Runs.{RunsAt, RunAt, run_at}
 use Rattle.state.specs.Readings.{SetsOf, sets_in, sets_of, readings}
 use Rattle.state.specs.State.{Given, Arrays, IsState}
 use Rattle.state.specs.laws.Readings.{reading-run}
@@ -215,7 +215,7 @@ module _ (sc : Scenario) (good : Guarantee sc) (file : List ℕ) (r : Runs) (run
   run-there k l = get_elem-there sc.runs k (omega (arith, runs.count))
 
   -- the agents of a run, as a part of the file
-  pub agents-run : (k : ℕ) (first : ℕ) → k < r.count → first ≡ get_or r.starts k 0 + 1 → Agents sc (suc k) (take r.roles (drop first file))
+  pub agents-run : (k : ℕ) (first : ℕ) → k < r.count → first ≡ (run_at r k).start + 1 → Agents sc (suc k) (take r.roles (drop first file))
   agents-run k first l e = record {
     reads = λ a. reading-first sc.rows k run _ same a ∙ sym (ap (λ (ρ : Reading). ρ a) (reading-run sc (λ j. []) k found));
     are = λ x m. (good.good_runs run ((mem-get_elem sc.runs).1 (k, found))).are_agents x (rw same at m);
@@ -227,7 +227,7 @@ module _ (sc : Scenario) (good : Guarantee sc) (file : List ℕ) (r : Runs) (run
       found : get_elem? sc.runs k ≡ some run
       found = (run-there k l).1
 
-      at : RunAt file sc run (get_or r.starts k 0) (get_or r.firsts k 0) (get_or r.events k 0)
+      at : RunAt file sc run (run_at r k).start (run_at r k).first (run_at r k).events
       at = runs.each k run found
 
       size : length run.agents ≡ r.roles
@@ -323,16 +323,16 @@ start-state sc good t n shape rows names classes start marks {u} all begun marke
     go (run ∷ runs) (suc k) p e = go runs k p e
 
 -- the same as the code has it
-pub agents-part : (sc : Scenario) (good : Guarantee sc) (file : List ℕ) (r : Runs) (runs : RunsAt file sc r) (u : ℕ) → (u ≡ 0 → ⊥) → u ≤ r.count → (first : ℕ) → first ≡ get_or r.starts (u - 1) 0 + 1
+pub agents-part : (sc : Scenario) (good : Guarantee sc) (file : List ℕ) (r : Runs) (runs : RunsAt file sc r) (u : ℕ) → (u ≡ 0 → ⊥) → u ≤ r.count → (first : ℕ) → first ≡ (run_at r (u - 1)).start + 1
     → Agents sc u (take (first + r.roles - first) (drop first file))
 agents-part sc good file r runs zero z l first e = absurd (z refl)
 agents-part sc good file r runs (suc k) z l first e =
     let size : first + r.roles - first ≡ r.roles = omega arith in
     let k-is : suc k - 1 ≡ k = omega arith in
-    subst (λ (m : ℕ). Agents sc (suc k) (take m (drop first file))) (sym size) (agents-run sc good file r runs k first (omega arith) (e ∙ ap (λ (j : ℕ). get_or r.starts j 0 + 1) k-is))
+    subst (λ (m : ℕ). Agents sc (suc k) (take m (drop first file))) (sym size) (agents-run sc good file r runs k first (omega arith) (e ∙ ap (λ (j : ℕ). (run_at r j).start + 1) k-is))
 
 -- where the agents of a run stand is within the file
-pub agents-inside : (file : List ℕ) (sc : Scenario) (r : Runs) → RunsAt file sc r → (u : ℕ) → (u ≡ 0 → ⊥) → u ≤ r.count → get_or r.starts (u - 1) 0 + r.roles < length file
+pub agents-inside : (file : List ℕ) (sc : Scenario) (r : Runs) → RunsAt file sc r → (u : ℕ) → (u ≡ 0 → ⊥) → u ≤ r.count → (run_at r (u - 1)).start + r.roles < length file
 agents-inside file sc r runs u z l =
     let w = get_elem-there sc.runs (u - 1) (omega (arith, runs.count)) in
     omega (arith, (runs.each (u - 1) w.0 w.1).agents_inside, runs.roles)

@@ -1,16 +1,16 @@
 -- What a scenario starts with: names row by row, and marks of what is known. Assumes nothing.
-use Rattle.std.specs.Prelude.{ℕ, ◌+◌, ◌<◌, ◌≤◌, ◌≡◌, refl, Bool, true, false, List, [], ◌∷◌, ◌++◌, length, get_or, set, take, replicate}
-use Rattle.std.proofs.Common.{eq-or-lt_of_le, add-one, arith, sym, ap, ◌∙◌, subst, inl, inr, ⊎_elim, length-set, take-suc, get_or-set_same, get_or-set_other}
+use Rattle.std.specs.Prelude.{ℕ, ◌+◌, ◌<◌, ◌≤◌, ◌≡◌, refl, Bool, true, false, List, [], length, get_or, set, replicate}
+use Rattle.std.proofs.Common.{eq-or-lt_of_le, arith, sym, ap, ◌∙◌, subst, inl, inr, ⊎_elim, length-set, get_or-set_same, get_or-set_other}
 use Rattle.std.proofs.Math.Decide.{dec_lt}
 use Rattle.std.proofs.lemmas.Bool.{false≢true}
 use mathlib.Core.List.Memᴰ
-use mathlib.Core.List.Memᴰ.{head as here}
 use Rattle.std.proofs.lemmas.List.{get_or-replicate, length-replicate}
 use Rattle.std.proofs.Math.ListN.{get_or-eq_default}
 use Rattle.semantics.specs.Table.{Row}
-use Rattle.cells.specs.Cells.{cell_of, cell_count, absent}
+use Rattle.cells.specs.Cells.{cell_of, cell_count, absent, WithListed}
 use Rattle.knowledge.specs.Steps.{On, kind_at}
 use Rattle.knowledge.specs.laws.Filled.{set_on, set_keeps}
+use Rattle.role_level.specs.RoleLevel.{ListedBelow}
 use Rattle.state_start.specs.Start.{FirstName, Entered, StartMarks}
 
 -- a cell tells its row and its run
@@ -71,15 +71,11 @@ module _ (bytes : List ℕ) (n r : ℕ) (marks : List Bool) (low : r < n) (few :
     onto = λ x l h. ⊎_elim (λ (e : x ≡ r). absurd (k (rw (← e) h))) (λ (m : x < r). done.onto x m h) (eq-or-lt_of_le (omega arith));
   })
 
-taken_more : (list : List ℕ) (i : ℕ) {c : ℕ} → c ≡ get_or list i 0 → i < length list → take (i + 1) list ≡ take i list ++ (c ∷ [])
-taken_more list i e l = rw (add-one i, take-suc list i 0 l, e) refl
-
--- one more row of a list
-pub listed_more : (bytes : List ℕ) (n : ℕ) (list : List ℕ) (i : ℕ) (marks : List Bool) {c : ℕ} → c ≡ get_or list i 0 → i < length list → c < n → n ≤ 96 → StartMarks bytes n (take i list) marks
-    → StartMarks bytes n (take (i + 1) list) (set marks c true)
-listed_more bytes n list i marks {c} e l low few done = subst (λ (taken : List ℕ). StartMarks bytes n taken (set marks c true)) (sym (taken_more list i e l)) (record {
-  size = length-set marks c true ∙ done.size;
-  from = λ x o. ⊎_elim (λ (f : x ≡ c). (omega arith, inr (Memᴰ.append_right (take i list) (here f)))) (λ o'. let w = done.from x o' in (w.0, ⊎_elim inl (λ m. inr (Memᴰ.append_left (c ∷ []) m)) w.1)) (set_on marks c x o);
-  intruders = λ x h k. set_keeps marks c x (done.intruders x h k);
-  listed = λ x m. ⊎_elim (λ m'. set_keeps marks c x (done.listed x m')) (λ m'. let f : x ≡ c = Memᴰ.eq_of_singleton m' in rw f (get_or-set_same marks c true false (omega (arith, done.size)))) (Memᴰ.append_cases (take i list) m);
-})
+-- the marks of intruder constants with those of listed rows
+pub started : {bytes : List ℕ} {n : ℕ} {list : List ℕ} {before marks : List Bool} → ListedBelow n list → StartMarks bytes n [] before → WithListed list before marks → StartMarks bytes n list marks
+started {bytes} {n} {list} {before} below start more = record {
+  size = more.size;
+  from = λ c o. ⊎_elim (λ o'. let w = start.from c o' in (w.0, inl (⊎_elim (λ k. k) (λ m. absurd (Memᴰ.not-nil m)) w.1))) (λ m. (below c m, inr m)) ((more.each c).0 o);
+  intruders = λ r l k. (more.each r).1 (inl (start.intruders r l k));
+  listed = λ r m. (more.each r).1 (inr m);
+}
