@@ -1,5 +1,5 @@
 -- For each answer of the definitions its case of the code's enum. Assumes nothing.
-use Rattle.std.specs.Prelude.{Option as CodeOption, Result, ℕ, ◌-◌, get_or, ◌∷◌, ◌≡◌, Bool, true, false, List, [], length, Err, None, Ok, Some}
+use Rattle.std.specs.Prelude.{Option as CodeOption, Result, ℕ, ◌-◌, get_or, ◌∷◌, ◌≡◌, Bool, List, [], length, Err, None, Ok, Some}
 use Rattle.std.proofs.Math.Option.{Option, none, some}
 use Rattle.semantics.specs.Answer as definitions
 use Rattle.semantics.specs.Answer.{Answer, refused, accepted}
@@ -62,6 +62,11 @@ Numbered (accepted a) = Unit {0}
 abbrev pub Checked : Type 0
 Checked = Result (Unit {0}) Refusal
 
+-- by the place at which it is refused, if there is one
+abbrev pub refused_at : Reason → CodeOption ℕ → Checked
+refused_at reason (Some place) = Err (record { reason = reason; place = place })
+refused_at reason None = Ok tt
+
 abbrev pub checked_as : Answer (Unit {0}) → Checked
 checked_as (refused r) = Err (refusal_as r)
 checked_as (accepted u) = Ok tt
@@ -106,6 +111,10 @@ scenario_in file = scenario_or (opened file)
 pub record Accepts (file : List ℕ) (l : Layout) : Type 0 where
   pub is_opened : opened file ≡ accepted (scenario_in file)
   pub layout : l ≡ layout_of file (scenario_in file)
+
+-- the number of a claim's kind
+abbrev pub claim_number : ClaimKind → ℕ
+claim_number Secrecy = 2
 
 -- the kind of a claim
 abbrev pub kind_as : roles.ClaimKind → ClaimKind

@@ -4,7 +4,7 @@
 ghost use Rattle.std.specs.Prelude.{◌≡◌};
 ghost use Rattle.semantics.specs.Answer.{checked};
 ghost use Rattle.semantics.specs.Verdict.{short_buffer};
-ghost use Rattle.answers.specs.Answers.{number_of, checked_as, answered};
+ghost use Rattle.answers.specs.Answers.{number_of, claim_number, refused_at, checked_as, answered};
 
 // Why a call is refused, in the order of the refusals' numbers, which begin with 1.
 #[derive(Clone, Copy, PartialEq, Eq)]
@@ -24,11 +24,26 @@ pub enum Reason {
 }
 
 impl Reason {
-    // The number that C gets and that is printed.
-    pub fn number(self) -> usize
-        ensures { result ≡ number_of self }
+    // A check for this reason: refused where there is a place.
+    pub fn at(self, place: Option<usize>) -> Result<(), Refusal>
+        ensures { result ≡ refused_at self place }
     {
-        self as usize
+        match place {
+            Some(place) => Err(Refusal {
+                reason: self,
+                place,
+            }),
+            None => Ok(()),
+        }
+    }
+}
+
+// The number that C gets and that is printed.
+impl From<Reason> for usize {
+    fn from(reason: Reason) -> usize
+        ensures { result ≡ number_of reason }
+    {
+        reason as usize
     }
 }
 
@@ -56,10 +71,18 @@ pub struct Layout {
     pub knowledge: Block,
 }
 
-// The kind of a claim.
+// The kind of a claim, by the number that C gets.
 #[derive(Clone, Copy)]
 pub enum ClaimKind {
-    Secrecy,
+    Secrecy = 2,
+}
+
+impl From<ClaimKind> for u64 {
+    fn from(kind: ClaimKind) -> u64
+        ensures { result ≡ claim_number kind }
+    {
+        kind as u64
+    }
 }
 
 // A claim: its run, from 1, its event, from 0, and its kind.
@@ -109,13 +132,7 @@ impl Trace {
 pub fn check_buffer(trace: &[u8]) -> Result<(), Refusal>
     ensures { result ≡ checked_as (checked 10 (short_buffer trace.now)) }
 {
-    if trace.len() < Trace::MOST_BYTES {
-        return Err(Refusal {
-            reason: Reason::Buffer,
-            place: trace.len(),
-        });
-    }
-    Ok(())
+    Reason::Buffer.at((trace.len() < Trace::MOST_BYTES).then_some(trace.len()))
 }
 
 // The verdict by what the walk through the whole list found with a budget.

@@ -1,10 +1,11 @@
 -- Cells, each a row in a run; their values; and the look-up of a class. Assumes nothing.
-use Rattle.std.specs.Prelude.{ℕ, ◌+◌, ◌*◌, ◌<◌, ◌≤◌, ◌≡◌, ◌⊎◌, ◌↔◌, Bool, true, false, cond, ◌&&◌, List, T, ltb, eqb, length, get_or}
+use Rattle.std.specs.Prelude.{ℕ, ◌+◌, ◌*◌, ◌<◌, ◌≤◌, ◌≡◌, ◌⊎◌, ◌↔◌, Bool, true, false, ◌&&◌, List, T, eqb, length, get_or}
 use mathlib.Core.List.{Memᴰ}
 use Rattle.std.proofs.Math.Option.{Option}
 use Rattle.semantics.specs.Term.{Atom, trusted, untrusted, global, intruder, role, variable, local, Term}
 use Rattle.semantics.specs.Table.{Row}
 use Rattle.semantics.specs.Value.{Reading, value_of}
+use Rattle.rows.specs.Rows.{second_of}
 
 -- "A marks array of 96 rows by run 0 to 4": the cell of a row in a run
 abbrev pub cell_of : ℕ → ℕ → ℕ
@@ -48,10 +49,6 @@ RowsLow list = (r : ℕ) → Memᴰ r list → r < 96
 pub record WithListed (list : List ℕ) (before marks : List Bool) : Type 0 where
   pub size : length marks ≡ cell_count
   pub each : (c : ℕ) → (get_or marks c false ≡ true) ↔ ((get_or before c false ≡ true) ⊎ Memᴰ c list)
-
--- the second part of a row of kind 8 to 12; a key of one agent has that agent twice
-abbrev pub second_of : List ℕ → ℕ → ℕ
-second_of bytes r = cond (ltb (get_or bytes (3 * r) 0) 10) (get_or bytes (3 * r + 1) 0) (get_or bytes (3 * r + 2) 0)
 
 -- whether rows of one kind have equal values, by the classes of their parts
 abbrev pub same_parts : ℕ → ℕ → ℕ → ℕ → Bool

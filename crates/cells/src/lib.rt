@@ -3,7 +3,7 @@
 
 ghost use Rattle.std.specs.Prelude.{◌≡◌, ℕ, ◌+◌, ◌*◌, ◌/◌, ◌%◌, ◌<◌, ◌≤◌, length, get_or, MatchOption};
 ghost use Rattle.rows.specs.Kinds.{number_of};
-ghost use Rattle.cells.specs.Cells.{cell_of, cell_count, absent, second_of, same_parts, RowsLow, WithListed, Tells, Matches, Found, FoundInRow};
+ghost use Rattle.cells.specs.Cells.{cell_of, cell_count, absent, same_parts, RowsLow, WithListed, Tells, Matches, Found, FoundInRow};
 
 use rows::{Kind, Table};
 
@@ -14,7 +14,7 @@ pub struct Cells {}
 impl Cells {
     pub const COUNT: usize = 480;
     // as a name or a class: no value
-    // stays: an Option<u16> takes twice the room, and these arrays are copied for each value that is tried
+    // stays: names are words of the memory's keys too, where none is a word like the others; and an Option<u16> takes twice the room
     pub const ABSENT: u16 = 480;
 }
 
@@ -23,6 +23,13 @@ pub type Names = [u16; Cells::COUNT];
 
 // The class of each cell, equal for equal values, or ABSENT.
 pub type Classes = [u16; Cells::COUNT];
+
+// A name or a class, if it is there.
+pub fn present(class: u16) -> Option<u16>
+    ensures { MatchOption result (absent ≤ class) (λ found. (found < absent) × (found ≡ class)) }
+{
+    (class < Cells::ABSENT).then_some(class)
+}
 
 // Which cells are marked.
 pub type Marks = [bool; Cells::COUNT];
@@ -36,6 +43,7 @@ pub struct Scope<'a> {
 }
 
 // The cell of a row in a run.
+// stays: one number for both, since a class is the number of a cell
 pub fn cell(r: usize, u: usize) -> usize
     requires { (r < 96) × (u ≤ 4) }
     ensures { (result ≡ cell_of r u) × (result < cell_count) }
@@ -61,18 +69,6 @@ pub fn with_listed(mut marks: Marks, list: &[u8]) -> Marks
     marks
 }
 
-// The second part of a row of kind 8 to 12; a key of one agent has that agent twice.
-pub fn second_of(t: &[u8], r: usize) -> usize
-    requires { 3 * r + 2 < length t.now }
-    ensures { (result ≡ second_of t.now r) × (result < 256) }
-{
-    if t[3 * r] < Kind::SharedKey as u8 {
-        rows::left_of(t, r)
-    } else {
-        rows::right_of(t, r)
-    }
-}
-
 // Whether rows of one kind have equal values, by the classes of their parts.
 fn same_parts(a: u16, b: u16, x: u16, y: u16) -> bool
     ensures { result ≡ same_parts a b x y }
@@ -89,7 +85,7 @@ fn matches_at(t: &Table, classes: &Classes, x: usize, a: u16, b: u16, w: usize) 
         return false;
     }
     let first = classes[cell(t.left_of(x), w)];
-    let second = classes[cell(second_of(t.bytes, x), w)];
+    let second = classes[cell(t.second_of(x), w)];
     same_parts(a, b, first, second)
 }
 
@@ -113,7 +109,7 @@ fn found_in_row(t: &Table, classes: &Classes, x: usize, kind: Kind, a: u16, b: u
     Some(classes[cell(x, w)])
 }
 
-// The class of the cells of a kind, 8 to 12, whose parts have the given classes.
+// The class of the cells of a kind that is made of other rows, whose parts have the given classes.
 pub fn class_of_parts(t: &Table, classes: &Classes, kind: Kind, a: u16, b: u16) -> Option<u16>
     requires { 8 ≤ number_of kind }
     ensures { MatchOption result (Found t.now.bytes.now t.now.rows t.now.runs classes.now (number_of kind) a b absent) (λ class. (class < absent) × Found t.now.bytes.now t.now.rows t.now.runs classes.now (number_of kind) a b class) }

@@ -14,7 +14,9 @@ use Rattle.runs.specs.declared.Runs.{Runs}
 use Rattle.runs.specs.Runs.{RunsAt}
 use Rattle.rows.specs.Rows.{rows_of}
 use Rattle.state.specs.Readings.{sets_of, readings}
-use Rattle.state.specs.State.{Given, IsState}
+use Rattle.runs.specs.declared.opened.Opened.{Opened}
+use Rattle.runs.specs.Opened.{Gives}
+use Rattle.state.specs.State.{IsState}
 use Rattle.state.specs.declared.State.{State as CodeState}
 use Rattle.answers.specs.Answers.{claimed_as}
 use Rattle.answers.specs.Answers.{Claimed}
@@ -46,6 +48,6 @@ AnswersRun file t r marks done k c =
     (sc : Scenario) (d : State) (run : Run) (p : Progress) → AtRun file r sc d marks k run p → sc.rows ≡ rows_of t → done ≡ p.done → c ≡ claimed_as (broken_in_run sc d k)
 
 -- the first broken claim of a state with these positions and marks
-abbrev pub AnswersState : List ℕ → List ℕ → ℕ → Runs → List ℕ → List Bool → Claimed → Type 0
-AnswersState file t n r done marks c =
-    (sc : Scenario) (d : State) (s : CodeState) → Given file t n r sc → IsState sc d s → done ≡ s.done → marks ≡ s.marks → c ≡ claimed_as (broken sc d)
+abbrev pub AnswersState : Opened → List ℕ → List Bool → Claimed → Type 0
+AnswersState o done marks c =
+    (sc : Scenario) (d : State) (s : CodeState) → Gives o sc → IsState sc d s → done ≡ s.done → marks ≡ s.marks → c ≡ claimed_as (broken sc d)

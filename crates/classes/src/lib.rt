@@ -2,32 +2,28 @@
 #![tactic(auto)]
 
 ghost use Rattle.std.specs.Prelude.{◌+◌, ◌<◌, ◌≤◌};
+ghost use Rattle.std.specs.Option.{unwrap_or};
 ghost use Rattle.rows.specs.Rows.{rows_of};
+ghost use Rattle.cells.specs.Cells.{absent};
 ghost use Rattle.classes.specs.Classes.{Refilled};
 ghost use Rattle.classes.specs.Filled.{ClassOf, Filled};
 
-use cells::{Cells, Classes, Names, cell, class_of_parts, second_of};
+use cells::{Cells, Classes, Names, cell, class_of_parts, present};
 use rows::Table;
 
-// The class of row x in run u, from the classes of its parts: a name, a class that is there already, or the cell itself.
-fn class_of(t: &Table, names: &Names, classes: &Classes, u: usize, x: usize) -> u16
+// The class of row x in run u, from the classes of its parts, if they have one: a name, a class that is there already, or the cell itself.
+fn class_of(t: &Table, names: &Names, classes: &Classes, u: usize, x: usize) -> Option<u16>
     requires { (u ≤ t.now.runs) × (x < t.now.rows) }
-    ensures { ClassOf t.now.bytes.now t.now.rows t.now.runs names.now classes.now u x result }
+    ensures { ClassOf t.now.bytes.now t.now.rows t.now.runs names.now classes.now u x (unwrap_or result absent) }
 {
     let c = cell(x, u);
     let kind = t.kind_of(x);
     if !kind.is_made() {
-        return names[c];
+        return present(names[c]);
     }
-    let a = classes[cell(t.left_of(x), u)];
-    if a == Cells::ABSENT {
-        return Cells::ABSENT;
-    }
-    let b = classes[cell(second_of(t.bytes, x), u)];
-    if b == Cells::ABSENT {
-        return Cells::ABSENT;
-    }
-    class_of_parts(t, classes, kind, a, b).unwrap_or(c as u16)
+    let a = present(classes[cell(t.left_of(x), u)])?;
+    let b = present(classes[cell(t.second_of(x), u)])?;
+    Some(class_of_parts(t, classes, kind, a, b).unwrap_or(c as u16))
 }
 
 // Gives row x its class in run u, if it has none yet.
@@ -37,8 +33,9 @@ fn fill_row(classes: &mut Classes, t: &Table, names: &Names, u: usize, x: usize)
 {
     let c = cell(x, u);
     if classes[c] == Cells::ABSENT {
-        let class = class_of(t, names, classes, u, x);
-        classes[c] = class;
+        if let Some(class) = class_of(t, names, classes, u, x) {
+            classes[c] = class;
+        }
     }
 }
 

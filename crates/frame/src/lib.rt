@@ -5,6 +5,7 @@ ghost use Rattle.std.specs.Prelude.{◌≡◌, true, ◌+◌, ◌<◌, ◌≤◌
 ghost use Rattle.semantics.specs.Frame.{block_length, unversioned, too_long, budget_of, framed, misframed, block_from, block};
 ghost use Rattle.rows.specs.Rows.{place_as};
 ghost use Rattle.answers.specs.Answers.{checked_as};
+ghost use Rattle.frame.specs.Blocks.{block_number};
 ghost use Rattle.frame.specs.Framing.{framing_of, IsFramed};
 
 use answers::{Reason, Refusal};
@@ -17,6 +18,23 @@ impl File {
     pub const MOST_BYTES: usize = 4096;
 
     pub const BLOCKS: usize = 4;
+}
+
+// The blocks of a file, in their order.
+#[derive(Clone, Copy)]
+pub enum BlockKind {
+    Terms = 0,
+    Roles = 1,
+    Runs = 2,
+    Knowledge = 3,
+}
+
+// Some bytes of a file, and the place where they begin.
+#[derive(Clone, Copy)]
+pub struct Part<'a> {
+    pub start: usize,
+    pub bytes: &'a [u8],
+    pub ghost low: { start ≤ 65536 },
 }
 
 // The length of the block at the front, from its first two bytes.
@@ -52,55 +70,30 @@ fn is_framed(s: &[u8], n: usize) -> bool
 fn unversioned(file: &[u8]) -> Option<usize>
     ensures { result ≡ place_as (unversioned file.now) }
 {
-    if file.is_empty() || file[0] != 1 {
-        return Some(0);
-    }
-    None
+    (file.is_empty() || file[0] != 1).then_some(0)
 }
 
 // Refusal 2: the file is longer than the limit.
 fn too_long(file: &[u8]) -> Option<usize>
     ensures { result ≡ place_as (too_long file.now) }
 {
-    if File::MOST_BYTES < file.len() {
-        return Some(File::MOST_BYTES);
-    }
-    None
+    (File::MOST_BYTES < file.len()).then_some(File::MOST_BYTES)
 }
 
 // Refusal 3: the budget or a block runs past the end, or bytes remain after the last block.
 fn misframed(file: &[u8]) -> Option<usize>
     ensures { result ≡ place_as (misframed file.now) }
 {
-    if file.len() < 5 || !is_framed(&file[5..], File::BLOCKS) {
-        return Some(file.len());
-    }
-    None
+    (file.len() < 5 || !is_framed(&file[5..], File::BLOCKS)).then_some(file.len())
 }
 
 // Refusals 1 to 3, in this order.
 pub fn check(file: &[u8]) -> Result<(), Refusal>
     ensures { result ≡ checked_as (framing_of file.now) }
 {
-    if let Some(place) = unversioned(file) {
-        return Err(Refusal {
-            reason: Reason::Version,
-            place,
-        });
-    }
-    if let Some(place) = too_long(file) {
-        return Err(Refusal {
-            reason: Reason::Size,
-            place,
-        });
-    }
-    if let Some(place) = misframed(file) {
-        return Err(Refusal {
-            reason: Reason::Framing,
-            place,
-        });
-    }
-    Ok(())
+    Reason::Version.at(unversioned(file))?;
+    Reason::Size.at(too_long(file))?;
+    Reason::Framing.at(misframed(file))
 }
 
 // The budget: how many traces of the list may be judged.
@@ -124,18 +117,14 @@ fn block_from(s: &[u8], n: usize, k: usize) -> (usize, &[u8])
     (2 + block.len() + start, bytes)
 }
 
-// The bytes of block k of a framed file: terms, roles, runs, knowledge.
-pub fn block_of(file: &[u8], k: usize) -> &[u8]
-    requires { IsFramed file.now × (k < 4) }
-    ensures { result.now ≡ (block k file.now).bytes }
+// A block of a framed file.
+pub fn part_of<'a>(file: &'a [u8], kind: BlockKind) -> Part<'a>
+    requires { IsFramed file.now }
+    ensures { ((result.start ≡ (block (block_number kind) file.now).start) × (result.start ≤ 4096)) × (result.bytes.now ≡ (block (block_number kind) file.now).bytes) }
 {
-    block_from(&file[5..], File::BLOCKS, k).1
-}
-
-// Where the bytes of block k begin in a framed file.
-pub fn start_of(file: &[u8], k: usize) -> usize
-    requires { IsFramed file.now × (k < 4) }
-    ensures { (result ≡ (block k file.now).start) × (result ≤ 4096) }
-{
-    5 + block_from(&file[5..], File::BLOCKS, k).0
+    let (start, bytes) = block_from(&file[5..], File::BLOCKS, kind as usize);
+    Part {
+        start: 5 + start,
+        bytes,
+    }
 }

@@ -9,10 +9,11 @@ ghost use Rattle.cells.specs.Cells.{absent};
 ghost use Rattle.knowledge.specs.Marks.{Settled, LearnsCell, Learnt};
 ghost use Rattle.knowledge.specs.Steps.{class_at, Gathered, Spread, InverseKinds, Opening, Gained, GainedAt, RowGained, AllIdle, SomeGained, Reaches, Finished};
 
-use cells::{Cells, Classes, Marks, cell};
+use cells::{Cells, Classes, Marks, cell, present};
 use rows::{Kind, Table};
 
-// The class of row r in run u.
+// The class of row r in run u, or ABSENT.
+// stays: a class that is absent is not marked either, so that `is_marked` asks both at once; callers hand it on or compare it with another
 pub fn class_at(classes: &Classes, r: usize, u: usize) -> u16
     requires { (r < 96) × (u ≤ 4) }
     ensures { result ≡ class_at classes.now r u }
@@ -147,7 +148,7 @@ fn gain(marks: &Marks, t: &Table, classes: &Classes, x: usize, u: usize) -> Opti
     let right = class_at(classes, t.right_of(x), u);
     // what is given may have no class
     let class = given(marks, t, classes, kind, whole, left, right);
-    class.filter(|&class| class < Cells::ABSENT)
+    class.and_then(present)
 }
 
 // A class that row x gives in some run and that is not marked yet.

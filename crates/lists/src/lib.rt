@@ -5,57 +5,65 @@ ghost use Rattle.std.specs.Prelude.{◌≡◌, ◌<◌, ◌≤◌};
 ghost use Rattle.semantics.specs.Basic.{unfit_from};
 ghost use Rattle.semantics.specs.Value.{Reading};
 ghost use Rattle.semantics.specs.Runs.{bad_knowledge_from};
+ghost use Rattle.rows.specs.Kinds.{number_of};
 ghost use Rattle.rows.specs.Rows.{place_as, rows_of};
 ghost use Rattle.lists.specs.Lists.{Bars, Valued, clear_at, has_value};
 
+use frame::Part;
 use rows::{Kind, Table};
 
+// The rows of a table: how many there are, and which of them have a value.
+#[derive(Clone, Copy)]
+pub struct ClearRows {
+    pub count: usize,
+    pub clear: [bool; 96],
+    pub ghost few: { count ≤ 96 },
+}
+
 // Whether a row has a value if atoms of the kinds from low to high have none, given which of the rows below it have one.
-fn clear_row(t: &Table, clear: &[bool; 96], r: usize, low: usize, high: usize) -> bool
+fn clear_row(t: &Table, clear: &[bool; 96], r: usize, low: Kind, high: Kind) -> bool
     requires { r < t.now.rows }
-    ensures { result ≡ clear_at low high t.now.bytes.now clear.now r }
+    ensures { result ≡ clear_at (number_of low) (number_of high) t.now.bytes.now clear.now r }
 {
     let kind = t.kind_of(r);
-    let number = kind.number();
     if !kind.is_made() {
-        return number < low || high < number;
+        return kind < low || high < kind;
     }
-    clear[t.left_of(r)] && (number < Kind::SharedKey.number() || clear[t.right_of(r)])
+    clear[t.left_of(r)] && clear[t.second_of(r)]
 }
 
 // Which rows have a value if atoms of the kinds from low to high have none.
-pub fn clear_rows(t: &Table, low: usize, high: usize) -> [bool; 96]
-    ensures { (reading : Reading) → Bars low high reading → Valued (rows_of t.now.bytes.now) reading result }
+pub fn clear_rows(t: &Table, low: Kind, high: Kind) -> ClearRows
+    ensures { (result.count ≡ t.now.rows) × ((reading : Reading) → Bars (number_of low) (number_of high) reading → Valued (rows_of t.now.bytes.now) reading result.clear) }
 {
     let mut clear = [false; 96];
     for r in 0..t.rows {
         clear[r] = clear_row(t, &clear, r, low, high);
     }
-    clear
+    ClearRows {
+        count: t.rows,
+        clear,
+    }
 }
 
-// The place of the first of some rows, in bytes that begin at a place, that is absent, has no value or is not above the one before it.
-// stays: the number of rows is enough here, and a table would ask more of callers
-pub fn unfit_row(b: &[u8], base: usize, n: usize, clear: &[bool; 96]) -> Option<usize>
-    requires { (n ≤ 96) × (base ≤ 65536) }
-    ensures { result ≡ place_as (unfit_from (has_value n clear.now) base 0 b.now) }
+// The place of the first of some rows that is absent, has no value or is not above the one before it.
+pub fn unfit_row(list: Part, rows: &ClearRows) -> Option<usize>
+    ensures { result ≡ place_as (unfit_from (has_value rows.now.count rows.now.clear) list.entry.start 0 list.entry.bytes.now) }
 {
     let mut least = 0;
-    for (i, x) in b.iter().enumerate() {
+    for (i, x) in list.bytes.iter().enumerate() {
         let r = usize::from(*x);
-        if r < least || n <= r || !clear[r] {
-            return Some(base + i);
+        if r < least || rows.count <= r || !rows.clear[r] {
+            return Some(list.start + i);
         }
         least = r + 1;
     }
     None
 }
 
-// Refusal 9: the place of the first knowledge byte against its rule, in a block that begins at a place.
-pub fn bad_knowledge(b: &[u8], base: usize, t: &Table) -> Option<usize>
-    requires { base ≤ 65536 }
-    ensures { result ≡ place_as (bad_knowledge_from (rows_of t.now.bytes.now) base 0 b.now) }
+// Refusal 9: the place of the first byte of the knowledge block against its rule.
+pub fn bad_knowledge(block: Part, t: &Table) -> Option<usize>
+    ensures { result ≡ place_as (bad_knowledge_from (rows_of t.now.bytes.now) block.entry.start 0 block.entry.bytes.now) }
 {
-    let clear = clear_rows(t, Kind::Role.number(), Kind::Local.number());
-    unfit_row(b, base, t.rows, &clear)
+    unfit_row(block, &clear_rows(t, Kind::Role, Kind::Local))
 }

@@ -1,5 +1,5 @@
 -- Readable with whatever is known, if every marked row's term derives from it: what it is to be sure of a row, and what the functions that find such rows answer. Assumes nothing.
-use Rattle.std.specs.Prelude.{Option, Some, ℕ, ◌<◌, ◌≡◌, ◌⊎◌, Bool, true, false, List, [], length, get_or}
+use Rattle.std.specs.Prelude.{Option, None, Some, ℕ, ◌<◌, ◌≡◌, ◌⊎◌, Bool, true, false, List, [], length, get_or}
 use Rattle.std.proofs.Math.Option.{some}
 use Rattle.semantics.specs.Term.{Term, inverse}
 use Rattle.semantics.specs.Inference.{Derives}
@@ -8,6 +8,7 @@ use Rattle.semantics.specs.Value.{value_of, as_atoms}
 use Rattle.semantics.specs.Allowed.{Readable}
 use Rattle.knowledge.specs.Steps.{On}
 use Rattle.open_marks.specs.Marks.{ReadableRow}
+use Rattle.open_marks.specs.declared.Kept.{Kept}
 use Rattle.open_marks.specs.declared.Notes.{Notes}
 
 -- every marked row's term derives
@@ -44,46 +45,41 @@ pub record Shared (n : ℕ) (one other both : List Bool) : Type 0 where
 abbrev pub Added : Option ℕ → List Bool → List Bool → Type 0
 Added found marks more = (y : ℕ) → On more y → On marks y ⊎ (found ≡ Some y)
 
--- the marks kept in a slot
-abbrev pub kept_at : Notes → ℕ → List Bool
-kept_at notes slot = get_or notes.kept slot []
-
--- the row of a slot
-abbrev pub owner_of : Notes → ℕ → ℕ
-owner_of notes slot = get_or notes.rows slot 0
+-- what is kept in a slot
+abbrev pub kept_in : Notes → ℕ → Option Kept
+kept_in notes slot = get_or notes.kept slot None
 
 -- marks that are kept stand
 abbrev pub Stand : ℕ → List Bool → List Bool → Type 0
 Stand n marks kept = (x : ℕ) → x < n → On kept x → On marks x
 
--- the marks kept in a slot stand
-abbrev pub SlotStands : ℕ → List Bool → Notes → ℕ → Type 0
-SlotStands n marks notes slot = Stand n marks (kept_at notes slot)
+-- what is kept is of a row, with marks that stand
+abbrev pub KeptOf : ℕ → List Bool → ℕ → Option Kept → Type 0
+KeptOf n marks x kept = (k : Kept) × (kept ≡ Some k) × (k.row ≡ x) × Stand n marks k.marks
 
--- those of a slot of a row stand
+-- such is kept in some slot
 abbrev pub KeptFor : ℕ → List Bool → Notes → ℕ → Type 0
-KeptFor n marks notes x = (slot : ℕ) × (slot < 128) × (owner_of notes slot ≡ x) × SlotStands n marks notes slot
+KeptFor n marks notes x = (slot : ℕ) × (slot < 128) × KeptOf n marks x (kept_in notes slot)
 
 -- marks are kept in a slot
 abbrev pub SlotFilled : ℕ → List Bool → List Bool → Type 0
 SlotFilled n marks kept = (x : ℕ) → x < n → On marks x → On kept x
 
--- no slot is a row's
+-- nothing is kept
 abbrev pub NoNotes : Notes → Type 0
-NoNotes notes = (slot : ℕ) → slot < 128 → owner_of notes slot ≡ 0
+NoNotes notes = (slot : ℕ) → slot < 128 → kept_in notes slot ≡ None
 
--- marks are kept in a slot, which is made a row's, and the other slots are as before
+-- marks are kept for a row in a slot, and the other slots are as before
 pub record KeptIn (n : ℕ) (marks : List Bool) (x : ℕ) (notes after : Notes) : Type 0 where
   pub slot : ℕ
-  pub own : owner_of after slot ≡ x
-  pub filled : SlotFilled n marks (kept_at after slot)
-  pub owners : (other : ℕ) → (other ≡ slot → ⊥) → owner_of after other ≡ owner_of notes other
-  pub others : (other : ℕ) → (other ≡ slot → ⊥) → kept_at after other ≡ kept_at notes other
+  pub kept : List Bool
+  pub here : kept_in after slot ≡ Some (record { row = x; marks = kept })
+  pub filled : SlotFilled n marks kept
+  pub others : (other : ℕ) → (other ≡ slot → ⊥) → kept_in after other ≡ kept_in notes other
 
--- What is noted while a term is read: each slot that is not row 0's keeps marks with which its row is readable. The ways are hints, which promise nothing.
+-- What is noted while a term is read: each slot keeps marks with which its row is readable. The ways are hints, which promise nothing.
 abbrev pub Noted : List Row → Notes → Type 0
-Noted rows notes =
-    (slot : ℕ) → slot < 128 → (owner_of notes slot ≡ 0 → ⊥) → (marks : List Bool) → SlotStands (length rows) marks notes slot → Sure rows marks (owner_of notes slot)
+Noted rows notes = (slot : ℕ) → slot < 128 → (k : Kept) → kept_in notes slot ≡ Some k → (marks : List Bool) → Stand (length rows) marks k.marks → Sure rows marks k.row
 
 -- What `is_readable` answers: yes only if it is sure of the row, and no, unless the answer is quick, only of a term that is not readable.
 pub record Answers (rows : List Row) (marks : List Bool) (x : ℕ) (quick r : Bool) : Type 0 where

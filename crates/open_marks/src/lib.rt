@@ -5,29 +5,35 @@ ghost use Rattle.std.specs.Prelude.{◌≡◌, true, ◌<◌, ◌≤◌, IfSome}
 ghost use Rattle.rows.specs.Kinds.{number_of};
 ghost use Rattle.rows.specs.Rows.{rows_of};
 ghost use Rattle.cells.specs.Cells.{cell_count};
-ghost use Rattle.role_level.specs.RoleLevel.{RoleClasses};
 ghost use Rattle.open_marks.specs.Marks.{RowMarked, NameKnown, InverseKnown, Learns};
-ghost use Rattle.open_marks.specs.Sure.{Gains, Opens, InBoth, Shared, Added, Stand, KeptFor, SlotFilled, NoNotes, KeptIn};
+ghost use Rattle.open_marks.specs.Sure.{Gains, Opens, InBoth, Shared, Added, Stand, KeptOf, KeptFor, SlotFilled, NoNotes, KeptIn};
 
-use cells::{Cells, Classes, Marks};
+use cells::{Cells, Marks};
+use role_level::RoleLevel;
 use rows::{Kind, Table};
+use std::array;
 
 // What a row's last reading shows of its way: it goes on in the first or the second part of a pair, with the other part known, or
 // it ends at an encryption that does not open.
 #[derive(Clone, Copy, PartialEq, Eq)]
 pub enum Way {
-    Unknown,
     First,
     Second,
     Shut,
 }
 
-// Notes: the way of each row, which is a hint; 128 slots, each with a row and the marks kept for it; and the slot that is next.
+// Marks with which a row was found readable.
+#[derive(Clone, Copy)]
+pub struct Kept {
+    pub row: usize,
+    pub marks: [bool; 96],
+}
+
+// Notes: the way of each row, if its last reading showed one, which is a hint; 128 slots for what is kept; and the slot that is next.
 #[derive(Drop)]
 pub struct Notes {
-    pub ways: [Way; 96],
-    pub rows: [usize; 128],
-    pub kept: [[bool; 96]; 128],
+    pub ways: [Option<Way>; 96],
+    pub kept: [Option<Kept>; 128],
     pub next: usize,
 }
 
@@ -57,11 +63,11 @@ pub fn inverse_known(marks: &Marks, t: &Table, k: usize) -> bool
 }
 
 // The marks when the term of row x is known too.
-pub fn learned(marks: Marks, t: &Table, classes: &Classes, x: usize) -> Marks
-    requires { RoleClasses (rows_of t.now.bytes.now) classes.now × (x < t.now.rows) }
-    ensures { Learns (rows_of t.now.bytes.now) x marks result × Gains (rows_of t.now.bytes.now) x marks result }
+pub fn learned(marks: Marks, level: &RoleLevel, x: usize) -> Marks
+    requires { x < level.now.table.rows }
+    ensures { Learns (rows_of level.now.table.bytes.now) x marks result × Gains (rows_of level.now.table.bytes.now) x marks result }
 {
-    knowledge::learn(marks, &t.at_role_level(), classes, x, 0)
+    knowledge::learn(marks, &level.table, &level.classes, x, 0)
 }
 
 // Whether row x is marked in both.
@@ -73,16 +79,12 @@ fn in_both(one: &Marks, other: &Marks, x: usize) -> bool
 }
 
 // The rows that are marked in both.
-// stays: here and below the number of rows is enough, and a table would ask more of callers
+// stays: here and for what is kept the number of rows is enough, and a table would ask more of callers
 pub fn shared(one: &Marks, other: &Marks, n: usize) -> Marks
     requires { n ≤ 96 }
     ensures { Shared n one.now other.now result }
 {
-    let mut both = [false; 480];
-    for x in 0..n {
-        both[x] = in_both(one, other, x);
-    }
-    both
+    array::from_fn(|x| x < n && in_both(one, other, x))
 }
 
 // Marks with one more, if it was found.
@@ -97,10 +99,8 @@ pub fn added(mut marks: Marks, found: Option<usize>) -> Marks
 }
 
 // Whether some row is marked in both.
-fn meets(one: &Marks, other: &Marks, n: usize) -> bool
-    requires { n ≤ 96 }
-{
-    (0..n).any(|x| in_both(one, other, x))
+fn meets(one: &Marks, other: &Marks, t: &Table) -> bool {
+    (0..t.rows).any(|x| in_both(one, other, x))
 }
 
 // The row beneath the encryptions of row x; row 0, an atom, where row x is marked or is no encryption.
@@ -109,7 +109,7 @@ pub fn content_of(marks: &Marks, t: &Table, x: usize) -> usize
     ensures { result ≤ x }
 {
     if marks[x] || t.kind_of(x) != Kind::Encrypted {
-        // stays: row 0 is as soon tried as passed over, and an Option would add a case to each of the two tries
+        // stays: row 0 is as soon tried as passed over; an Option would add a case to each of the two tries, or a closure that calls its own function
         return 0;
     }
     let mut y = t.left_of(x);
@@ -127,7 +127,7 @@ fn follow(
     way: &mut Marks,
     sure: &Marks,
     t: &Table,
-    ways: &[Way; 96],
+    ways: &[Option<Way>; 96],
     mut x: usize,
 ) -> Option<usize>
     requires { x < t.now.rows }
@@ -140,17 +140,17 @@ fn follow(
         let right = t.right_of(x);
         x = match t.kind_of(x) {
             Kind::Pair => match ways[x] {
-                Way::First => {
+                Some(Way::First) => {
                     more[right] = true;
                     left
                 }
-                Way::Second => {
+                Some(Way::Second) => {
                     more[left] = true;
                     right
                 }
                 _ => return None,
             },
-            Kind::Encrypted if ways[x] != Way::Shut => left,
+            Kind::Encrypted if ways[x] != Some(Way::Shut) => left,
             _ => return Some(x),
         };
     }
@@ -161,25 +161,26 @@ fn follow(
 pub fn gives_up(
     marks: Marks,
     sure: &Marks,
-    t: &Table,
-    classes: &Classes,
+    level: &RoleLevel,
     notes: &Notes,
     quick: bool,
     x: usize,
 ) -> bool
-    requires { RoleClasses (rows_of t.now.bytes.now) classes.now × (x < t.now.rows) }
+    requires { x < level.now.table.rows }
     ensures { result ≡ true → quick ≡ true }
 {
+    // stays: that only a quick try is given up is what this function promises to others, and without the flag it would promise nothing
     if !quick {
         return false;
     }
+    let t = &level.table;
     let mut more = marks;
     let mut way = [false; 480];
     let Some(end) = follow(&mut more, &mut way, sure, t, &notes.ways, x) else {
         return false;
     };
-    let known = knowledge::settle(more, &t.at_role_level(), classes);
-    if meets(&known, &way, t.rows) {
+    let known = knowledge::settle(more, t, &level.classes);
+    if meets(&known, &way, t) {
         return false;
     }
     match t.kind_of(end) {
@@ -196,12 +197,25 @@ fn covers(marks: &Marks, kept: &[bool; 96], n: usize) -> bool
     (0..n).all(|x| !kept[x] || marks[x])
 }
 
-// Puts marks into a slot.
-fn fill_slot(marks: &Marks, kept: &mut [bool; 96], n: usize)
+// Whether what is kept in a slot is of row x, with marks that stand.
+fn is_of(kept: &Option<Kept>, marks: &Marks, n: usize, x: usize) -> bool
     requires { n ≤ 96 }
-    ensures { SlotFilled n marks.now kept.new }
+    ensures { result ≡ true → KeptOf n marks.now x kept.now }
 {
+    match kept {
+        Some(kept) => kept.row == x && covers(marks, &kept.marks, n),
+        None => false,
+    }
+}
+
+// The marks of the rows of a table with so many.
+fn of_rows(marks: &Marks, n: usize) -> [bool; 96]
+    requires { n ≤ 96 }
+    ensures { SlotFilled n marks.now result }
+{
+    let mut kept = [false; 96];
     kept[..n].copy_from_slice(&marks[..n]);
+    kept
 }
 
 impl Notes {
@@ -210,9 +224,8 @@ impl Notes {
         ensures { NoNotes result }
     {
         Notes {
-            ways: [Way::Unknown; 96],
-            rows: [0; 128],
-            kept: [[false; 96]; 128],
+            ways: [None; 96],
+            kept: [None; 128],
             next: 0,
         }
     }
@@ -222,7 +235,7 @@ impl Notes {
         requires { n ≤ 96 }
         ensures { result ≡ true → KeptFor n marks.now self.now x }
     {
-        (0..128).any(|slot| self.rows[slot] == x && covers(marks, &self.kept[slot], n))
+        (0..128).any(|slot| is_of(&self.kept[slot], marks, n, x))
     }
 
     // Keeps the marks with which row x is readable, in place of the oldest that are kept.
@@ -231,8 +244,10 @@ impl Notes {
         ensures { KeptIn n marks.now x self.old self.new }
     {
         let slot = self.next % 128;
-        fill_slot(marks, &mut self.kept[slot], n);
-        self.rows[slot] = x;
+        self.kept[slot] = Some(Kept {
+            row: x,
+            marks: of_rows(marks, n),
+        });
         self.next = slot + 1;
     }
 }

@@ -10,7 +10,7 @@ use Rattle.semantics.specs.Roles as roles
 use Rattle.semantics.specs.State as states
 use Rattle.semantics.specs.Verdict as verdicts
 use Rattle.semantics.specs.Verdict.{broken_at, held, stopped, trace_bytes}
-use Rattle.semantics.specs.Packing.{held_word, stopped_word, accepted_word, derivable_word, not_derivable_word, no_claim_word, word_alone, packed_refusal, packed_number, packed_claim, packed_break, packed_kind, packed_derived, packed_opened, packed_replayed, packed_searched}
+use Rattle.semantics.specs.Packing.{held_word, stopped_word, broken_word, accepted_word, derivable_word, not_derivable_word, claim_word, no_claim_word, word_alone, packed_refusal, packed_number, packed_claim, packed_break, packed_kind, packed_derived, packed_opened, packed_replayed, packed_searched}
 use Rattle.answers.specs.Answers.{Numbered, number_of, reason_of, refusal_as, Derived, Opened, Replayed, Searched, kind_as, derived_as, opened_as, replayed_as, searched_as}
 use Rattle.answers.specs.declared.Refusal.{Refusal}
 use Rattle.answers.specs.declared.Claim.{Claim}
@@ -19,6 +19,19 @@ use Rattle.answers.specs.declared.ClaimKind.TheVariants.{Secrecy}
 use Rattle.answers.specs.declared.Break.{Break}
 use Rattle.answers.specs.declared.Verdict.{Verdict}
 use Rattle.answers.specs.declared.Verdict.TheVariants as searching
+use Rattle.packing.specs.declared.Word.{Word}
+use Rattle.packing.specs.declared.Word.TheVariants as words
+
+-- the number of a word
+abbrev pub word_of : Word → ℕ
+word_of words.Held = held_word
+word_of words.Stopped = stopped_word
+word_of words.Broken = broken_word
+word_of words.Accepted = accepted_word
+word_of words.Derivable = derivable_word
+word_of words.NotDerivable = not_derivable_word
+word_of words.Claim = claim_word
+word_of words.NoClaim = no_claim_word
 
 -- a refusal
 abbrev pub packed_refused : Refusal → ℕ

@@ -1,31 +1,36 @@
 // The packing of each operation's answer into 64 bits, as C gets it.
 #![tactic(auto)]
 
-ghost use Rattle.std.specs.Prelude.{◌≡◌, ◌<◌, ◌≤◌};
+ghost use Rattle.std.specs.Prelude.{◌≡◌, ◌<◌};
 ghost use Rattle.semantics.specs.Packing.{word_alone, packed_number, claim_bits};
-ghost use Rattle.packing.specs.Packing.{packed_refused, packed_deriving, packed_opening, packed_code_kind, packed_code_claim, packed_replaying, packed_code_break, packed_searching};
+ghost use Rattle.packing.specs.Packing.{word_of, packed_refused, packed_deriving, packed_opening, packed_code_kind, packed_code_claim, packed_replaying, packed_code_break, packed_searching};
 
-use answers::{Break, Claim, ClaimKind, Layout, Refusal, Verdict};
+use answers::{Break, Claim, Layout, Refusal, Verdict};
 
-// The words, one for each kind of answer; a refusal's is 0. Search's:
-const HELD: u64 = 1;
+// The words, one for each kind of answer; a refusal's is 0.
+#[derive(Clone, Copy)]
+enum Word {
+    // Search's
+    Held = 1,
+    Stopped,
+    Broken,
+    // Open's
+    Accepted,
+    // Derive's
+    Derivable,
+    NotDerivable,
+    // Replay's
+    Claim,
+    NoClaim,
+}
 
-const STOPPED: u64 = 2;
-
-const BROKEN: u64 = 3;
-
-// Open's:
-const ACCEPTED: u64 = 4;
-
-// Derive's:
-const DERIVABLE: u64 = 5;
-
-const NOT_DERIVABLE: u64 = 6;
-
-// Replay's:
-const CLAIM: u64 = 7;
-
-const NO_CLAIM: u64 = 8;
+impl From<Word> for u64 {
+    fn from(word: Word) -> u64
+        ensures { result ≡ word_of word }
+    {
+        word as u64
+    }
+}
 
 // Where each part of the number begins, as what a 1 there is worth. Places and counts begin at bit 0.
 const WORD_BIT: u64 = 1 << 60;
@@ -51,47 +56,32 @@ const MOST_INDEX: u64 = 15;
 
 const MOST_COUNT: u64 = RUN_BIT - 1;
 
-// The number of a secrecy claim's event, which its kind has too.
-const SECRECY: u64 = 2;
-
 // A word and nothing with it.
-fn word_alone(word: u64) -> u64
-    requires { word ≤ 15 }
-    ensures { result ≡ word_alone word }
+fn word_alone(word: Word) -> u64
+    ensures { result ≡ word_alone (word_of word) }
 {
-    word * WORD_BIT
+    u64::from(word) * WORD_BIT
 }
 
 // A word with a number.
-fn with_count(word: u64, n: usize) -> u64
-    requires { word ≤ 15 }
-    ensures { result ≡ packed_number word n }
+fn with_count(word: Word, n: usize) -> u64
+    ensures { result ≡ packed_number (word_of word) n }
 {
-    word * WORD_BIT + (n as u64).min(MOST_COUNT)
+    word_alone(word) + (n as u64).min(MOST_COUNT)
 }
 
 // A refusal: number and place.
 fn refusal(r: Refusal) -> u64
     ensures { result ≡ packed_refused r }
 {
-    (r.reason.number() as u64).min(MOST_NUMBER) * NUMBER_BIT + (r.place as u64).min(MOST_PLACE)
-}
-
-// The number of a claim's kind.
-fn kind_number(kind: ClaimKind) -> u64
-    ensures { result ≡ packed_code_kind kind }
-{
-    match kind {
-        ClaimKind::Secrecy => SECRECY,
-    }
+    (usize::from(r.reason) as u64).min(MOST_NUMBER) * NUMBER_BIT + (r.place as u64).min(MOST_PLACE)
 }
 
 // What says a claim, below the word: run, event and kind.
 fn claim_bits(c: Claim) -> u64
     ensures { (result ≡ claim_bits c.run c.event (packed_code_kind c.kind)) × (result < 17592186044416) }
 {
-    let kind = c.kind;
-    kind_number(kind) * KIND_BIT
+    u64::from(c.kind) * KIND_BIT
         + (c.event as u64).min(MOST_INDEX) * EVENT_BIT
         + (c.run as u64).min(MOST_INDEX) * RUN_BIT
 }
@@ -100,14 +90,14 @@ fn claim_bits(c: Claim) -> u64
 fn claim(c: Claim) -> u64
     ensures { result ≡ packed_code_claim c }
 {
-    CLAIM * WORD_BIT + claim_bits(c)
+    word_alone(Word::Claim) + claim_bits(c)
 }
 
 // A break: list place, trace length, and its claim.
 fn broken(b: Break) -> u64
     ensures { result ≡ packed_code_break b }
 {
-    with_count(BROKEN, b.place)
+    with_count(Word::Broken, b.place)
         + (b.length as u64).min(MOST_LENGTH) * LENGTH_BIT
         + claim_bits(b.claim)
 }
@@ -118,8 +108,8 @@ pub fn derived(answer: Result<bool, Refusal>) -> u64
 {
     match answer {
         Err(r) => refusal(r),
-        Ok(true) => word_alone(DERIVABLE),
-        Ok(false) => word_alone(NOT_DERIVABLE),
+        Ok(true) => word_alone(Word::Derivable),
+        Ok(false) => word_alone(Word::NotDerivable),
     }
 }
 
@@ -129,7 +119,7 @@ pub fn opened(answer: Result<Layout, Refusal>) -> u64
 {
     match answer {
         Err(r) => refusal(r),
-        Ok(_) => word_alone(ACCEPTED),
+        Ok(_) => word_alone(Word::Accepted),
     }
 }
 
@@ -140,7 +130,7 @@ pub fn replayed(answer: Result<Option<Claim>, Refusal>) -> u64
     match answer {
         Err(r) => refusal(r),
         Ok(Some(c)) => claim(c),
-        Ok(None) => word_alone(NO_CLAIM),
+        Ok(None) => word_alone(Word::NoClaim),
     }
 }
 
@@ -151,7 +141,7 @@ pub fn verdict(answer: Result<Verdict, Refusal>) -> u64
     match answer {
         Err(r) => refusal(r),
         Ok(Verdict::Broken(b)) => broken(b),
-        Ok(Verdict::Held(n)) => with_count(HELD, n),
-        Ok(Verdict::Stopped(n)) => with_count(STOPPED, n),
+        Ok(Verdict::Held(n)) => with_count(Word::Held, n),
+        Ok(Verdict::Stopped(n)) => with_count(Word::Stopped, n),
     }
 }

@@ -11,7 +11,7 @@ use Rattle.read_fits.specs.Fits.{Extension, Gets, Needed}
 use Rattle.variables.specs.declared.found.VariableRows.{VariableRows}
 use Rattle.variables.specs.Variables.{In}
 use Rattle.read_domains.specs.Domains.{InRow, Candidate}
-use Rattle.read_completions.specs.declared.scene.Pattern.{Pattern}
+use Rattle.read_completions.specs.declared.pattern.Pattern.{Pattern}
 
 -- the new value of a row is that of a cell which its variable may take
 pub record TakesCell {bytes : List ℕ} {n runs : ℕ} {classes : List ℕ} {u : ℕ} (s : Extension bytes n runs classes u) (q : ℕ) : Type 0 where
@@ -79,8 +79,8 @@ module _ (pattern : Pattern) where
       pub each : (y : ℕ) → y < 96 → MissesNone i y (InRow sets y)
 
     -- what the set of row r is made of: those of its parts
-    abbrev pub SetsBelow : List (List Bool) → ℕ → ℕ → List (List Bool) → Type 0
-    SetsBelow marked i r sets = MarkedDomains marked × (RowsMissNone i sets × ((i < pattern.vars.count) × (r < pattern.scope.table.rows)))
+    abbrev pub SetsBelow : ℕ → ℕ → List (List Bool) → Type 0
+    SetsBelow i r sets = RowsMissNone i sets × ((i < pattern.vars.count) × (r < pattern.scope.table.rows))
 
     -- domains that miss no completion with which the pattern is derivable, where those before miss none
     abbrev pub CompletionsKept : List (List Bool) → Type 0
@@ -89,10 +89,6 @@ module _ (pattern : Pattern) where
     -- a test that is true where there is such a completion
     abbrev pub Completable : Bool → Type 0
     Completable answer = (k : Completion pattern) → InDomains k dom → GetsDerivable k pattern.row → answer ≡ true
-
--- the classes that variable i gets where row r, a variable too, is derivable
-abbrev pub VariableSet : Pattern → List (List Bool) → List (List Bool) → ℕ → ℕ → List Bool → Type 0
-VariableSet pattern dom marked i r set = MarkedDomains pattern marked → MissesNone pattern dom i r (In set)
 
 -- each domain has a class
 abbrev pub NoneEmpty : VariableRows → List (List Bool) → Type 0

@@ -5,14 +5,17 @@
 ghost use Rattle.std.specs.Prelude.{◌≡◌, false, ◌<◌, IfSome};
 ghost use Rattle.cells.specs.Cells.{cell_count};
 ghost use Rattle.variables.specs.Variables.{In};
-ghost use Rattle.read_completions.specs.Completions.{MarkedDomains, NeedsAt, NeededAdded, Matched, MissesNone, SetsBelow, VariableSet, NoneEmpty, CompletionsKept, Completable, Completes};
+ghost use Rattle.read_completions.specs.Completions.{NeedsAt, NeededAdded, Matched, MissesNone, SetsBelow, NoneEmpty, CompletionsKept, Completable, Completes};
 
-mod scene;
+mod known;
+mod pattern;
 
 use cells::{Cells, Classes, Marks, Scope, cell};
+use known::Known;
+use pattern::Pattern;
 use read_domains::{ClassSet, Domains};
 use rows::Kind;
-use scene::Pattern;
+use std::array;
 use variables::VariableRows;
 
 // What rows need so that row r gets the value of a marked cell, if that is of its kind and stands for its own value, and the domains have what variables need.
@@ -27,11 +30,7 @@ fn needs_at(pattern: &Pattern, dom: &Domains, r: usize, c: usize) -> Option<[u16
         return None;
     }
     let need = read_fits::needs_of(pattern.classes, &pattern.scope, r, class)?;
-    if read_domains::fit(dom, pattern.vars, &need) {
-        Some(need)
-    } else {
-        None
-    }
+    read_domains::fit(dom, pattern.vars, &need).then_some(need)
 }
 
 // Adds the class that variable i needs to a set, or every class if it needs none.
@@ -64,78 +63,55 @@ fn matched(pattern: &Pattern, dom: &Domains, i: usize, r: usize) -> ClassSet
 }
 
 // The classes that variable i gets where an unset variable is derivable: its own are those that are marked, and another must have one such class.
-fn leaf(dom: &Domains, marked: &Domains, pattern: &Pattern, i: usize, r: usize) -> ClassSet
-    requires { i < pattern.now.vars.count }
-    ensures { VariableSet pattern.now dom.now marked.now i r result }
+fn leaf(dom: &Domains, known: &Known, i: usize, r: usize) -> ClassSet
+    requires { i < known.now.pattern.vars.count }
+    ensures { MissesNone known.now.pattern dom.now i r (In result) }
 {
-    match read_domains::slot_of(pattern.vars, r) {
+    match read_domains::slot_of(known.pattern.vars, r) {
         None => [true; Cells::COUNT],
-        Some(slot) => {
-            if slot == i {
-                marked[i]
-            } else {
-                [read_domains::meet(&dom[slot], &marked[slot]); Cells::COUNT]
-            }
-        }
+        Some(slot) if slot == i => known.marked[i],
+        Some(slot) => [read_domains::meet(&dom[slot], &known.marked[slot]); Cells::COUNT],
     }
 }
 
 // The classes that variable i gets where row r is derivable, by those of its parts.
-fn set_at(
-    sets: &[ClassSet; 96],
-    pattern: &Pattern,
-    dom: &Domains,
-    marked: &Domains,
-    i: usize,
-    r: usize,
-) -> ClassSet
-    requires { SetsBelow pattern.now dom.now marked.now i r sets.now }
-    ensures { MissesNone pattern.now dom.now i r (In result) }
+fn set_at(sets: &[ClassSet; 96], known: &Known, dom: &Domains, i: usize, r: usize) -> ClassSet
+    requires { SetsBelow known.now.pattern dom.now i r sets.now }
+    ensures { MissesNone known.now.pattern dom.now i r (In result) }
 {
+    let pattern = &known.pattern;
     let t = &pattern.scope.table;
     if knowledge::class_at(pattern.classes, r, pattern.scope.run) < Cells::ABSENT {
         return [pattern.marks[cell(r, pattern.scope.run)]; Cells::COUNT];
     }
     let kind = t.kind_of(r);
     if !kind.is_made() {
-        return leaf(dom, marked, pattern, i, r);
+        return leaf(dom, known, i, r);
     }
-    if kind == Kind::Pair {
-        return read_domains::join(
-            [false; Cells::COUNT],
-            &sets[t.left_of(r)],
-            &sets[cells::second_of(t.bytes, r)],
-        );
-    }
-    let set = matched(pattern, dom, i, r);
-    if kind == Kind::Encrypted {
-        return read_domains::join(
-            set,
-            &sets[t.left_of(r)],
-            &sets[cells::second_of(t.bytes, r)],
-        );
+    let set = if kind == Kind::Pair {
+        [false; Cells::COUNT]
+    } else {
+        matched(pattern, dom, i, r)
+    };
+    if kind.is_compound() {
+        return read_domains::join(set, &sets[t.left_of(r)], &sets[t.second_of(r)]);
     }
     set
 }
 
 // The classes that variable i gets where the pattern is derivable.
-fn set_of(
-    pattern: &Pattern,
-    dom: &Domains,
-    marked: &Domains,
-    below: &[bool; 96],
-    i: usize,
-) -> ClassSet
-    requires { MarkedDomains pattern.now marked.now × (i < pattern.now.vars.count) }
-    ensures { MissesNone pattern.now dom.now i pattern.now.row (In result) }
+fn set_of(known: &Known, dom: &Domains, i: usize) -> ClassSet
+    requires { i < known.now.pattern.vars.count }
+    ensures { MissesNone known.now.pattern dom.now i known.now.pattern.row (In result) }
 {
+    let row = known.pattern.row;
     let mut sets = [[true; Cells::COUNT]; 96];
-    for r in 0..=pattern.row {
-        if below[r] {
-            sets[r] = set_at(&sets, pattern, dom, marked, i, r);
+    for r in 0..=row {
+        if known.below[r] {
+            sets[r] = set_at(&sets, known, dom, i, r);
         }
     }
-    sets[pattern.row]
+    sets[row]
 }
 
 // Whether variable i may get more than one class. The first is always looked at, since any shows that there is no completion.
@@ -146,14 +122,13 @@ fn is_open(dom: &Domains, i: usize) -> bool
 }
 
 // The domains, each that has more than one class narrowed once to those that its variable gets where the pattern is derivable.
-fn narrowed(dom: Domains, pattern: &Pattern, marked: &Domains, below: &[bool; 96]) -> Domains
-    requires { MarkedDomains pattern.now marked.now }
-    ensures { CompletionsKept pattern.now dom result }
+fn narrowed(dom: Domains, known: &Known) -> Domains
+    ensures { CompletionsKept known.now.pattern dom result }
 {
     let mut less = dom;
-    for i in 0..pattern.vars.count {
+    for i in 0..known.pattern.vars.count {
         if is_open(&less, i) {
-            let set = set_of(pattern, &less, marked, below, i);
+            let set = set_of(known, &less, i);
             read_domains::narrow(&mut less, i, &set);
         }
     }
@@ -162,23 +137,25 @@ fn narrowed(dom: Domains, pattern: &Pattern, marked: &Domains, below: &[bool; 96
 
 // How many classes each domain has.
 fn sizes(dom: &Domains, vars: VariableRows) -> [usize; 8] {
-    let mut sizes = [0; 8];
-    for i in 0..vars.count {
-        sizes[i] = read_domains::size(&dom[i]);
-    }
-    sizes
+    array::from_fn(|i| {
+        if i < vars.count {
+            read_domains::size(&dom[i])
+        } else {
+            0
+        }
+    })
 }
 
 // The domains, narrowed until no class falls away.
-fn settled(dom: Domains, pattern: &Pattern, marked: &Domains, below: &[bool; 96]) -> Domains
-    requires { MarkedDomains pattern.now marked.now }
-    ensures { CompletionsKept pattern.now dom result }
+fn settled(dom: Domains, known: &Known) -> Domains
+    ensures { CompletionsKept known.now.pattern dom result }
 {
+    let vars = known.pattern.vars;
     let mut less = dom;
     for _ in 0..Cells::COUNT {
-        let before = sizes(&less, pattern.vars);
-        less = narrowed(less, pattern, marked, below);
-        if sizes(&less, pattern.vars) == before {
+        let before = sizes(&less, vars);
+        less = narrowed(less, known);
+        if sizes(&less, vars) == before {
             return less;
         }
     }
@@ -189,12 +166,7 @@ fn settled(dom: Domains, pattern: &Pattern, marked: &Domains, below: &[bool; 96]
 fn is_empty(dom: &Domains, vars: VariableRows) -> bool
     ensures { NoneEmpty vars dom.now → result ≡ false }
 {
-    for i in 0..vars.count {
-        if read_domains::size(&dom[i]) == 0 {
-            return true;
-        }
-    }
-    false
+    (0..vars.count).any(|i| read_domains::size(&dom[i]) == 0)
 }
 
 // The variable with the smallest domain of those beneath a row that may get more than one class, and of one that is given, if there are two such; or else the
@@ -224,14 +196,15 @@ fn smallest(
 
 // A variable that is tied to another by a key or an encryption, both having more than one class to get, if there is one. Any choice is right: variables that
 // are not tied need not be tried.
-fn tied(pattern: &Pattern, dom: &Domains, below: &[bool; 96]) -> Option<usize>
-    ensures { IfSome result (λ i. i < pattern.now.vars.count) }
+fn tied(known: &Known, dom: &Domains) -> Option<usize>
+    ensures { IfSome result (λ i. i < known.now.pattern.vars.count) }
 {
+    let pattern = &known.pattern;
     let t = &pattern.scope.table;
     let counts = sizes(dom, pattern.vars);
     let mut best = None;
     for r in 0..t.rows {
-        if below[r] {
+        if known.below[r] {
             let kind = t.kind_of(r);
             if kind.is_made()
                 && kind != Kind::Pair
@@ -246,30 +219,23 @@ fn tied(pattern: &Pattern, dom: &Domains, below: &[bool; 96]) -> Option<usize>
 }
 
 // Whether the variables may get classes of the domains with which the pattern is derivable.
-fn completable(
-    dom: Domains,
-    pattern: &Pattern,
-    marked: &Domains,
-    below: &[bool; 96],
-    depth: usize,
-) -> bool
-    requires { MarkedDomains pattern.now marked.now }
-    ensures { Completable pattern.now dom result }
+fn completable(dom: Domains, known: &Known, depth: usize) -> bool
+    ensures { Completable known.now.pattern dom result }
 {
-    let less = settled(dom, pattern, marked, below);
-    if is_empty(&less, pattern.vars) {
+    let less = settled(dom, known);
+    if is_empty(&less, known.pattern.vars) {
         return false;
     }
     if depth == 0 {
         return true;
     }
-    let Some(i) = tied(pattern, &less, below) else {
+    let Some(i) = tied(known, &less) else {
         return true;
     };
     for c in 0..Cells::COUNT {
         if less[i][c] {
             let only = read_domains::narrow_to(less, i, c);
-            if completable(only, pattern, marked, below, depth - 1) {
+            if completable(only, known, depth - 1) {
                 return true;
             }
         }
@@ -288,8 +254,8 @@ pub fn completes(classes: &Classes, marks: &Marks, scope: &Scope, x: usize) -> b
     if vars.count < 2 {
         return true;
     }
-    let dom = read_domains::of_variables(classes, None, scope, vars);
-    let marked = read_domains::of_variables(classes, Some(marks), scope, vars);
+    let dom = read_domains::of_variables(classes, None, &scope.table, vars);
+    let marked = read_domains::of_variables(classes, Some(marks), &scope.table, vars);
     let pattern = Pattern {
         scope: *scope,
         classes,
@@ -297,5 +263,10 @@ pub fn completes(classes: &Classes, marks: &Marks, scope: &Scope, x: usize) -> b
         row: x,
         vars,
     };
-    completable(dom, &pattern, &marked, &below, 8)
+    let known = Known {
+        pattern,
+        below: &below,
+        marked: &marked,
+    };
+    completable(dom, &known, 8)
 }

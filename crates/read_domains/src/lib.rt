@@ -7,8 +7,10 @@ ghost use Rattle.knowledge.specs.Steps.{kind_at};
 ghost use Rattle.variables.specs.Variables.{In, AreVariables};
 ghost use Rattle.read_domains.specs.Domains.{Marks, Counts, InRow, Listed, ListedAt, Narrows, NarrowsTo, Joins, Fit, AtSlot};
 
-use cells::{Cells, Classes, Marks, Scope};
-use variables::VariableRows;
+use cells::{Cells, Classes, Marks};
+use rows::Table;
+use std::array;
+use variables::{Value, VariableRows};
 
 // A set of classes.
 pub type ClassSet = [bool; Cells::COUNT];
@@ -21,10 +23,8 @@ fn add_value(set: &mut ClassSet, classes: &Classes, marks: Option<&Marks>, c: us
     requires { Marks marks × (c < cell_count) }
     ensures { (t : List ℕ) (n runs q : ℕ) → ListedAt t n runs classes.now (Counts marks.entry) q c set.old set.new }
 {
-    if let Some(marks) = marks {
-        if !marks[c] {
-            return;
-        }
+    if marks.is_some_and(|marks| !marks[c]) {
+        return;
     }
     let class = classes[c];
     if class < Cells::ABSENT {
@@ -33,14 +33,14 @@ fn add_value(set: &mut ClassSet, classes: &Classes, marks: Option<&Marks>, c: us
 }
 
 // The classes of the values that the variable of row q may take, or of those that are marked.
-fn values_of(classes: &Classes, marks: Option<&Marks>, scope: &Scope, q: usize) -> ClassSet
-    requires { Marks marks × ((q < scope.now.table.rows) × (kind_at scope.now.table.bytes.now q ≡ 6)) }
-    ensures { Listed scope.now.table.bytes.now scope.now.table.rows scope.now.table.runs classes.now (Counts marks.entry) q (In result) }
+fn values_of(classes: &Classes, marks: Option<&Marks>, t: &Table, q: usize) -> ClassSet
+    requires { Marks marks × ((q < t.now.rows) × (kind_at t.now.bytes.now q ≡ 6)) }
+    ensures { Listed t.now.bytes.now t.now.rows t.now.runs classes.now (Counts marks.entry) q (In result) }
 {
     let mut set = [false; Cells::COUNT];
     for c in 0..Cells::COUNT {
-        let (y, w) = cells::place_of(c);
-        if variables::may_take(&scope.table, q, y, w) {
+        let (row, run) = cells::place_of(c);
+        if variables::may_take(t, q, Value { row, run }) {
             add_value(&mut set, classes, marks, c);
         }
     }
@@ -52,11 +52,8 @@ pub fn narrow(dom: &mut Domains, i: usize, set: &ClassSet)
     requires { i < 8 }
     ensures { Narrows dom.old i set.now dom.new }
 {
-    for c in 0..Cells::COUNT {
-        if !set[c] {
-            dom[i][c] = false;
-        }
-    }
+    let own = dom[i];
+    dom[i] = array::from_fn(|c| own[c] && set[c]);
 }
 
 // The domains, that of variable i narrowed to one of its classes.
@@ -75,15 +72,16 @@ pub fn narrow_to(dom: Domains, i: usize, class: usize) -> Domains
 pub fn of_variables(
     classes: &Classes,
     marks: Option<&Marks>,
-    scope: &Scope,
+    t: &Table,
     vars: VariableRows,
 ) -> Domains
-    requires { Marks marks × AreVariables scope.now.table.bytes.now scope.now.table.rows vars }
-    ensures { (i : ℕ) → i < vars.count → Listed scope.now.table.bytes.now scope.now.table.rows scope.now.table.runs classes.now (Counts marks.entry) (get_or vars.rows i 0) (InRow result i) }
+    requires { Marks marks × AreVariables t.now.bytes.now t.now.rows vars }
+    ensures { (i : ℕ) → i < vars.count → Listed t.now.bytes.now t.now.rows t.now.runs classes.now (Counts marks.entry) (get_or vars.rows i 0) (InRow result i) }
 {
+    // stays: as `array::from_fn` it was tried, and its closure needs a contract of its own, longer than the loop
     let mut dom = [[true; Cells::COUNT]; 8];
     for i in 0..vars.count {
-        dom[i] = values_of(classes, marks, scope, vars.rows[i]);
+        dom[i] = values_of(classes, marks, t, vars.rows[i]);
     }
     dom
 }
@@ -92,26 +90,17 @@ pub fn of_variables(
 pub fn join(set: ClassSet, left: &ClassSet, right: &ClassSet) -> ClassSet
     ensures { Joins set left.now right.now result }
 {
-    let mut more = set;
-    for c in 0..Cells::COUNT {
-        if left[c] && right[c] {
-            more[c] = true;
-        }
-    }
-    more
+    array::from_fn(|c| set[c] || left[c] && right[c])
 }
 
 // Whether what each variable needs is in its domain.
 pub fn fit(dom: &Domains, vars: VariableRows, need: &[u16; 96]) -> bool
     ensures { Fit vars dom.now need.now → result ≡ true }
 {
-    for j in 0..vars.count {
+    (0..vars.count).all(|j| {
         let class = need[vars.rows[j]];
-        if class < Cells::ABSENT && !dom[j][usize::from(class)] {
-            return false;
-        }
-    }
-    true
+        Cells::ABSENT <= class || dom[j][usize::from(class)]
+    })
 }
 
 // The place of row q among the variables, if it is one of them.

@@ -1,8 +1,8 @@
 -- What rows of a run need so that one of them gets the value of a class. Assumes nothing.
 use Rattle.std.specs.Prelude.{ℕ, ◌<◌, ◌≤◌, ◌≡◌, Bool, true, List, Option, IsSomeAnd, length, get_or}
 use Rattle.semantics.specs.Term.{Term}
-use Rattle.rows.specs.Rows.{rows_of, Shape}
-use Rattle.cells.specs.Cells.{cell_of, absent, Readings, cell_value, second_of}
+use Rattle.rows.specs.Rows.{rows_of, Shape, second_of}
+use Rattle.cells.specs.Cells.{cell_of, absent, Readings, cell_value}
 use Rattle.classes.specs.Classes.{Classes, Grows}
 use Rattle.knowledge.specs.Marks.{Has, Marked}
 use Rattle.knowledge.specs.Steps.{class_at, left_at, Inside}

@@ -37,15 +37,9 @@ fn share(
 {
     let t = &scope.table;
     let first = knowledge::class_at(classes, t.left_of(y), w);
-    let second = knowledge::class_at(classes, cells::second_of(t.bytes, y), w);
+    let second = knowledge::class_at(classes, t.second_of(y), w);
     ask(need, classes, scope.run, t.left_of(q), first)
-        && ask(
-            need,
-            classes,
-            scope.run,
-            cells::second_of(t.bytes, q),
-            second,
-        )
+        && ask(need, classes, scope.run, t.second_of(q), second)
 }
 
 // Passes on to the parts of row q what the row needs: false where it cannot get that.

@@ -64,9 +64,9 @@ fn test_row(can: &[bool; 96], classes: &Classes, marks: &Marks, scope: &Scope, r
         return true;
     }
     if kind == Kind::Pair {
-        return both(can, t.left_of(r), cells::second_of(t.bytes, r));
+        return both(can, t.left_of(r), t.second_of(r));
     }
-    if kind == Kind::Encrypted && both(can, t.left_of(r), cells::second_of(t.bytes, r)) {
+    if kind == Kind::Encrypted && both(can, t.left_of(r), t.second_of(r)) {
         return true;
     }
     fits_mark(classes, marks, scope, r)

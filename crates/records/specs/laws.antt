@@ -6,3 +6,4 @@ pub mod Events
 pub mod Absent
 pub mod Runs
 pub mod Begins
+pub mod RoleRecords

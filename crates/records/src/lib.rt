@@ -12,6 +12,11 @@ ghost use Rattle.lists.specs.Lists.{Valued};
 ghost use Rattle.records.specs.Kinds.{byte_of, event_kind_as};
 ghost use Rattle.records.specs.Records.{part_at, record_at, event_at, agents_in, RoleAt, TellsGood};
 
+pub mod roles;
+
+use crate::roles::RoleRecords;
+use frame::Part;
+use lists::ClearRows;
 use rows::{Kind, Table};
 use table::TableLimits;
 
@@ -35,6 +40,7 @@ pub enum EventKind {
 
 impl EventKind {
     // The kind that a byte says, if it says one.
+    // stays: as for the kinds of rows, no `TryFrom`
     pub fn of(byte: u8) -> Option<EventKind>
         ensures { result ≡ event_kind_as byte }
     {
@@ -52,10 +58,7 @@ pub fn kind_at(s: &[u8], at: usize) -> EventKind
     requires { (at < length s.now) × (get_or s.now at 0 ≤ 2) }
     ensures { byte_of result ≡ get_or s.now at 0 }
 {
-    match EventKind::of(s[at]) {
-        Some(kind) => kind,
-        None => unreachable!(),
-    }
+    EventKind::of(s[at]).unwrap()
 }
 
 // The length of the role record at the front, by its own counts.
@@ -72,14 +75,7 @@ pub fn role_length(s: &[u8]) -> usize
 pub fn roles_present(b: &[u8]) -> usize
     ensures { (at : ℕ) → result ≡ roles_present (role_records (part_at at b.now)) }
 {
-    let mut at = 0;
-    for i in 0..TableLimits::MOST_ROLES {
-        if b.len() <= at {
-            return i;
-        }
-        at += role_length(&b[at..]);
-    }
-    TableLimits::MOST_ROLES
+    RoleRecords::of(b).take(TableLimits::MOST_ROLES).count()
 }
 
 // Where role record i begins in a block.
@@ -88,20 +84,20 @@ pub fn role_at(b: &[u8], i: usize) -> usize
     ensures upper_bound { result < length b.now }
     ensures role_at { RoleAt b.now i result }
 {
-    let mut at = 0;
-    for _j in 0..i {
-        at += role_length(&b[at..]);
-    }
-    at
+    RoleRecords::of(b).nth(i).unwrap().0
 }
 
 // Whether the knowledge rows of a role record are rising, present and have no variable beneath.
-fn knowledge_fits(s: &[u8], n: usize, clear: &[bool; 96]) -> bool
-    requires { (role_length s.now ≤ length s.now) × (n ≤ 96) }
-    ensures { (rows : List Row) → n ≡ length rows → Valued rows without_variables clear.now → result ≡ knowledge_fits rows (knowledge_in s.now) }
+fn knowledge_fits(s: &[u8], clear: &ClearRows) -> bool
+    requires { role_length s.now ≤ length s.now }
+    ensures { (rows : List Row) → clear.now.count ≡ length rows → Valued rows without_variables clear.now.clear → result ≡ knowledge_fits rows (knowledge_in s.now) }
 {
     let end = 1 + usize::from(s[0]);
-    lists::unfit_row(&s[1..end], 0, n, clear).is_none()
+    let list = Part {
+        start: 0,
+        bytes: &s[1..end],
+    };
+    lists::unfit_row(list, clear).is_none()
 }
 
 // Whether the four bytes of an event at a place are of a kind, with its peer and its row present.
@@ -130,9 +126,9 @@ fn events_fit(s: &[u8], n: usize, roles: usize) -> bool
 }
 
 // Whether role record i, which begins at the front, is within the rules.
-fn good_role(s: &[u8], n: usize, clear: &[bool; 96], roles: usize, i: usize) -> bool
-    requires { (1 ≤ length s.now) × (n ≤ 96) }
-    ensures { TellsGood n clear.now roles i s.now result }
+fn good_role(s: &[u8], clear: &ClearRows, roles: usize, i: usize) -> bool
+    requires { 1 ≤ length s.now }
+    ensures { TellsGood clear.now.count clear.now.clear roles i s.now result }
 {
     if s.len() < role_length(s) {
         return false;
@@ -143,31 +139,23 @@ fn good_role(s: &[u8], n: usize, clear: &[bool; 96], roles: usize, i: usize) -> 
     if Limits::MOST_EVENTS < usize::from(s[1 + usize::from(s[0])]) {
         return false;
     }
-    if !knowledge_fits(s, n, clear) {
+    if !knowledge_fits(s, clear) {
         return false;
     }
-    events_fit(s, n, roles)
+    events_fit(s, clear.count, roles)
 }
 
-// Refusal 6 of records: the place of the first role record against the rules, in a block that begins at a place.
-pub fn bad_role(b: &[u8], base: usize, t: &Table) -> Option<usize>
-    requires { base ≤ 65536 }
-    ensures { result ≡ place_as (bad_role (rows_of t.now.bytes.now) (role_records (part_at base b.now))) }
+// Refusal 6 of records: the place of the first role record against the rules.
+pub fn bad_role(block: Part, t: &Table) -> Option<usize>
+    ensures { result ≡ place_as (bad_role (rows_of t.now.bytes.now) (role_records (part_at block.entry.start block.entry.bytes.now))) }
 {
-    let clear = lists::clear_rows(t, Kind::Variable.number(), Kind::Variable.number());
+    let b = block.bytes;
+    let clear = lists::clear_rows(t, Kind::Variable, Kind::Variable);
     let roles = roles_present(b);
-    let mut i = 0;
-    let mut at = 0;
-    // stays: records differ in length, so there is no range to go over
-    while at < b.len() {
-        let s = &b[at..];
-        if !good_role(s, t.rows, &clear, roles, i) {
-            return Some(base + at);
-        }
-        at += role_length(s);
-        i += 1;
-    }
-    None
+    RoleRecords::of(b)
+        .enumerate()
+        .find(|&(i, (_, s))| !good_role(s, &clear, roles, i))
+        .map(|(_, (at, _))| block.start + at)
 }
 
 // Refusal 6 of rows: the place of the first row that names an absent role, in a table that begins at a place.
@@ -175,12 +163,9 @@ pub fn absent_role(t: &Table, roles: usize, base: usize) -> Option<usize>
     requires { base ≤ 65536 }
     ensures { result ≡ place_as (absent_role_from roles base (rows_of t.now.bytes.now)) }
 {
-    for r in 0..t.rows {
-        if t.kind_of(r) == Kind::Role && roles <= t.left_of(r) {
-            return Some(base + 3 * r);
-        }
-    }
-    None
+    (0..t.rows)
+        .find(|&r| t.kind_of(r) == Kind::Role && roles <= t.left_of(r))
+        .map(|r| base + 3 * r)
 }
 
 // Whether the agent bytes of a run record are agents' rows.
@@ -210,17 +195,14 @@ fn good_run(s: &[u8], t: &Table, roles: usize, i: usize) -> bool
     agents_fit(s, t, roles)
 }
 
-// Refusal 8: the place of the first run record against the rules, in a block that begins at a place.
-pub fn bad_run(b: &[u8], base: usize, t: &Table, roles: usize) -> Option<usize>
-    requires { (base ≤ 65536) × (roles ≤ 4) }
-    ensures { result ≡ place_as (bad_run (rows_of t.now.bytes.now) roles (run_records roles (part_at base b.now))) }
+// Refusal 8: the place of the first run record against the rules.
+pub fn bad_run(block: Part, t: &Table, roles: usize) -> Option<usize>
+    requires { roles ≤ 4 }
+    ensures { result ≡ place_as (bad_run (rows_of t.now.bytes.now) roles (run_records roles (part_at block.entry.start block.entry.bytes.now))) }
 {
+    let b = block.bytes;
     let size = 1 + roles;
-    for i in 0..b.len().div_ceil(size) {
-        let start = i * size;
-        if !good_run(&b[start..], t, roles, i) {
-            return Some(base + start);
-        }
-    }
-    None
+    (0..b.len().div_ceil(size))
+        .find(|&i| !good_run(&b[i * size..], t, roles, i))
+        .map(|i| block.start + i * size)
 }

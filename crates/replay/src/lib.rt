@@ -3,32 +3,30 @@
 
 ghost use Rattle.std.specs.Prelude.{◌≡◌};
 ghost use Rattle.semantics.specs.Replay.{replayed};
-ghost use Rattle.answers.specs.Answers.{scenario_in, Accepts, replayed_as};
+ghost use Rattle.answers.specs.Answers.{replayed_as};
+ghost use Rattle.runs.specs.Opened.{scenario_of};
 ghost use Rattle.replay.specs.Replay.{followed_of};
 
-use answers::{Claim, Layout, Reason, Refusal};
-use state::{Opened, State};
+use answers::{Claim, Reason, Refusal};
+use runs::Opened;
+use state::State;
 
 // A trace followed through an accepted file: refused with 12 at a step, the claim broken, or none.
-fn followed(file: &[u8], l: Layout, trace: &[u8]) -> Result<Option<Claim>, Refusal>
-    requires { Accepts file.now l }
-    ensures { result ≡ replayed_as (followed_of (scenario_in file.now) trace.now) }
+fn followed(opened: &Opened, trace: &[u8]) -> Result<Option<Claim>, Refusal>
+    ensures { result ≡ replayed_as (followed_of (scenario_of opened.now) trace.now) }
 {
-    let opened = Opened::of(file, l);
-    let mut s = State::initial(&opened, frame::block_of(file, 3));
+    let mut s = State::initial(opened);
     let mut at = 0;
-    // stays: steps differ in length, so there is no range to go over
+    // stays: how long a step is, is known only once it is found allowed in the state before it
     while at < trace.len() {
-        let Some(stepped) = replay_steps::step(&opened, s, &trace[at..]) else {
-            return Err(Refusal {
-                reason: Reason::Step,
-                place: at,
-            });
-        };
+        let stepped = replay_steps::step(opened, s, &trace[at..]).ok_or(Refusal {
+            reason: Reason::Step,
+            place: at,
+        })?;
         s = stepped.state;
         at += stepped.length;
     }
-    Ok(claims::broken(&opened, s.done, s.marks))
+    Ok(claims::broken(opened, s.done, s.marks))
 }
 
 // "Replay refuses as Open, then 12 .. Otherwise it gives the claim broken, or none."
@@ -36,5 +34,5 @@ pub fn replay(file: &[u8], trace: &[u8]) -> Result<Option<Claim>, Refusal>
     ensures { result ≡ replayed_as (replayed file.now trace.now) }
 {
     let layout = scenario::open(file)?;
-    followed(file, layout, trace)
+    followed(&Opened::of(file, layout), trace)
 }

@@ -14,6 +14,7 @@ use records::EventKind;
 use rows::Table;
 use runs::RunEvent;
 use state::State;
+use variables::Value;
 
 // The names with the new values of a read of run k, if they are as many as its unset variables and each may be taken.
 fn chosen(names: Names, t: &Table, k: usize, row: usize, values: &[u8]) -> Option<Names>
@@ -23,26 +24,20 @@ fn chosen(names: Names, t: &Table, k: usize, row: usize, values: &[u8]) -> Optio
     let below = variables::beneath(t, row);
     let mut more = names;
     let mut from = 0;
-    let mut i = 0;
-    // stays: two values are taken for each variable that is found, and the test at the end is of both
+    let mut pairs = values.chunks_exact(2);
     while let Some(x) = variables::next_unset(t, &names, &below, k + 1, from) {
-        if values.len() <= i + 1 {
+        let pair = pairs.next()?;
+        let value = Value {
+            row: usize::from(pair[0]),
+            run: usize::from(pair[1]),
+        };
+        if !variables::may_take(t, x, value) {
             return None;
         }
-        let r = usize::from(values[i]);
-        let w = usize::from(values[i + 1]);
-        if !variables::may_take(t, x, r, w) {
-            return None;
-        }
-        values::put(&mut more, x, k + 1, r, w);
+        values::put(&mut more, x, k + 1, value);
         from = x + 1;
-        i += 2;
     }
-    if values.len() <= i + 1 {
-        Some(more)
-    } else {
-        None
-    }
+    pairs.next().is_none().then_some(more)
 }
 
 // The names with the new values of a step of run k, if they suit it: those of a read, and none of any other event.
@@ -53,9 +48,5 @@ pub fn valued(s: State, t: &Table, k: usize, e: RunEvent, values: &[u8]) -> Opti
     if e.kind == EventKind::Read {
         return chosen(s.names, t, k, e.row, values);
     }
-    if values.len() < 2 {
-        Some(s.names)
-    } else {
-        None
-    }
+    (values.len() < 2).then_some(s.names)
 }

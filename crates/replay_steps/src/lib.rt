@@ -5,13 +5,14 @@ ghost use Rattle.semantics.specs.Scenario.{Scenario};
 ghost use Rattle.semantics.specs.State as definitions;
 ghost use Rattle.records.specs.Kinds.{byte_of};
 ghost use Rattle.rows.specs.Rows.{rows_of};
-ghost use Rattle.state.specs.State.{Given, IsState};
+ghost use Rattle.runs.specs.Opened.{Gives};
+ghost use Rattle.state.specs.State.{IsState};
 ghost use Rattle.replay_steps.specs.Steps.{StepDone, Worked};
 
 use cells::{Cells, Classes, Marks, Names, Scope};
 use records::EventKind;
-use runs::RunEvent;
-use state::{Opened, State};
+use runs::Opened;
+use state::State;
 
 // A step that is allowed: how many bytes it takes, and the state after it.
 #[derive(Drop)]
@@ -38,8 +39,8 @@ fn worked(
 
 // The step at the front of some bytes, if it is allowed: run, count of new values, two bytes for each.
 pub fn step(opened: &Opened, s: State, trace: &[u8]) -> Option<Stepped>
-    requires { (sc : Scenario) × (d : definitions.State) × Given opened.now.file.now opened.now.table.bytes.now opened.now.table.rows opened.now.runs sc × IsState sc d s }
-    ensures { (sc : Scenario) (d : definitions.State) → Given opened.now.file.now opened.now.table.bytes.now opened.now.table.rows opened.now.runs sc → IsState sc d s → StepDone sc d trace.now result }
+    requires { (sc : Scenario) × (d : definitions.State) × Gives opened.now sc × IsState sc d s }
+    ensures { (sc : Scenario) (d : definitions.State) → Gives opened.now sc → IsState sc d s → StepDone sc d trace.now result }
 {
     if trace.len() < 2 {
         return None;
@@ -52,16 +53,11 @@ pub fn step(opened: &Opened, s: State, trace: &[u8]) -> Option<Stepped>
     if u == 0 {
         return None;
     }
-    let r = opened.runs;
-    if r.count < u {
+    if opened.runs.count < u {
         return None;
     }
     let k = u - 1;
-    let j = s.done[k];
-    if r.runs[k].events <= j {
-        return None;
-    }
-    let e = runs::event_of(opened.file, r, k, j);
+    let e = opened.next_event(k, s.done[k])?;
     let names = replay_choices::valued(s, &opened.table, k, e, &trace[2..end])?;
     let before = s.done;
     let marks = s.marks;

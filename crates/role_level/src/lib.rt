@@ -1,9 +1,10 @@
 // Role level: the classes of rows and the marks of what is known, in run 0.
 #![tactic(auto)]
 
-ghost use Rattle.std.specs.Prelude.{◌<◌};
+ghost use Rattle.std.specs.Prelude.{◌≡◌, ◌<◌};
 ghost use Rattle.rows.specs.Rows.{rows_of};
 ghost use Rattle.role_level.specs.RoleLevel.{listed_terms, RoleClasses, RoleExact, OwnNames, ListedMarks, ListedBelow};
+ghost use Rattle.role_level.specs.laws.Right.{role-classes-prop};
 
 use cells::{Cells, Classes, Marks, Names};
 use rows::Table;
@@ -24,20 +25,32 @@ fn listed_marks(t: &Table, list: &[u8]) -> Marks
     cells::with_listed([false; Cells::COUNT], list)
 }
 
-// The classes of a table's rows.
-pub fn classes_of(t: &Table) -> Classes
-    ensures { RoleClasses (rows_of t.now.bytes.now) result }
-{
-    let names = own_names(t);
-    let mut classes = [Cells::ABSENT; Cells::COUNT];
-    classes::refill(&mut classes, &t.at_role_level(), &names, 0);
-    classes
+// A table at role level, with the class of each of its rows.
+#[derive(Clone, Copy)]
+pub struct RoleLevel<'a> {
+    pub table: Table<'a>,
+    pub classes: Classes,
+    pub ghost level: { table.runs ≡ 0 },
+    pub ghost right: { RoleClasses (rows_of table.bytes.now) classes } by { role-classes-prop (rows_of table.bytes.now) classes },
 }
 
-// The marks of all that is derivable from listed rows.
-pub fn marks_of(t: &Table, classes: &Classes, list: &[u8]) -> Marks
-    requires { RoleClasses (rows_of t.now.bytes.now) classes.now × ListedBelow t.now.rows list.now }
-    ensures { RoleExact (rows_of t.now.bytes.now) (listed_terms (rows_of t.now.bytes.now) list.now) result }
-{
-    knowledge::settle(listed_marks(t, list), &t.at_role_level(), classes)
+impl<'a> RoleLevel<'a> {
+    // Role level of a table.
+    pub fn of(t: &Table<'a>) -> RoleLevel<'a>
+        ensures { (result.table.bytes.now ≡ t.now.bytes.now) × (result.table.rows ≡ t.now.rows) }
+    {
+        let table = t.at_role_level();
+        let names = own_names(t);
+        let mut classes = [Cells::ABSENT; Cells::COUNT];
+        classes::refill(&mut classes, &table, &names, 0);
+        RoleLevel { table, classes }
+    }
+
+    // The marks of all that is derivable from listed rows.
+    pub fn marks_of(&self, list: &[u8]) -> Marks
+        requires { ListedBelow self.now.table.rows list.now }
+        ensures { RoleExact (rows_of self.now.table.bytes.now) (listed_terms (rows_of self.now.table.bytes.now) list.now) result }
+    {
+        knowledge::settle(listed_marks(&self.table, list), &self.table, &self.classes)
+    }
 }

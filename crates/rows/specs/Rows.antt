@@ -1,5 +1,5 @@
 -- The rows of a table of bytes, and a place that may be missing. Assumes nothing.
-use Rattle.std.specs.Prelude.{Option as CodeOption, ℕ, ◌+◌, ◌*◌, ◌≤◌, ◌≡◌, List, [], length, get_or, None, Some}
+use Rattle.std.specs.Prelude.{Option as CodeOption, ℕ, ◌+◌, ◌*◌, ◌≤◌, ◌≡◌, List, [], cond, ltb, length, get_or, None, Some}
 use Rattle.std.proofs.Math.Option.{Option, none, some}
 use Rattle.semantics.specs.Answer.{Answer, refused, accepted}
 use Rattle.semantics.specs.Table.{Row, decode, rows_from}
@@ -32,6 +32,10 @@ pub record Shape (bytes : List ℕ) (n runs : ℕ) : Type 0 where
 -- the bytes of a table with n rows
 abbrev pub Sized : List ℕ → ℕ → Type 0
 Sized bytes n = Shape bytes n 0
+
+-- the second part of a row of kind 8 to 12; a key of one agent has that agent twice
+abbrev pub second_of : List ℕ → ℕ → ℕ
+second_of bytes r = cond (ltb (get_or bytes (3 * r) 0) 10) (get_or bytes (3 * r + 1) 0) (get_or bytes (3 * r + 2) 0)
 
 -- a place, if there is one
 abbrev pub Place : Type 0

@@ -3,11 +3,11 @@
 
 ghost use Rattle.std.specs.Prelude.{◌≡◌, true, false, ◌+◌, ◌*◌, ◌<◌, ◌≤◌, length, get_or};
 ghost use Rattle.semantics.specs.Runs.{atom_at, is_agent, is_trusted};
-ghost use Rattle.rows.specs.Rows.{rows_of, Shape};
+ghost use Rattle.rows.specs.Rows.{rows_of, second_of, Shape};
 ghost use Rattle.rows.specs.Kinds.{number_of, kind_as};
 
-// The kinds of rows, by the byte that says each: atoms first, then what is made of other rows.
-#[derive(Clone, Copy, PartialEq, Eq)]
+// The kinds of rows, by the byte that says each and in that order: atoms first, then what is made of other rows.
+#[derive(Clone, Copy, PartialEq, Eq, PartialOrd, Ord)]
 pub enum Kind {
     // agents
     Trusted = 1,
@@ -30,6 +30,7 @@ pub enum Kind {
 
 impl Kind {
     // The kind that a byte says, if it says one.
+    // stays: each caller has its own answer for another byte, and `TryFrom` would add an error that none reads
     pub fn of(byte: u8) -> Option<Kind>
         ensures { result ≡ kind_as byte }
     {
@@ -50,25 +51,25 @@ impl Kind {
         }
     }
 
-    // The number of a kind: the byte that says it.
-    pub fn number(self) -> usize
-        ensures { result ≡ number_of self }
+    // Whether it is an agent's.
+    pub fn is_agent(self) -> bool
+        ensures { (result ≡ true → number_of self ≤ 2) × (result ≡ false → 2 < number_of self) }
     {
-        self as usize
+        self <= Kind::Untrusted
     }
 
     // Whether a row of the kind refers to other rows.
     pub fn is_made(self) -> bool
         ensures { (result ≡ true → 8 ≤ number_of self) × (result ≡ false → number_of self < 8) }
     {
-        Kind::PublicKey.number() <= self.number()
+        Kind::PublicKey <= self
     }
 
     // Whether it is a pair or an encryption.
     pub fn is_compound(self) -> bool
         ensures { (result ≡ true → 11 ≤ number_of self) × (result ≡ false → number_of self < 11) }
     {
-        Kind::Pair.number() <= self.number()
+        Kind::Pair <= self
     }
 }
 
@@ -130,10 +131,7 @@ impl<'a> Table<'a> {
         requires { r < self.now.rows }
         ensures { number_of result ≡ get_or self.now.bytes.now (3 * r) 0 }
     {
-        match kind_of(self.bytes, r) {
-            Some(kind) => kind,
-            None => unreachable!(),
-        }
+        kind_of(self.bytes, r).unwrap()
     }
 
     // The left byte of a row.
@@ -152,17 +150,29 @@ impl<'a> Table<'a> {
         right_of(self.bytes, r)
     }
 
+    // The second part of a row that is made of others; a key of one agent has that agent twice.
+    pub fn second_of(&self, r: usize) -> usize
+        requires { r < self.now.rows }
+        ensures { (result ≡ second_of self.now.bytes.now r) × (result < 256) }
+    {
+        if self.kind_of(r) < Kind::SharedKey {
+            self.left_of(r)
+        } else {
+            self.right_of(r)
+        }
+    }
+
     // Whether a row is an agent's.
     pub fn is_agent(&self, r: usize) -> bool
         ensures { result ≡ is_agent (atom_at (rows_of self.now.bytes.now) r) }
     {
-        r < self.rows && matches!(self.kind_of(r), Kind::Trusted | Kind::Untrusted)
+        r < self.rows && self.kind_of(r).is_agent()
     }
 
     // Whether a row is a trusted agent's.
     pub fn is_trusted(&self, r: usize) -> bool
         ensures { result ≡ is_trusted (atom_at (rows_of self.now.bytes.now) r) }
     {
-        r < self.rows && matches!(self.kind_of(r), Kind::Trusted)
+        r < self.rows && self.kind_of(r) == Kind::Trusted
     }
 }

@@ -5,3 +5,5 @@ pub mod Found
 pub mod Listed
 pub mod Event
 pub mod Trusted
+pub mod Given
+pub mod Opened

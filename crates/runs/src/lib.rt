@@ -1,16 +1,19 @@
 // The runs of an accepted file: where their records stand, and the events and agents that they have.
 #![tactic(auto)]
 
-ghost use Rattle.std.specs.Prelude.{◌≡◌, List, ℕ, ◌+◌, ◌<◌, length, get_or};
+ghost use Rattle.std.specs.Prelude.{◌≡◌, List, ℕ, ◌+◌, ◌<◌, ◌≤◌, length, get_or, MatchOption};
 ghost use Rattle.semantics.specs.Basic.{every};
 ghost use Rattle.semantics.specs.Runs.{atom_at, is_trusted};
-ghost use Rattle.semantics.specs.Guarantee.{Guarantee};
 ghost use Rattle.semantics.specs.Scenario.{Scenario};
 ghost use Rattle.rows.specs.Rows.{rows_of};
 ghost use Rattle.answers.specs.Answers.{scenario_in, Accepts};
 ghost use Rattle.runs.specs.Runs.{RunsAt, IsRun, AgentsAt, FindsEvents, ReadsEvent, TellsTrusted, run_at};
 
+mod opened;
+
 use answers::Layout;
+use frame::BlockKind;
+pub use opened::Opened;
 use records::EventKind;
 use rows::Table;
 
@@ -39,25 +42,18 @@ pub struct RunEvent {
     pub row: usize,
 }
 
-// Where the events of a role stand: the offset of the first, and how many there are.
-#[derive(Clone, Copy)]
-struct Events {
-    first: usize,
-    count: usize,
-}
-
-// The events of the run whose record begins at an offset.
-fn events_from(file: &[u8], start: usize) -> Events
+// Where the run stands whose record begins at an offset.
+fn run_from(file: &[u8], start: usize) -> RunPlace
     requires { (sc : Scenario) × (k : ℕ) × IsRun file.now sc k start }
-    ensures { FindsEvents file.now start result.first result.count }
+    ensures { (result.start ≡ start) × FindsEvents file.now start result.first result.events }
 {
-    let b = frame::block_of(file, 1);
-    let base = frame::start_of(file, 1);
-    let at = records::role_at(b, usize::from(file[start]));
-    let first = at + 2 + usize::from(b[at]);
-    Events {
-        first: base + first,
-        count: usize::from(b[first - 1]),
+    let roles = frame::part_of(file, BlockKind::Roles);
+    let at = records::role_at(roles.bytes, usize::from(file[start]));
+    let first = at + 2 + usize::from(roles.bytes[at]);
+    RunPlace {
+        start,
+        first: roles.start + first,
+        events: usize::from(roles.bytes[first - 1]),
     }
 }
 
@@ -73,15 +69,8 @@ pub fn runs_of(file: &[u8], l: Layout) -> Runs
         first: 0,
         events: 0,
     }; 4];
-    let mut start = l.runs.start;
     for k in 0..count {
-        let found = events_from(file, start);
-        runs[k] = RunPlace {
-            start,
-            first: found.first,
-            events: found.count,
-        };
-        start += 1 + roles;
+        runs[k] = run_from(file, l.runs.start + k * (1 + roles));
     }
     Runs { count, roles, runs }
 }
@@ -94,21 +83,6 @@ fn agent_of(file: &[u8], start: usize, role: usize) -> usize
     usize::from(file[start + 1 + role])
 }
 
-// Event j of run k.
-pub fn event_of(file: &[u8], r: Runs, k: usize, j: usize) -> RunEvent
-    requires { (sc : Scenario) × RunsAt file.now sc r × Guarantee sc × (k < r.count) × (j < (run_at r k).events) }
-    ensures { ReadsEvent file.now r k j result }
-{
-    let RunPlace { start, first, .. } = r.runs[k];
-    let at = first + 4 * j;
-    RunEvent {
-        kind: records::kind_at(file, at),
-        own: agent_of(file, start, usize::from(file[start])),
-        peer: agent_of(file, start, usize::from(file[at + 2])),
-        row: usize::from(file[at + 3]),
-    }
-}
-
 // Whether all agents of the run whose record begins at an offset are trusted.
 fn trusted_from(file: &[u8], t: &Table, start: usize, roles: usize) -> bool
     requires { start + roles < length file.now }
@@ -117,10 +91,55 @@ fn trusted_from(file: &[u8], t: &Table, start: usize, roles: usize) -> bool
     (0..roles).all(|i| t.is_trusted(agent_of(file, start, i)))
 }
 
-// Whether all agents of run k are trusted.
-pub fn all_trusted(file: &[u8], t: &Table, r: Runs, k: usize) -> bool
-    requires { (sc : Scenario) × RunsAt file.now sc r × Guarantee sc × (k < r.count) }
-    ensures { TellsTrusted file.now t.now.bytes.now r k result }
-{
-    trusted_from(file, t, r.runs[k].start, r.roles)
+impl<'a> Opened<'a> {
+    // A file that Open accepts with a layout.
+    pub fn of(file: &'a [u8], l: Layout) -> Opened<'a>
+        requires { Accepts file.now l }
+        ensures { result.file.now ≡ file.now }
+    {
+        let runs = runs_of(file, l);
+        let terms = frame::part_of(file, BlockKind::Terms).bytes;
+        let table = Table::new(terms, l.terms.count, runs.count);
+        Opened { file, table, runs }
+    }
+
+    // Event j of run k, both from 0.
+    pub fn event_of(&self, k: usize, j: usize) -> RunEvent
+        requires { (k < self.now.runs.count) × (j < (run_at self.now.runs k).events) }
+        ensures { ReadsEvent self.now.file.now self.now.runs k j result }
+    {
+        let RunPlace { start, first, .. } = self.runs.runs[k];
+        let at = first + 4 * j;
+        RunEvent {
+            kind: records::kind_at(self.file, at),
+            own: agent_of(self.file, start, usize::from(self.file[start])),
+            peer: agent_of(self.file, start, usize::from(self.file[at + 2])),
+            row: usize::from(self.file[at + 3]),
+        }
+    }
+
+    // Event j of run k, if the run has so many.
+    pub fn next_event(&self, k: usize, j: usize) -> Option<RunEvent>
+        requires { k < self.now.runs.count }
+        ensures { MatchOption result ((run_at self.now.runs k).events ≤ j) (λ e. (j < (run_at self.now.runs k).events) × ReadsEvent self.now.file.now self.now.runs k j e) }
+    {
+        if j < self.runs.runs[k].events {
+            Some(self.event_of(k, j))
+        } else {
+            None
+        }
+    }
+
+    // Whether all agents of run k, from 0, are trusted.
+    pub fn all_trusted(&self, k: usize) -> bool
+        requires { k < self.now.runs.count }
+        ensures { TellsTrusted self.now.file.now self.now.table.bytes.now self.now.runs k result }
+    {
+        trusted_from(
+            self.file,
+            &self.table,
+            self.runs.runs[k].start,
+            self.runs.roles,
+        )
+    }
 }

@@ -11,6 +11,7 @@ ghost use Rattle.answers.specs.Answers.{layout_of, opened_as};
 ghost use Rattle.scenario.specs.Opened.{GoodRoles, roles_refusal, judged_runs, judged_rows};
 
 use answers::{Block, Layout, Reason, Refusal};
+use frame::BlockKind;
 use rows::Table;
 
 // How many run records begin in a block.
@@ -21,91 +22,76 @@ fn run_count(b: &[u8], roles: usize) -> usize
     b.len().div_ceil(1 + roles)
 }
 
-// Refusal 6, or none, of a framed file with a table: a record, or after all records a row that names an absent role.
-fn judged_roles(file: &[u8], t: &Table) -> Option<usize>
-    requires { IsFramed file.now × (t.now.bytes.now ≡ (term_part file.now).bytes) }
-    ensures { result ≡ place_as (roles_refusal file.now (rows_of (term_part file.now).bytes)) }
-{
-    let roles = frame::block_of(file, 1);
-    let base = frame::start_of(file, 1);
-    if let Some(place) = records::bad_role(roles, base, t) {
-        return Some(place);
-    }
-    let count = records::roles_present(roles);
-    let first = frame::start_of(file, 0);
-    records::absent_role(t, count, first)
+// A framed file with its table.
+#[derive(Clone, Copy)]
+struct Tabled<'a> {
+    file: &'a [u8],
+    table: Table<'a>,
+    ghost framed: { IsFramed file.now },
+    ghost its_table: { table.bytes.now ≡ (term_part file.now).bytes },
 }
 
-// Where the parts of a framed file stand.
-fn parts_of(file: &[u8], t: &Table, roles: usize) -> Layout
-    requires { IsFramed file.now × ((t.now.bytes.now ≡ (term_part file.now).bytes) × ((roles ≡ role_count file.now) × GoodRoles file.now)) }
-    ensures { result ≡ layout_of file.now (scenario_of file.now (rows_of (term_part file.now).bytes)) }
+// Refusal 6, or none: a role record, or after all records a row that names an absent role.
+fn judged_roles(tabled: &Tabled) -> Option<usize>
+    ensures { result ≡ place_as (roles_refusal tabled.now.file.now (rows_of (term_part tabled.now.file.now).bytes)) }
 {
-    let runs = frame::block_of(file, 2);
-    let knowledge = frame::block_of(file, 3);
+    let roles = frame::part_of(tabled.file, BlockKind::Roles);
+    let count = records::roles_present(roles.bytes);
+    let first = frame::part_of(tabled.file, BlockKind::Terms).start;
+    // bound first: of a closure made in the argument the proof would not know what it returns
+    let absent = || records::absent_role(&tabled.table, count, first);
+    records::bad_role(roles, &tabled.table).or_else(absent)
+}
+
+// Where the parts stand.
+fn parts_of(tabled: &Tabled, roles: usize) -> Layout
+    requires { (roles ≡ role_count tabled.now.file.now) × GoodRoles tabled.now.file.now }
+    ensures { result ≡ layout_of tabled.now.file.now (scenario_of tabled.now.file.now (rows_of (term_part tabled.now.file.now).bytes)) }
+{
+    let runs = frame::part_of(tabled.file, BlockKind::Runs);
+    let knowledge = frame::part_of(tabled.file, BlockKind::Knowledge);
     Layout {
-        budget: frame::budget(file),
+        budget: frame::budget(tabled.file),
         terms: Block {
-            start: frame::start_of(file, 0),
-            count: t.rows,
+            start: frame::part_of(tabled.file, BlockKind::Terms).start,
+            count: tabled.table.rows,
         },
         roles: Block {
-            start: frame::start_of(file, 1),
+            start: frame::part_of(tabled.file, BlockKind::Roles).start,
             count: roles,
         },
         runs: Block {
-            start: frame::start_of(file, 2),
-            count: run_count(runs, roles),
+            start: runs.start,
+            count: run_count(runs.bytes, roles),
         },
         knowledge: Block {
-            start: frame::start_of(file, 3),
-            count: knowledge.len(),
+            start: knowledge.start,
+            count: knowledge.bytes.len(),
         },
     }
 }
 
-// Refusals 8 and 9, or accepted, of a file whose table, roles and events are good.
-fn judged_runs(file: &[u8], t: &Table) -> Result<Layout, Refusal>
-    requires { IsFramed file.now × ((t.now.bytes.now ≡ (term_part file.now).bytes) × GoodRoles file.now) }
-    ensures { result ≡ opened_as file.now (judged_runs file.now (rows_of (term_part file.now).bytes)) }
+// Refusals 8 and 9, or accepted, where roles and events are good.
+fn judged_runs(tabled: &Tabled) -> Result<Layout, Refusal>
+    requires { GoodRoles tabled.now.file.now }
+    ensures { result ≡ opened_as tabled.now.file.now (judged_runs tabled.now.file.now (rows_of (term_part tabled.now.file.now).bytes)) }
 {
-    let roles = records::roles_present(frame::block_of(file, 1));
-    let runs = frame::block_of(file, 2);
-    let knowledge = frame::block_of(file, 3);
-    if let Some(place) = records::bad_run(runs, frame::start_of(file, 2), t, roles) {
-        return Err(Refusal {
-            reason: Reason::Run,
-            place,
-        });
-    }
-    if let Some(place) = lists::bad_knowledge(knowledge, frame::start_of(file, 3), t) {
-        return Err(Refusal {
-            reason: Reason::Knowledge,
-            place,
-        });
-    }
-    Ok(parts_of(file, t, roles))
+    let roles = records::roles_present(frame::part_of(tabled.file, BlockKind::Roles).bytes);
+    let runs = frame::part_of(tabled.file, BlockKind::Runs);
+    let knowledge = frame::part_of(tabled.file, BlockKind::Knowledge);
+    Reason::Run.at(records::bad_run(runs, &tabled.table, roles))?;
+    Reason::Knowledge.at(lists::bad_knowledge(knowledge, &tabled.table))?;
+    Ok(parts_of(tabled, roles))
 }
 
-// Refusals 6 to 9, or accepted, of a framed file with a table.
-fn judged(file: &[u8], t: &Table) -> Result<Layout, Refusal>
-    requires { IsFramed file.now × (t.now.bytes.now ≡ (term_part file.now).bytes) }
-    ensures { result ≡ opened_as file.now (judged_rows file.now (rows_of (term_part file.now).bytes)) }
+// Refusals 6 to 9, or accepted.
+fn judged(tabled: &Tabled) -> Result<Layout, Refusal>
+    ensures { result ≡ opened_as tabled.now.file.now (judged_rows tabled.now.file.now (rows_of (term_part tabled.now.file.now).bytes)) }
 {
-    if let Some(place) = judged_roles(file, t) {
-        return Err(Refusal {
-            reason: Reason::Role,
-            place,
-        });
-    }
-    let roles = frame::block_of(file, 1);
-    if let Some(place) = open_wellformed::ill_formed(roles, frame::start_of(file, 1), t) {
-        return Err(Refusal {
-            reason: Reason::Event,
-            place,
-        });
-    }
-    judged_runs(file, t)
+    Reason::Role.at(judged_roles(tabled))?;
+    let roles = frame::part_of(tabled.file, BlockKind::Roles);
+    Reason::Event.at(open_wellformed::ill_formed(roles, &tabled.table))?;
+    judged_runs(tabled)
 }
 
 // "Open, in this order."
@@ -113,7 +99,10 @@ pub fn open(file: &[u8]) -> Result<Layout, Refusal>
     ensures { result ≡ opened_as file.now (opened file.now) }
 {
     frame::check(file)?;
-    let terms = frame::block_of(file, 0);
-    let n = table::check(terms, frame::start_of(file, 0))?;
-    judged(file, &Table::new(terms, n, 0))
+    let terms = frame::part_of(file, BlockKind::Terms);
+    let rows = table::check(terms.bytes, terms.start)?;
+    judged(&Tabled {
+        file,
+        table: Table::new(terms.bytes, rows, 0),
+    })
 }

@@ -1,43 +1,44 @@
 // Search, by the full list or the short one: the verdict on a scenario file, with the trace of a broken claim in the lent buffer; refused as Open, or with 10.
 #![tactic(auto)]
 
-ghost use Rattle.std.specs.Prelude.{◌≡◌, ℕ, ◌<◌, ◌≤◌, length, map, take};
+ghost use Rattle.std.specs.Prelude.{◌≡◌, ℕ, ◌<◌, ◌≤◌, length, get_or, map};
 ghost use Rattle.semantics.specs.Basic.{total};
 ghost use Rattle.semantics.specs.Answer.{accepted};
 ghost use Rattle.semantics.specs.Verdict.{verdict, searched_in, written, buffer_in};
-ghost use Rattle.answers.specs.Answers.{scenario_in, Accepts, verdict_as, searched_as};
-ghost use Rattle.runs.specs.Runs.{run_at};
+ghost use Rattle.answers.specs.Answers.{verdict_as, searched_as};
+ghost use Rattle.runs.specs.Opened.{scenario_of};
+ghost use Rattle.runs.specs.Runs.{no_place};
 ghost use Rattle.search_runs.specs.Runs.{list_as};
 ghost use Rattle.search_breaks.specs.Walk.{FindsAll};
 
-use answers::{End, Layout, Refusal, Verdict, Walked};
-use runs::Runs;
+use answers::{End, Refusal, Verdict, Walked};
+use runs::{Opened, RunPlace};
 use search_breaks::{Course, Plan, Reach};
 use search_memory::Memory;
 use search_runs::Listing;
 use search_walk::Parts;
-use state::{Opened, State};
+use state::State;
 
-// How many events the runs have together.
-fn event_count(r: Runs) -> usize
-    requires { (r.count ≤ 4) × ((k : ℕ) → k < 4 → (run_at r k).events ≤ 8) }
-    ensures { (result ≡ total (map (λ p. p.events) (take r.count r.runs))) × (result ≤ 32) }
+// How many events some runs have together.
+fn event_count(runs: &[RunPlace]) -> usize
+    requires { (length runs.now ≤ 4) × ((k : ℕ) → k < length runs.now → (get_or runs.now k no_place).events ≤ 8) }
+    ensures { (result ≡ total (map (λ p. p.events) runs.now)) × (result ≤ 32) }
 {
-    // stays: `sum()` over a part of an array leaves its bound unproved
+    // stays: `sum()` leaves its bound unproved
     let mut sum = 0;
-    for run in &r.runs[..r.count] {
+    for run in runs {
         sum += run.events;
     }
     sum
 }
 
 // Walks through a whole list of an accepted file, with a memory that is empty at first.
-fn walk_all(trace: &mut [u8], file: &[u8], l: Layout, left: usize, list: Listing) -> Walked
-    requires { Accepts file.now l × ((128 ≤ length trace.old) × (left < 4294967296)) }
-    ensures { FindsAll (list_as list) (scenario_in file.now) left trace.old trace.new result }
+fn walk_all(trace: &mut [u8], opened: &Opened, left: usize, list: Listing) -> Walked
+    requires { (128 ≤ length trace.old) × (left < 4294967296) }
+    ensures { FindsAll (list_as list) (scenario_of opened.now) left trace.old trace.new result }
 {
-    let opened = Opened::of(file, l);
-    let s = State::initial(&opened, frame::block_of(file, 3));
+    let s = State::initial(opened);
+    let runs = &opened.runs.runs[..opened.runs.count];
     let done = [State::NONE_DONE; 4];
     let variables = search_memory::variable_rows(&opened.table);
     let mut memory = [0; Memory::WORDS];
@@ -46,7 +47,7 @@ fn walk_all(trace: &mut [u8], file: &[u8], l: Layout, left: usize, list: Listing
         &mut memory,
         &Plan {
             list,
-            opened,
+            opened: *opened,
             variables,
         },
         &Parts {
@@ -58,22 +59,22 @@ fn walk_all(trace: &mut [u8], file: &[u8], l: Layout, left: usize, list: Listing
         Reach {
             left,
             at: 0,
-            depth: event_count(opened.runs),
+            depth: event_count(runs),
         },
     )
 }
 
 // The verdict on an accepted file by a list. Without a budget no memory is cleared.
-fn judged(file: &[u8], l: Layout, trace: &mut [u8], list: Listing) -> Verdict
-    requires { Accepts file.now l × (128 ≤ length trace.old) }
-    ensures value { result ≡ verdict_as (verdict (list_as list) (scenario_in file.now)) }
-    ensures trace_after { trace.new ≡ written trace.old (accepted (verdict (list_as list) (scenario_in file.now))) }
+fn judged(opened: &Opened, trace: &mut [u8], list: Listing) -> Verdict
+    requires { 128 ≤ length trace.old }
+    ensures value { result ≡ verdict_as (verdict (list_as list) (scenario_of opened.now)) }
+    ensures trace_after { trace.new ≡ written trace.old (accepted (verdict (list_as list) (scenario_of opened.now))) }
 {
-    let budget = frame::budget(file);
+    let budget = frame::budget(opened.file);
     if budget == 0 {
         return answers::verdict_of(Err(End::Cut), budget);
     }
-    let walked = walk_all(trace, file, l, budget, list);
+    let walked = walk_all(trace, opened, budget, list);
     answers::verdict_of(walked, budget)
 }
 
@@ -84,5 +85,5 @@ pub fn search_in(file: &[u8], trace: &mut [u8], list: Listing) -> Result<Verdict
 {
     let layout = scenario::open(file)?;
     answers::check_buffer(&trace[..])?;
-    Ok(judged(file, layout, trace, list))
+    Ok(judged(&Opened::of(file, layout), trace, list))
 }

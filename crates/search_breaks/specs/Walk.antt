@@ -15,7 +15,8 @@ use Rattle.rows.specs.Rows.{rows_of}
 use Rattle.records.specs.Kinds.{byte_of}
 use Rattle.runs.specs.declared.RunEvent.{RunEvent}
 use Rattle.state.specs.declared.State.{State}
-use Rattle.state.specs.State.{Given, Due, IsState, NextMove, Ready}
+use Rattle.runs.specs.Opened.{Gives}
+use Rattle.state.specs.State.{Due, IsState, NextMove, Ready}
 use Rattle.values.specs.Values.{Setting, PartArrays}
 use Rattle.answers.specs.Answers.{walked_as}
 use Rattle.variables.specs.Variables.{Beneath, unset_from}
@@ -108,7 +109,7 @@ state_of course names classes marks = record { done = course.done; names = names
 -- a state of an accepted file that an allowed trace reaches
 pub record ReachedBy (plan : Plan) (sc : Scenario) (d : definitions.State) (ms : List Move) : Type 0 where
   pub is_opened : opened plan.opened.file.now ≡ accepted sc
-  pub given : Given plan.opened.file.now plan.opened.table.bytes.now plan.opened.table.rows plan.opened.runs sc
+  pub given : Gives plan.opened sc
   pub allowed : AllowedTrace sc ms d
 
 -- as the code has it, with the place at which the trace's bytes end

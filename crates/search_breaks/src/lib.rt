@@ -2,13 +2,13 @@
 #![tactic(auto)]
 
 ghost use Rattle.std.specs.Prelude.{◌≡◌, List, [], ◌∷◌, ◌++◌, ◌+◌, ◌*◌, ◌<◌, ◌≤◌, length, take};
-ghost use Rattle.semantics.specs.State.{Value};
+ghost use Rattle.semantics.specs.State as definitions;
 ghost use Rattle.search_breaks.specs.Walk.{over, ValuesAre, StepFits, step_before};
 
 use answers::{End, Walked};
-use runs::RunEvent;
+use runs::{Opened, RunEvent};
 use search_runs::Listing;
-use state::Opened;
+use variables::Value;
 
 // What a walk goes by: which list it goes through, the file, and the rows of its table's variables.
 #[derive(Clone, Copy)]
@@ -19,6 +19,7 @@ pub struct Plan<'a> {
 }
 
 // How far a trace has come: how many events each run has made.
+// stays: a struct of one field, since the definitions of the walk take it and an array of four numbers could be another
 #[derive(Clone, Copy)]
 pub struct Course {
     pub done: [usize; 4],
@@ -87,15 +88,15 @@ pub fn no_values() -> Values
     }
 }
 
-// The values with one more, of row r and run w.
-pub fn with_value(values: Values, r: usize, w: usize) -> Values
-    requires { (values.count < 8) × ((r < 256) × (w < 256)) }
-    ensures { (vs : List Value) → ValuesAre vs values → ValuesAre (vs ++ (record { row = r; run = w } ∷ [])) result }
+// The values with one more.
+pub fn with_value(values: Values, value: Value) -> Values
+    requires { (values.count < 8) × ((value.row < 256) × (value.run < 256)) }
+    ensures { (vs : List definitions.Value) → ValuesAre vs values → ValuesAre (vs ++ (record { row = value.row; run = value.run } ∷ [])) result }
 {
     let mut bytes = values.bytes;
     let end = 2 * values.count;
-    bytes[end] = r as u8;
-    bytes[end + 1] = w as u8;
+    bytes[end] = value.row as u8;
+    bytes[end + 1] = value.run as u8;
     Values {
         bytes,
         count: values.count + 1,

@@ -2,7 +2,7 @@
 #![tactic(auto)]
 
 ghost use Rattle.std.specs.Prelude.{◌≡◌, true, ℕ, IfSome, ◌+◌, ◌*◌, ◌/◌, ◌%◌, ◌<◌, ◌≤◌, length, get_or};
-ghost use Rattle.search_memory.specs.Memory.{slot_count, key_size, count_end, Variables, name_of, IsKey, HoldsKey, count_at, LookedUp, Stored, Kept, Written};
+ghost use Rattle.search_memory.specs.Memory.{slot_count, key_size, count_end, Variables, name_of, IsKey, HoldsKey, count_at, LookedUp, Kept, Written};
 
 use cells::{Names, cell};
 use rows::Table;
@@ -21,8 +21,13 @@ impl Memory {
     // the words of a slot
     // stays: an edit shows that slots which overlap are refused, and an array of slots cannot overlap
     const SLOT: usize = 40;
-    // the words of a key
+    // the words of a key: positions, moves, one that is not used, and names
+    // stays: the memory holds a key as these words, and they are hashed and compared as such
     const KEY: usize = 38;
+    // where the number of moves stands in a key
+    const DEPTH: usize = 4;
+    // where the names of the first run begin
+    const NAMES: usize = 6;
     // where the first half of the count stands in a slot
     const LOW: usize = 38;
     // where the second half stands
@@ -55,7 +60,7 @@ fn fill_names(key: &mut [u16; 38], variables: &[usize; 8], names: &Names, k: usi
     ensures { Written key.old key.new (6 + 8 * k) 8 (name_of variables.now names.now k) }
 {
     for (i, x) in variables.iter().enumerate() {
-        key[6 + 8 * k + i] = names[cell(*x, k + 1)];
+        key[Memory::NAMES + 8 * k + i] = names[cell(*x, k + 1)];
     }
 }
 
@@ -65,7 +70,7 @@ pub fn key_of(variables: [usize; 8], done: [usize; 4], names: &Names, depth: usi
     ensures { IsKey variables done names.now depth result }
 {
     let mut key = [0; 38];
-    key[4] = depth as u16;
+    key[Memory::DEPTH] = depth as u16;
     for k in 0..4 {
         key[k] = done[k] as u16;
         fill_names(&mut key, &variables, names, k);
@@ -74,10 +79,10 @@ pub fn key_of(variables: [usize; 8], done: [usize; 4], names: &Names, depth: usi
 }
 
 // Two words as one number.
-fn joined(low: u16, high: u16) -> u64
-    ensures { result < count_end }
+fn joined(low: u16, high: u16) -> usize
+    ensures { (result ≡ low + 65536 * high) × (result < count_end) }
 {
-    u64::from(low) + 65536 * u64::from(high)
+    usize::from(low) + Memory::HALF * usize::from(high)
 }
 
 // The hash of a key, mixed by multiplication, two words at a time.
@@ -86,7 +91,7 @@ fn hash(key: &[u16; 38]) -> u64
 {
     let mut h = 0;
     for pair in key.chunks_exact(2) {
-        h = (h + joined(pair[0], pair[1])) * Memory::FACTOR / Memory::DROPPED % Memory::KEPT;
+        h = (h + joined(pair[0], pair[1]) as u64) * Memory::FACTOR / Memory::DROPPED % Memory::KEPT;
     }
     h
 }
@@ -113,17 +118,24 @@ fn count_at(memory: &Words, slot: usize) -> usize
     ensures { (result ≡ count_at memory.now slot) × (result < count_end) }
 {
     let at = Memory::SLOT * slot;
-    usize::from(memory[at + Memory::LOW]) + Memory::HALF * usize::from(memory[at + Memory::HIGH])
+    joined(memory[at + Memory::LOW], memory[at + Memory::HIGH])
+}
+
+// The slot of a key in the set that begins with slot `first`, if it has one.
+fn slot_of(memory: &Words, first: usize, key: &[u16; 38]) -> Option<usize>
+    requires { first + 4 ≤ slot_count }
+    ensures { IfSome result (λ slot. (slot < slot_count) × HoldsKey memory.now slot key.now) }
+{
+    (first..first + Memory::WAYS).find(|slot| holds_key(memory, *slot, key))
 }
 
 // The count that the memory has for a key, if it has one.
 pub fn look_up(memory: &Words, key: &[u16; 38]) -> Option<usize>
     ensures { IfSome result (λ count. (0 < count) × LookedUp memory.now key.now count) }
 {
-    let first = first_slot(key);
-    let slot = (first..first + Memory::WAYS).find(|slot| holds_key(memory, *slot, key))?;
+    let slot = slot_of(memory, first_slot(key), key)?;
     let count = count_at(memory, slot);
-    if count == 0 { None } else { Some(count) }
+    (0 < count).then_some(count)
 }
 
 // The slot to which an entry goes: the one of the same key, or else the first of the smallest count.
@@ -131,19 +143,12 @@ fn slot_for(memory: &Words, key: &[u16; 38]) -> usize
     ensures { result < slot_count }
 {
     let first = first_slot(key);
-    let mut best = first;
-    let mut least = count_at(memory, first);
-    for slot in first..first + Memory::WAYS {
-        if holds_key(memory, slot, key) {
-            return slot;
-        }
-        let count = count_at(memory, slot);
-        if count < least {
-            best = slot;
-            least = count;
-        }
+    if let Some(slot) = slot_of(memory, first, key) {
+        return slot;
     }
-    best
+    (first..first + Memory::WAYS)
+        .min_by_key(|slot| count_at(memory, *slot))
+        .unwrap_or(first)
 }
 
 // Writes a key from a place on.
@@ -162,19 +167,8 @@ fn halves(count: usize) -> (u16, u16)
     ((count % Memory::HALF) as u16, (count / Memory::HALF) as u16)
 }
 
-// Stores the count of a key, over the entry of the same key or else over one of the smallest count.
-pub fn store(memory: &mut Words, key: &[u16; 38], count: usize)
-    requires { (0 < count) × (count < count_end) }
-    ensures { Stored memory.old memory.new key.now count }
-{
-    let at = Memory::SLOT * slot_for(memory, key);
-    write_key(memory, at, key);
-    let (low, high) = halves(count);
-    memory[at + Memory::LOW] = low;
-    memory[at + Memory::HIGH] = high;
-}
-
-// Stores the count of a key, if there is one to store.
+// Stores the count of a key, over the entry of the same key or else over one of the smallest count. A slot with the count 0 holds nothing, since the memory is
+// cleared to zeros; so a count of 0 is not stored.
 pub fn keep(memory: &mut Words, key: &[u16; 38], count: usize)
     requires { count < count_end }
     ensures { Kept memory.old memory.new key.now count }
@@ -182,5 +176,9 @@ pub fn keep(memory: &mut Words, key: &[u16; 38], count: usize)
     if count == 0 {
         return;
     }
-    store(memory, key, count);
+    let at = Memory::SLOT * slot_for(memory, key);
+    write_key(memory, at, key);
+    let (low, high) = halves(count);
+    memory[at + Memory::LOW] = low;
+    memory[at + Memory::HIGH] = high;
 }

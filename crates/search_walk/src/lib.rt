@@ -42,8 +42,7 @@ pub fn walk(
     if reach.depth == 0 {
         return Ok(count);
     }
-    let span = search_runs::runs_in(plan.list, plan.opened.file, plan.opened.runs, done);
-    for k in span.from..span.end {
+    for k in search_runs::runs_in(plan.list, &plan.opened, done) {
         let found = walk_run(
             trace,
             memory,
@@ -77,13 +76,10 @@ fn walk_run(
     ensures finds_run { FindsRun plan.now (state_of state.now.course state.now.names.now state.now.classes.now state.now.marks) reach k trace.old trace.new result }
     ensures remembers { Remembers plan.now memory.new }
 {
-    let runs = plan.opened.runs;
     let done = state.course.done;
-    let j = done[k];
-    if runs.runs[k].events <= j {
+    let Some(event) = plan.opened.next_event(k, done[k]) else {
         return Ok(0);
-    }
-    let event = runs::event_of(plan.opened.file, runs, k, j);
+    };
     let turn = Turn {
         run: k,
         event,
@@ -138,7 +134,7 @@ fn walk_values(
     let mut count = 0;
     let mut row = 0;
     let mut run = 0;
-    // stays: each value is found from the one before it
+    // stays: each value is found from the one before it, and what is promised goes by the row and run that come next (`Tried`)
     while let Some(value) = variables::next_value(t, x, row, run) {
         let mut more = [0; Cells::COUNT];
         let mut more_classes = [0; Cells::COUNT];
@@ -153,8 +149,7 @@ fn walk_values(
                 run: choice.turn.run + 1,
             },
             x,
-            value.row,
-            value.run,
+            value,
         );
         let found = walk_values(
             trace,
@@ -176,7 +171,7 @@ fn walk_values(
                 turn: Turn {
                     run: choice.turn.run,
                     event,
-                    values: search_breaks::with_value(values, value.row, value.run),
+                    values: search_breaks::with_value(values, value),
                 },
                 under,
                 from: x + 1,

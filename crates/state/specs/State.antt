@@ -9,24 +9,15 @@ use Rattle.semantics.specs.Guarantee.{Guarantee}
 use Rattle.semantics.specs.State.{Value, Progress, Active, active, Standing}
 use Rattle.semantics.specs.State as definitions
 use Rattle.semantics.specs.Moves.{set_after}
-use Rattle.rows.specs.Rows.{rows_of, Shape}
+use Rattle.rows.specs.Rows.{rows_of}
 use Rattle.cells.specs.Cells.{cell_count, Readings, cell_value}
 use Rattle.classes.specs.Classes.{NamesRight, Classes}
 use Rattle.knowledge.specs.Marks.{Exact, Celled}
-use Rattle.runs.specs.declared.Runs.{Runs}
 use Rattle.records.specs.Kinds.{byte_of}
 use Rattle.runs.specs.declared.RunEvent.{RunEvent}
-use Rattle.runs.specs.Runs.{RunsAt, EventRead}
+use Rattle.runs.specs.Runs.{EventRead}
 use Rattle.state.specs.declared.State.{State}
 use Rattle.state.specs.Readings.{sets_of, with_sets, readings}
-
--- an accepted file, its table, and where its runs stand
-pub record Given (file t : List ℕ) (n : ℕ) (r : Runs) (sc : Scenario) : Type 0 where
-  pub size : length file ≤ 4096
-  pub runs : RunsAt file sc r
-  pub shape : Shape t n r.count
-  pub rows : sc.rows ≡ rows_of t
-  pub good : Guarantee sc
 
 -- a run, counted from 0, and rows of the table for an event's agents and term
 pub record Due (n runs k own peer row : ℕ) : Type 0 where

@@ -5,4 +5,3 @@ pub mod Moves
 pub mod Ready
 pub mod Start
 pub mod Active
-pub mod Given

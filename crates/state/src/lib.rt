@@ -3,42 +3,16 @@
 
 ghost use Rattle.std.specs.Prelude.{◌≡◌, ◌+◌, ◌<◌, ◌≤◌, length, get_or, set};
 ghost use Rattle.semantics.specs.State as definitions;
-ghost use Rattle.semantics.specs.Scenario.{Scenario};
-ghost use Rattle.semantics.specs.Guarantee.{Guarantee};
 ghost use Rattle.rows.specs.Rows.{rows_of};
-ghost use Rattle.answers.specs.Answers.{scenario_in, Accepts};
 ghost use Rattle.classes.specs.Classes.{Refilled};
 ghost use Rattle.knowledge.specs.Marks.{Settled};
-ghost use Rattle.runs.specs.Runs.{RunsAt};
+ghost use Rattle.runs.specs.Opened.{scenario_of};
 ghost use Rattle.state.specs.Start.{Agents};
-ghost use Rattle.state.specs.State.{Given, IsState};
+ghost use Rattle.state.specs.State.{IsState};
 
-use answers::Layout;
 use cells::{Cells, Classes, Marks, Names, Scope};
-use rows::Table;
-use runs::Runs;
-
-// An accepted file: its bytes, its table, and where its runs stand.
-#[derive(Clone, Copy)]
-pub struct Opened<'a> {
-    pub file: &'a [u8],
-    pub table: Table<'a>,
-    pub runs: Runs,
-    pub ghost counted: { table.runs ≡ runs.count },
-}
-
-impl<'a> Opened<'a> {
-    // A file that Open accepts with a layout.
-    pub fn of(file: &'a [u8], l: Layout) -> Opened<'a>
-        requires { Accepts file.now l }
-        ensures file { result.file.now ≡ file.now }
-        ensures given { Given result.file.now result.table.bytes.now result.table.rows result.runs (scenario_in file.now) }
-    {
-        let runs = runs::runs_of(file, l);
-        let table = Table::new(frame::block_of(file, 0), l.terms.count, runs.count);
-        Opened { file, table, runs }
-    }
-}
+use frame::BlockKind;
+use runs::Opened;
 
 // How far each run has come, what its atoms stand for, the classes of values, and the marks, taken apart.
 #[derive(Clone, Copy)]
@@ -59,13 +33,6 @@ pub fn advance(done: [usize; 4], k: usize) -> [usize; 4]
     more
 }
 
-// Copies the numbers of all cells.
-pub fn copy(to: &mut [u16; Cells::COUNT], from: &[u16; Cells::COUNT])
-    ensures { to.new ≡ from.now }
-{
-    *to = *from;
-}
-
 // The marks once the names of a run have grown; the classes are filled anew.
 pub fn with_names(classes: &mut Classes, marks: Marks, names: &Names, scope: &Scope) -> Marks
     ensures refilled { Refilled (rows_of scope.now.table.bytes.now) scope.now.table.runs scope.now.run names.now classes.old classes.new }
@@ -76,17 +43,16 @@ pub fn with_names(classes: &mut Classes, marks: Marks, names: &Names, scope: &Sc
 }
 
 // The agents of run u as the file has them, and none for run 0.
-fn agents_of(file: &[u8], r: Runs, u: usize) -> &[u8]
-    requires { (sc : Scenario) × (RunsAt file.now sc r × ((u ≤ r.count) × (length file.now ≤ 4096))) }
-    ensures { (sc : Scenario) → RunsAt file.now sc r → Guarantee sc → Agents sc u result.now }
+fn agents_of<'a>(opened: &Opened<'a>, u: usize) -> &'a [u8]
+    requires { u ≤ opened.now.runs.count }
+    ensures { Agents (scenario_of opened.now) u result.now }
 {
     if u == 0 {
-        return &file[0..0];
+        return &opened.file[0..0];
     }
-    let k = u - 1;
-    let first = r.runs[k].start + 1;
-    let end = first + r.roles;
-    &file[first..end]
+    let first = opened.runs.runs[u - 1].start + 1;
+    let end = first + opened.runs.roles;
+    &opened.file[first..end]
 }
 
 impl State {
@@ -106,16 +72,15 @@ impl State {
     }
 
     // The state before any move: what is known is the file's list and all intruder constants.
-    pub fn initial(opened: &Opened, list: &[u8]) -> State
-        requires { (sc : Scenario) × (Given opened.now.file.now opened.now.table.bytes.now opened.now.table.rows opened.now.runs sc × (list.now ≡ sc.knowledge)) }
-        ensures { (sc : Scenario) → Given opened.now.file.now opened.now.table.bytes.now opened.now.table.rows opened.now.runs sc → list.now ≡ sc.knowledge → IsState sc (definitions.initial sc) result }
+    pub fn initial(opened: &Opened) -> State
+        ensures { IsState (scenario_of opened.now) (definitions.initial (scenario_of opened.now)) result }
     {
         let t = &opened.table;
+        let list = frame::part_of(opened.file, BlockKind::Knowledge).bytes;
         let mut names = [Cells::ABSENT; Cells::COUNT];
         let mut classes = [Cells::ABSENT; Cells::COUNT];
         for u in 0..t.runs + 1 {
-            let agents = agents_of(opened.file, opened.runs, u);
-            names = state_start::entered(names, t, u, agents);
+            names = state_start::entered(names, t, u, agents_of(opened, u));
             classes::refill(&mut classes, t, &names, u);
         }
         let marks = knowledge::settle(state_start::start_marks(t, list), t, &classes);

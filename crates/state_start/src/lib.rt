@@ -2,35 +2,33 @@
 #![tactic(auto)]
 
 ghost use Rattle.std.specs.Prelude.{[], ◌<◌, ◌≤◌};
+ghost use Rattle.std.specs.Option.{unwrap_or};
 ghost use Rattle.rows.specs.Rows.{rows_of};
+ghost use Rattle.cells.specs.Cells.{absent};
 ghost use Rattle.role_level.specs.RoleLevel.{ListedBelow};
 ghost use Rattle.state_start.specs.Start.{AreAgents, FirstName, Entered, StartMarks};
 
 use cells::{Cells, Marks, Names, cell};
 use rows::{Kind, Table};
+use std::array;
 
-// The name of row r in run u, for the agents of that run and before any variable is set.
-fn name_of(t: &Table, r: usize, u: usize, agents: &[u8]) -> u16
+// The name of row r in run u, for the agents of that run and before any variable is set, if it has one.
+fn name_of(t: &Table, r: usize, u: usize, agents: &[u8]) -> Option<u16>
     requires { (r < t.now.rows) × ((u ≤ 4) × AreAgents (rows_of t.now.bytes.now) agents.now) }
-    ensures { FirstName (rows_of t.now.bytes.now) u agents.now r result }
+    ensures { FirstName (rows_of t.now.bytes.now) u agents.now r (unwrap_or result absent) }
 {
     let kind = t.kind_of(r);
-    if kind.number() < Kind::Role.number() {
-        return r as u16;
+    if kind < Kind::Role {
+        return Some(r as u16);
     }
     if u == 0 {
-        return Cells::ABSENT;
+        return None;
     }
-    if kind == Kind::Role {
-        return match agents.get(t.left_of(r)) {
-            Some(agent) => u16::from(*agent),
-            None => Cells::ABSENT,
-        };
+    match kind {
+        Kind::Role => agents.get(t.left_of(r)).map(|&agent| u16::from(agent)),
+        Kind::Local => Some(cell(r, u) as u16),
+        _ => None,
     }
-    if kind == Kind::Local {
-        return cell(r, u) as u16;
-    }
-    Cells::ABSENT
 }
 
 // The names with those of run u filled in.
@@ -40,7 +38,7 @@ pub fn entered(names: Names, t: &Table, u: usize, agents: &[u8]) -> Names
 {
     let mut more = names;
     for r in 0..t.rows {
-        more[cell(r, u)] = name_of(t, r, u, agents);
+        more[cell(r, u)] = name_of(t, r, u, agents).unwrap_or(Cells::ABSENT);
     }
     more
 }
@@ -49,13 +47,7 @@ pub fn entered(names: Names, t: &Table, u: usize, agents: &[u8]) -> Names
 fn intruder_marks(t: &Table) -> Marks
     ensures { StartMarks t.now.bytes.now t.now.rows [] result }
 {
-    let mut marks = [false; 480];
-    for r in 0..t.rows {
-        if t.kind_of(r) == Kind::Intruder {
-            marks[r] = true;
-        }
-    }
-    marks
+    array::from_fn(|r| r < t.rows && t.kind_of(r) == Kind::Intruder)
 }
 
 // The marks of the intruder constants and of the listed rows.

@@ -31,9 +31,9 @@ abbrev pub reason_as : Option ℕ → code.Option Reason
 reason_as none = None
 reason_as (some n) = Some (reason_of n)
 
--- whether two rows have the same three bytes
-abbrev pub same_bytes : List ℕ → ℕ → ℕ → Bool
-same_bytes bytes i j =
-    eqb (get_or bytes (3 * i) 0) (get_or bytes (3 * j) 0)
-    && eqb (get_or bytes (3 * i + 1) 0) (get_or bytes (3 * j + 1) 0)
-    && eqb (get_or bytes (3 * i + 2) 0) (get_or bytes (3 * j + 2) 0)
+-- whether row j of a table has the three bytes at the front of others
+abbrev pub same_bytes : List ℕ → ℕ → List ℕ → Bool
+same_bytes bytes j row =
+    eqb (get_or bytes (3 * j) 0) (get_or row 0 0)
+    && eqb (get_or bytes (3 * j + 1) 0) (get_or row 1 0)
+    && eqb (get_or bytes (3 * j + 2) 0) (get_or row 2 0)

@@ -18,6 +18,7 @@ use std::marker::Model;
 use table::TableLimits;
 
 // A text of at most 1024 bytes, which a contract sees as the list of its bytes.
+// stays: `Display` writes through a formatter, which may fail, and str; here nothing fails, and each contract is an equation of bytes
 #[derive(Drop)]
 pub struct Text {
     bytes: [u8; 1024],
@@ -99,12 +100,10 @@ impl Text {
         ensures len_bound { length self.new ≤ length self.old + 4 * length values.now }
         ensures text { (vs : List Value) → values.now ≡ value_bytes vs → self.new ≡ self.old ++ joined value_text vs }
     {
-        if values.len() < 2 {
-            return;
+        for pair in values.chunks_exact(2) {
+            self.push_with(b" ", usize::from(pair[0]));
+            self.push_with(b".", usize::from(pair[1]));
         }
-        self.push_with(b" ", usize::from(values[0]));
-        self.push_with(b".", usize::from(values[1]));
-        self.push_values(&values[2..]);
     }
 
     // Adds a step: a run and its new values, on a line.
@@ -138,7 +137,7 @@ fn refused(r: Refusal) -> Text
     ensures { result ≡ refused_text (number_of r.reason) r.place }
 {
     let mut text = Text::new();
-    text.push_with(b"REFUSED ", r.reason.number());
+    text.push_with(b"REFUSED ", usize::from(r.reason));
     text.push_word(b" ");
     text.push_line(r.place);
     text

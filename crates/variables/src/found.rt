@@ -7,5 +7,5 @@ pub struct VariableRows {
     pub rows: [usize; 8],
     pub count: usize,
     pub ghost few: { count ≤ 8 },
-    pub ghost low: { (j : ℕ) → get_or rows j 0 < 96 },
+    pub ghost low: { (j : ℕ) → j < count → get_or rows j 0 < 96 },
 }

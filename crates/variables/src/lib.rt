@@ -3,18 +3,28 @@
 
 ghost use Rattle.std.specs.Prelude.{◌≡◌, false, ◌&&◌, ℕ, ◌+◌, ◌*◌, ◌<◌, ◌≤◌, eqb, get_or, IsTrue, ◌↔◌, MatchOption};
 ghost use Rattle.std.proofs.Math.Option.{some};
-ghost use Rattle.semantics.specs.Term.{VariableType, Atom, variable};
+ghost use Rattle.semantics.specs.Term as terms;
+ghost use Rattle.semantics.specs.Term.{Atom, variable};
 ghost use Rattle.semantics.specs.Runs.{atom_at};
 ghost use Rattle.rows.specs.Kinds.{number_of};
 ghost use Rattle.rows.specs.Rows.{rows_of};
 ghost use Rattle.cells.specs.Cells.{cell_of, absent};
 ghost use Rattle.variables.specs.Variables.{Beneath, ClosedFrom, NextUnset, first_run, run_count, TellsValue, NextOf, NotNamed, Among, Unset};
+ghost use Rattle.variables.specs.Types.{fresh_type};
 
 mod found;
 
 use cells::{Cells, Names};
 pub use found::VariableRows;
 use rows::{Kind, Table};
+use std::array;
+
+// The type of a variable: what its values are.
+#[derive(Clone, Copy, PartialEq, Eq)]
+pub enum VariableType {
+    Agent,
+    Fresh,
+}
 
 // A value of a variable: a row, and the run in which it is read.
 #[derive(Clone, Copy, PartialEq, Eq)]
@@ -32,7 +42,7 @@ fn mark_parts(below: &mut [bool; 96], t: &Table, r: usize)
         return;
     }
     below[t.left_of(r)] = true;
-    below[cells::second_of(t.bytes, r)] = true;
+    below[t.second_of(r)] = true;
 }
 
 // Which rows lie beneath row x: the row itself, and what lies beneath the rows that it refers to.
@@ -85,18 +95,20 @@ pub fn variable_rows(t: &Table, set: &[bool; 96]) -> VariableRows
     VariableRows { rows: found, count }
 }
 
+// Whether row x of a set has no value in run u, by its name or class.
+fn lacks_value(set: &[bool; 96], values: &[u16; Cells::COUNT], u: usize, x: usize) -> bool
+    requires { (x < 96) × (u ≤ 4) }
+    ensures { result ≡ (get_or set.now x false && eqb (get_or values.now (cell_of x u) absent) absent) }
+{
+    set[x] && values[cells::cell(x, u)] == Cells::ABSENT
+}
+
 // The rows of a set that have no value in run u, by their names or classes.
 fn without_value(set: [bool; 96], values: &[u16; Cells::COUNT], u: usize) -> [bool; 96]
     requires { u ≤ 4 }
     ensures { (x : ℕ) → x < 96 → get_or result x false ≡ (get_or set x false && eqb (get_or values.now (cell_of x u) absent) absent) }
 {
-    let mut less = set;
-    for x in 0..96 {
-        if values[cells::cell(x, u)] != Cells::ABSENT {
-            less[x] = false;
-        }
-    }
-    less
+    array::from_fn(|x| lacks_value(&set, values, u, x))
 }
 
 // The variables without a value in run u, by their names or classes, among the rows of a set.
@@ -119,55 +131,56 @@ fn first_run(kind: Kind) -> usize
     usize::from(kind == Kind::Local)
 }
 
-// With how many runs a row of a kind is a value of a fresh variable, or of an agent variable.
+// With how many runs a row of a kind is a value of a variable of a type.
 #[tactic(auto, unfolding(crate::specs::Variables::run_count))]
-fn run_count(kind: Kind, fresh: bool, runs: usize) -> usize
-    ensures { (result ≡ run_count runs fresh (number_of kind)) × (result ≤ runs + 1) }
+fn run_count(kind: Kind, variable: VariableType, runs: usize) -> usize
+    ensures { (result ≡ run_count runs (fresh_type variable) (number_of kind)) × (result ≤ runs + 1) }
 {
-    if fresh {
-        match kind {
-            Kind::Intruder => 1,
-            Kind::Local => runs,
-            _ => 0,
-        }
-    } else {
-        usize::from(matches!(kind, Kind::Trusted | Kind::Untrusted))
+    match (variable, kind) {
+        (VariableType::Agent, Kind::Trusted | Kind::Untrusted) => 1,
+        (VariableType::Fresh, Kind::Intruder) => 1,
+        (VariableType::Fresh, Kind::Local) => runs,
+        _ => 0,
     }
 }
 
-// Whether the variable of row x is a fresh one.
-fn is_fresh(t: &Table, x: usize) -> bool
+// The type of the variable of row x.
+fn type_of(t: &Table, x: usize) -> VariableType
     requires { x < t.now.rows }
-    ensures { result ≡ eqb (get_or t.now.bytes.now (3 * x + 2) 0) 1 }
+    ensures { fresh_type result ≡ eqb (get_or t.now.bytes.now (3 * x + 2) 0) 1 }
 {
-    t.right_of(x) == 1
+    if t.right_of(x) == 1 {
+        VariableType::Fresh
+    } else {
+        VariableType::Agent
+    }
 }
 
-// Whether row r with run w is a value that the variable of row x may take.
-pub fn may_take(t: &Table, x: usize, r: usize, w: usize) -> bool
+// Whether the variable of row x may take a value.
+pub fn may_take(t: &Table, x: usize, value: Value) -> bool
     requires { (x < t.now.rows) × (get_or t.now.bytes.now (3 * x) 0 ≡ 6) }
-    ensures { (a : Atom) → atom_at (rows_of t.now.bytes.now) x ≡ some a → TellsValue (rows_of t.now.bytes.now) t.now.runs a r w result }
+    ensures { (a : Atom) → atom_at (rows_of t.now.bytes.now) x ≡ some a → TellsValue (rows_of t.now.bytes.now) t.now.runs a value.row value.run result }
 {
-    if t.rows <= r {
+    if t.rows <= value.row {
         return false;
     }
-    let kind = t.kind_of(r);
+    let kind = t.kind_of(value.row);
     let first = first_run(kind);
-    first <= w && w - first < run_count(kind, is_fresh(t, x), t.runs)
+    first <= value.run && value.run - first < run_count(kind, type_of(t, x), t.runs)
 }
 
 // The first value that the variable of row x may take whose row is r and run at least w, or whose row is higher.
 pub fn next_value(t: &Table, x: usize, r: usize, w: usize) -> Option<Value>
     requires { (x < t.now.rows) × (r ≤ t.now.rows) }
-    ensures { (num : ℕ) (type : VariableType) → atom_at (rows_of t.now.bytes.now) x ≡ some (variable num type) → NextOf (rows_of t.now.bytes.now) t.now.runs type r w result }
+    ensures { (num : ℕ) (type : terms.VariableType) → atom_at (rows_of t.now.bytes.now) x ≡ some (variable num type) → NextOf (rows_of t.now.bytes.now) t.now.runs type r w result }
 {
-    let fresh = is_fresh(t, x);
+    let variable = type_of(t, x);
     let mut v = w;
     for y in r..t.rows {
         let kind = t.kind_of(y);
         let first = first_run(kind);
         let run = v.max(first);
-        if run < first + run_count(kind, fresh, t.runs) {
+        if run < first + run_count(kind, variable, t.runs) {
             return Some(Value { row: y, run });
         }
         v = 0;

@@ -1,16 +1,14 @@
 -- What a refusal of the code says of the definitions' answer, and the verdict by what a walk found. Assumes nothing.
-use Rattle.std.specs.Prelude.{Option as CodeOption, ℕ, zero, suc, ◌<◌, ◌≤◌, ◌≡◌, refl, Bool, List, length, Err, None, Ok, Some}
-use Rattle.std.proofs.Common.{arith, sym, ◌∙◌, lt-ltb, le-ltb}
+use Rattle.std.specs.Prelude.{ℕ, zero, suc, ◌≤◌, ◌≡◌, refl, List, length, Err, Ok}
+use Rattle.std.proofs.Common.{arith, sym, ◌∙◌}
 use Rattle.std.proofs.Math.Path.{ap}
-use Rattle.semantics.specs.Basic.{provided}
 use Rattle.semantics.specs.Answer as definitions
 use Rattle.semantics.specs.Answer.{Answer, refused, accepted}
 use Rattle.semantics.specs.Scenario.{Scenario, opened}
-use Rattle.semantics.specs.Verdict.{Entry, Finding, found, nothing, cut, verdict_from, short_buffer}
-use Rattle.answers.specs.declared.Reason.{Reason}
+use Rattle.semantics.specs.Verdict.{Entry, Finding, found, nothing, cut, verdict_from}
 use Rattle.answers.specs.declared.Refusal.{Refusal}
 use Rattle.answers.specs.declared.Layout.{Layout}
-use Rattle.answers.specs.Answers.{number_of, reason_of, numbered, refusal_as, layout_of, opened_as, scenario_or, scenario_in, Accepts, verdict_as, Walked, walked_as, answered}
+use Rattle.answers.specs.Answers.{number_of, reason_of, refusal_as, layout_of, opened_as, scenario_or, scenario_in, Accepts, verdict_as, Walked, walked_as, answered}
 
 -- what a walk through the whole list finds is answered with the verdict
 pub answer-found : (es : List Entry) (budget : ℕ) (f : Finding) {w : Walked} → w ≡ walked_as es f → answered budget w ≡ verdict_as (verdict_from (length es) budget f)

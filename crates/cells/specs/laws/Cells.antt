@@ -8,10 +8,10 @@ use Rattle.semantics.specs.Table.{Row}
 use Rattle.semantics.specs.Guarantee.{refers_to}
 use Rattle.semantics.specs.Encoding.{RowBytes}
 use Rattle.semantics.proofs.laws.List.{get_elem-there}
-use Rattle.rows.specs.Rows.{rows_of, Shape}
+use Rattle.rows.specs.Rows.{rows_of, Shape, second_of}
 use Rattle.rows.specs.laws.Table.{table-good, table-row, left-lower as lower-left}
 use Rattle.rows.specs.laws.Decode.{decodes-refers}
-use Rattle.cells.specs.Cells.{cell_count, absent, second_of, Matches, FoundInRow, has_run, has_no_run, Found, is_found, not_found}
+use Rattle.cells.specs.Cells.{cell_count, absent, Matches, FoundInRow, has_run, has_no_run, Found, is_found, not_found}
 
 -- within a list the default does not matter
 pub get_d_any : {A : Type 0} (xs : List A) (i : ℕ) (d e : A) → i < length xs → get_or xs i d ≡ get_or xs i e

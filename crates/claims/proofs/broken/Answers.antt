@@ -9,7 +9,8 @@ use Rattle.semantics.specs.Scenario.{Scenario}
 use Rattle.semantics.specs.State as definitions
 use Rattle.runs.specs.declared.Runs.{Runs}
 use Rattle.state.specs.declared.State.{State}
-use Rattle.state.specs.State.{Given, IsState}
+use Rattle.runs.specs.Given.{Given}
+use Rattle.state.specs.State.{IsState}
 use Rattle.claims.specs.laws.State.{StandsIn, FoundIn, stands, state-none, state-broken, none-below, answered}
 use Rattle.rows.specs.laws.Ranges.{find_map-first}
 use Rattle.answers.specs.Answers.{Claimed}
@@ -28,7 +29,7 @@ returns c =
     let n = c.args.opened.now.table.rows in
     let r = c.args.opened.now.runs in
     let Found : ℕ → Claimed → Type 0 = FoundIn file t n r c.args.marks c.args.done in
-    answered file t n r c.args.marks c.args.done c.find_map.result
+    answered c.args.opened.now c.args.done c.args.marks c.find_map.result
     (find_map-first c.find_map.result (λ k y. Found k (Some y)) (λ k. Found k None) (λ x y q k. search (rules, tests)) (λ x y k. search (rules, tests)) (λ x k. search (rules, tests)) _ c.find_map.ensures.runs
     (λ none sc d s' given is same own.
     state-none file t n r c.args.marks c.args.done r.count (none-below file t n r c.args.marks c.args.done r.count (omega arith) (λ i l. none i (omega arith) l)) (omega arith) sc d (lent given is same own))

@@ -23,14 +23,14 @@ found c =
     let answers = λ (j : ℕ) (b : Bool). AnswersEvent c.args.opened.now.file.now c.args.opened.now.runs c.args.marks.now c.args.k j b in
     first_from_Range _ _ _ c.find.result (λ j. answers j true) (λ j. answers j false) c.find.ensures.ran (λ x q k. search (rules, tests)) (λ x q k. (search (rules, tests), search (rules, tests)))
 
-pub returns-in-Some : goal.returns-in-Some
-returns-in-Some c sc d run p at same made =
-    let here : First c.args.opened.now.file.now c.args.opened.now.runs c.args.marks.now c.args.k c.args.done (Some c.in-Some.event) = rw c.in-Some.is at (found (goal.at.returns-in-Some c).After-find) in
-    run-broken at (sym c.if-not-all_trusted.false ∙ c.all_trusted.ensures sc run same at.runs at.good at.is_run) c.in-Some.event
+pub returns : goal.returns
+returns c sc d run p at same made =
+    let here : First c.args.opened.now.file.now c.args.opened.now.runs c.args.marks.now c.args.k c.args.done (Some c.in_ok-event.event) = rw c.in_ok-event.was at (found (goal.at.returns c).After-find) in
+    run-broken at (sym c.if-not-all_trusted.false ∙ c.all_trusted.ensures sc run same at.runs at.good at.is_run) c.in_ok-event.event
     (none-to _ _ _ _ _ (λ i l. here.3 i (omega arith) l)) made here.1 here.2
 
-pub returns-in-None : goal.returns-in-None
-returns-in-None c sc d run p at same made =
-    let none : First c.args.opened.now.file.now c.args.opened.now.runs c.args.marks.now c.args.k c.args.done None = rw c.in-None.is at (found (goal.at.returns-in-None c).After-find) in
-    run_none at (sym c.if-not-all_trusted.false ∙ c.all_trusted.ensures sc run same at.runs at.good at.is_run) c.args.done
-    (none-to _ _ _ _ _ (λ i l. none i (omega arith) l)) made (omega arith)
+pub returns-in_err-event : goal.returns-in_err-event
+returns-in_err-event c sc d run p at same made =
+    let none : First c.args.opened.now.file.now c.args.opened.now.runs c.args.marks.now c.args.k c.args.done None = rw c.in_err-event.was at (found (goal.at.returns-in_err-event c).After-find) in
+    rw c.from_residual.ensures (run_none at (sym c.if-not-all_trusted.false ∙ c.all_trusted.ensures sc run same at.runs at.good at.is_run) c.args.done
+    (none-to _ _ _ _ _ (λ i l. none i (omega arith) l)) made (omega arith))

@@ -12,9 +12,11 @@ use Rattle.semantics.proofs.laws.List.{get_elem-there}
 use Rattle.semantics.proofs.laws.Broken.{first_found, first-none}
 use Rattle.knowledge.specs.Marks.{Exact}
 use Rattle.runs.specs.declared.Runs.{Runs}
+use Rattle.runs.specs.declared.opened.Opened.{Opened}
 use Rattle.state.specs.declared.State.{State as CodeState}
 use Rattle.state.specs.Readings.{sets_of, readings}
-use Rattle.state.specs.State.{Given, IsState}
+use Rattle.runs.specs.Given.{Given}
+use Rattle.state.specs.State.{IsState}
 use Rattle.claims.specs.AtRun.{AnswersRun, AnswersState}
 use Rattle.answers.specs.Answers.{claimed_as}
 use Rattle.answers.specs.declared.Claim.{Claim}
@@ -75,7 +77,7 @@ module _ (file t : List ℕ) (n : ℕ) (r : Runs) (marks : List Bool) (done : Li
         let x = is-broken (broken_in_run sc d k) c (sym h) in
         h ∙ ap claimed_as (x.1 ∙ sym (first_found (broken_in_run sc d) 0 (length sc.runs) k (omega arith) (omega (arith, is.given.runs.count)) (λ i f. before sc d is i) x.1))
 
-  -- what is answered of none and of a claim is answered
-  pub answered : (c : Claimed) → MatchOption c (AnswersState file t n r done marks None) (λ y. AnswersState file t n r done marks (Some y)) → AnswersState file t n r done marks c
-  answered None h = h
-  answered (Some y) h = h
+-- what is answered of none and of a claim is answered
+pub answered : (o : Opened) (done : List ℕ) (marks : List Bool) (c : Claimed) → MatchOption c (AnswersState o done marks None) (λ y. AnswersState o done marks (Some y)) → AnswersState o done marks c
+answered o done marks None h = h
+answered o done marks (Some y) h = h

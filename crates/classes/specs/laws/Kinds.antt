@@ -12,9 +12,9 @@ use Rattle.semantics.specs.Guarantee.{GoodTable}
 use Rattle.semantics.specs.Encoding.{RowBytes, trusted_bytes, untrusted_bytes, global_bytes, intruder_bytes, role_bytes, agent_variable_bytes, fresh_variable_bytes, local_bytes, public_bytes, secret_bytes, shared_bytes, pair_bytes, encrypted_bytes}
 use Rattle.semantics.proofs.laws.Test.{There, mapped-some, mapped-there, mapped₂-there}
 use Rattle.semantics.proofs.laws.Value.{row_value, value-unfolds}
-use Rattle.rows.specs.Rows.{rows_of, Shape}
+use Rattle.rows.specs.Rows.{rows_of, Shape, second_of}
 use Rattle.rows.specs.laws.Table.{table-good}
-use Rattle.cells.specs.Cells.{second_of, Canonical}
+use Rattle.cells.specs.Cells.{Canonical}
 use Rattle.semantics.proofs.laws.Test.{mapped₂-some}
 use Rattle.cells.specs.laws.Cells.{row-there, row-decodes}
 

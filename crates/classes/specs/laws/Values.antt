@@ -13,8 +13,8 @@ use Rattle.semantics.specs.Value.{Reading, value_of}
 use Rattle.semantics.specs.Guarantee.{refers_to, GoodTable}
 use Rattle.semantics.proofs.laws.Test.{mapped-some}
 use Rattle.semantics.proofs.laws.Value.{row_value, value-unfolds, value-within, row-induction}
-use Rattle.rows.specs.Rows.{rows_of, Shape}
-use Rattle.cells.specs.Cells.{Readings, cell_value, second_of}
+use Rattle.rows.specs.Rows.{rows_of, Shape, second_of}
+use Rattle.cells.specs.Cells.{Readings, cell_value}
 use Rattle.cells.specs.laws.Cells.{left-lower, second-lower}
 use Rattle.classes.specs.Classes.{Grows}
 use Rattle.classes.specs.Filled.{mixed}

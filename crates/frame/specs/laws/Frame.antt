@@ -1,16 +1,16 @@
 -- The laws of framing: lengths of blocks, blocks one after the other, and refusals 1 to 3. Assumes nothing.
-use Rattle.std.specs.Prelude.{ℕ, zero, suc, ◌+◌, ◌*◌, ◌-◌, ◌<◌, ◌≤◌, ◌≡◌, Bool, true, false, ◌&&◌, not, List, [], ◌∷◌, T, ltb, leb, eqb, length, get_or, take, drop, Err, None, Ok, Some}
-use Rattle.std.proofs.Common.{zero-add, arith, ap, ◌∙◌, true≢false, le-leb, lt-ltb, le-ltb, eq-eqb, ne_eqb, leb-true, leb→le, nltb→le, length-drop, length-take-le, take_all}
+use Rattle.std.specs.Prelude.{ℕ, zero, suc, ◌+◌, ◌*◌, ◌-◌, ◌<◌, ◌≤◌, ◌≡◌, Bool, true, false, ◌&&◌, not, List, [], ◌∷◌, T, ltb, leb, eqb, length, get_or, take, drop, Err, Ok, Some}
+use Rattle.std.proofs.Common.{zero-add, arith, ap, ◌∙◌, true≢false, le-leb, leb-true, leb→le, nltb→le, length-drop, length-take-le, take_all}
+use Rattle.std.specs.Bool.{then_some}
 use Rattle.std.proofs.Math.Path.{refl, sym}
 use Rattle.std.proofs.Math.Option.{Option, none, some}
 use Rattle.std.proofs.lemmas.Bool.{lt-leb}
 use Rattle.std.proofs.Math.Dec.{not_T}
+use Rattle.semantics.specs.Basic.{provided}
 use Rattle.semantics.specs.Answer.{checked, ◌>>◌}
 use Rattle.semantics.proofs.laws.Test.{both_left, both_right, provided-none, not-not, passes-true}
 use Rattle.semantics.specs.Frame.{block_length, budget_of, framed, unversioned, too_long, misframed, block_from, block}
 use Rattle.rows.specs.Rows.{place_as}
-use Rattle.rows.specs.laws.Places.{at_some, nowhere-none}
-use Rattle.rows.specs.Rows.{Place}
 use Rattle.answers.specs.Answers.{checked_as}
 use Rattle.answers.specs.declared.Refusal.{Refusal}
 use Rattle.frame.specs.Framing.{framing_of, IsFramed}
@@ -102,45 +102,36 @@ pub start-in-file : (k : ℕ) (file : List ℕ) {r : ℕ} → r ≡ (block_from 
 unfolding block
 start-in-file k file e = rw e (sym (block_from-start k 5 (drop 5 file)))
 
--- refusal 1: no first byte, another than 1, or 1
+-- a place that is given under a condition
+place-provided : (b : Bool) (at : ℕ) → then_some b at ≡ place_as (provided b at)
+place-provided true at = refl
+place-provided false at = refl
+
+-- refusal 1: no first byte, or by the first byte
 pub version-absent : (file : List ℕ) → length file ≡ 0 → Some 0 ≡ place_as (unversioned file)
 unfolding unversioned
 version-absent [] e = refl
 version-absent (v ∷ file) e = absurd (omega arith)
 
-pub version-other : (file : List ℕ) → 0 < length file → (get_or file 0 0 ≡ 1 → ⊥) → Some 0 ≡ place_as (unversioned file)
+pub version-judged : (file : List ℕ) → 0 < length file → then_some (not (eqb (get_or file 0 0) 1)) 0 ≡ place_as (unversioned file)
 unfolding unversioned
-version-other [] l e = absurd (omega arith)
-version-other (v ∷ file) l e = rw (ne_eqb v 1 e) refl
-
-pub version-one : (file : List ℕ) → 0 < length file → get_or file 0 0 ≡ 1 → None ≡ place_as (unversioned file)
-unfolding unversioned
-version-one [] l e = absurd (omega arith)
-version-one (v ∷ file) l e = rw (eq-eqb v 1 e) refl
+version-judged [] l = absurd (omega arith)
+version-judged (v ∷ file) l = place-provided (not (eqb v 1)) 0
 
 module _ (file : List ℕ) where
-  -- refusal 2: too many bytes, or not
-  pub size-long : 4096 < length file → Some 4096 ≡ place_as (too_long file)
+  -- refusal 2, by the length
+  pub size-judged : then_some (ltb 4096 (length file)) 4096 ≡ place_as (too_long file)
   unfolding too_long
-  size-long l = rw (lt-ltb 4096 (length file) l) refl
+  size-judged = place-provided (ltb 4096 (length file)) 4096
 
-  pub size_few : length file ≤ 4096 → None ≡ place_as (too_long file)
-  unfolding too_long
-  size_few l = rw (le-ltb 4096 (length file) l) refl
-
-  -- refusal 3: no room for the budget, other bytes than four blocks, or four blocks
+  -- refusal 3: no room for the budget, or by the blocks
   pub budget-cut : length file < 5 → Some (length file) ≡ place_as (misframed file)
   unfolding misframed
   budget-cut l = rw (lt-leb 5 (length file) l) refl
 
-  module _ (size : 5 ≤ length file) {b : Bool} (blocks : b ≡ framed 4 (drop 5 file)) where
-    pub blocks-bad : b ≡ false → Some (length file) ≡ place_as (misframed file)
-    unfolding misframed
-    blocks-bad e = rw (le-leb 5 (length file) size, sym blocks ∙ e) refl
-
-    pub blocks-good : b ≡ true → None ≡ place_as (misframed file)
-    unfolding misframed
-    blocks-good e = rw (le-leb 5 (length file) size, sym blocks ∙ e) refl
+  pub blocks-judged : 5 ≤ length file → {b : Bool} → b ≡ framed 4 (drop 5 file) → then_some (not b) (length file) ≡ place_as (misframed file)
+  unfolding misframed
+  blocks-judged size {b} blocks = rw (le-leb 5 (length file) size, sym blocks) (place-provided (not b) (length file))
 
 -- none of three conditions holds
 refused-framed : {P : Type 0} {x : Refusal} {u : Unit {0}} → Err x ≡ Ok u → P

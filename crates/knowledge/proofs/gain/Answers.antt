@@ -1,6 +1,5 @@
 -- `gain` finds a class that a row gives in a run and that is not marked. Assumes nothing.
-use Rattle.std.proofs.Common.{arith, rules, tests}
-use Rattle.rows.specs.laws.Ranges.{told}
+use Rattle.std.proofs.Common.{arith}
 use Rattle.knowledge.specs.laws.Steps.{left_below, parts_below, gained-at, class-kept}
 use Rattle.knowledge.proofs.gain.Goals as goal
 
@@ -14,6 +13,6 @@ class_at-right-requires c =
 
 pub returns : goal.returns
 returns c =
-    class-kept c.args.x c.args.u c.given-class.result c.filter.result
+    class-kept c.args.x c.args.u c.given-class.result c.and_then.result
     (gained-at c.args.x c.args.u c.kind_of-kind.ensures c.class_at-whole.ensures c.left_of.ensures.0 c.class_at-left.ensures c.right_of.ensures.0 c.class_at-right.ensures c.given-class.ensures)
-    (told c.given-class.result c.filter.ensures (λ e. e) (λ class k. (k.0, search (rules, tests), k.2)))
+    c.and_then.ensures

@@ -8,8 +8,8 @@ use Rattle.semantics.specs.Term.{Term, pair, encrypted, inverse}
 use Rattle.semantics.specs.Inference.{Derives}
 use Rattle.semantics.proofs.laws.Test.{both}
 use Rattle.semantics.proofs.laws.Inference.{Carried, derives-keeps}
-use Rattle.rows.specs.Rows.{rows_of, Shape}
-use Rattle.cells.specs.Cells.{cell_of, absent, Readings, cell_value, second_of, Found, is_found, not_found}
+use Rattle.rows.specs.Rows.{rows_of, Shape, second_of}
+use Rattle.cells.specs.Cells.{cell_of, absent, Readings, cell_value, Found, is_found, not_found}
 use Rattle.cells.specs.laws.Cells.{second-left}
 use Rattle.classes.specs.Classes.{Classes}
 use Rattle.knowledge.specs.Marks.{Derivable, Settled}

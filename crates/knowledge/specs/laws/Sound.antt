@@ -7,8 +7,8 @@ use Rattle.std.proofs.Math.ListN.{length-set}
 use Rattle.semantics.specs.Term.{Term, pk, sk, inverse}
 use Rattle.semantics.specs.Inference.{Derives, pairs, first, second, encrypts, decrypts}
 use Rattle.semantics.proofs.laws.Test.{both_left}
-use Rattle.rows.specs.Rows.{rows_of, Shape}
-use Rattle.cells.specs.Cells.{cell_of, cell_count, absent, Readings, cell_value, second_of, Found, is_found, not_found}
+use Rattle.rows.specs.Rows.{rows_of, Shape, second_of}
+use Rattle.cells.specs.Cells.{cell_of, cell_count, absent, Readings, cell_value, Found, is_found, not_found}
 use Rattle.classes.specs.Classes.{Classes}
 use Rattle.knowledge.specs.Steps.{class_at, On, kind_at, left_at, right_at, Inside, InverseKinds, pk_sk, sk_pk, Opening, by_other, by_itself, by_none, gives_whole, gives_first, gives_second, gives_content, GivesAt, Reaches, stays, grows}
 use Rattle.knowledge.specs.laws.Filled.{on_below, set_on}

@@ -1,8 +1,8 @@
 -- The laws of steps, as the functions take them: what is read, what is given, and what is reached. Assumes nothing.
 use Rattle.std.specs.Option.{unwrap_or}
 use Rattle.std.specs.Bool.{then_some}
-use Rattle.std.specs.Prelude.{ℕ, Option, Some, None, MatchOption, ltb, ◌<◌, ◌≤◌, ◌≡◌, refl, Bool, true, false, List, length, get_or, set}
-use Rattle.std.proofs.Common.{ltb-true, ltb-false, arith, sym, ◌∙◌, inr, length-set}
+use Rattle.std.specs.Prelude.{ℕ, Option, Some, None, MatchOption, ◌<◌, ◌≤◌, ◌≡◌, refl, Bool, true, false, List, length, get_or, set}
+use Rattle.std.proofs.Common.{arith, sym, ◌∙◌, inr, length-set}
 use Rattle.std.proofs.Math.Decide.{dec_lt}
 use Rattle.std.proofs.Math.ListN.{get_or-eq_default}
 use Rattle.rows.specs.Rows.{Shape}
@@ -100,18 +100,15 @@ module _ {bytes : List ℕ} {n runs : ℕ} {classes : List ℕ} {marks : List Bo
   gained-at ek ew el ef es eg g = rw (ek, ew, rw el at ef, rw es at eg) at g
 
   -- what is given is gained if it has a class
-  pub class-kept : (o r : Option ℕ) → GainedAt bytes n runs classes marks x u (unwrap_or o 480) → MatchOption o (r ≡ None) (λ class. (b : Bool) × (b ≡ ltb class 480) × (r ≡ then_some b class))
+  pub class-kept : (o r : Option ℕ) → GainedAt bytes n runs classes marks x u (unwrap_or o 480) → MatchOption o (r ≡ None) (λ class. MatchOption r (absent ≤ class) (λ found. (found < absent) × (found ≡ class)))
       → MatchOption r (GainedAt bytes n runs classes marks x u absent) (λ class. (class < absent) × GainedAt bytes n runs classes marks x u class)
   class-kept None r g e = rw e g
-  class-kept (Some class) r g (b, e, q) = rw q (go b e)
+  class-kept (Some class) None g l = none g l
     where
       none : GainedAt bytes n runs classes marks x u class → absent ≤ class → GainedAt bytes n runs classes marks x u absent
       none (gains g b f) l = absurd (omega arith)
       none (idles a i) l = idles (omega arith) i
-
-      go : (b : Bool) → b ≡ ltb class 480 → MatchOption (then_some b class) (GainedAt bytes n runs classes marks x u absent) (λ class. (class < absent) × GainedAt bytes n runs classes marks x u class)
-      go true e = (ltb-true class 480 (sym e), g)
-      go false e = none g (ltb-false class 480 (sym e))
+  class-kept (Some class) (Some found) g (l, e) = (l, rw e g)
 
   -- a class that is gained in a run is gained by the row
   pub row-gains : {class : ℕ} → u ≤ runs → GainedAt bytes n runs classes marks x u class → class < absent → RowGained bytes n runs classes marks x class

@@ -9,4 +9,4 @@ use Rattle.lists.proofs.bad_knowledge.Goals as goal
 pub returns : goal.returns
 returns c =
     c.unfit_row.ensures
-    ∙ ap place_as (knowledge-found (rows_of c.args.t.now.bytes.now) c.args.t.now.rows c.clear_rows-clear.result c.args.t.now.shape.count (c.clear_rows-clear.ensures without_run (rw (c.number.ensures, c.number-2.ensures) bars-run)) c.args.base c.args.b.now)
+    ∙ ap place_as (knowledge-found (rows_of c.args.t.now.bytes.now) _ _ (c.clear_rows.ensures.0 ∙ c.args.t.now.shape.count) (c.clear_rows.ensures.1 without_run bars-run) c.args.block.start c.args.block.bytes.now)

@@ -6,4 +6,4 @@ use Rattle.lists.specs.laws.Knowledge.{unfit_left}
 use Rattle.lists.proofs.unfit_row.Given as goal
 
 abbrev pub invariant-loop-i : goal.invariant-loop-i
-invariant-loop-i l = unfit_from (has_value l.n l.clear) l.base 0 l.b ≡ unfit_left (has_value l.n l.clear) l.base l.b l.least l.i
+invariant-loop-i l = unfit_from (has_value l.rows.count l.rows.clear) l.list.start 0 l.list.bytes.now ≡ unfit_left (has_value l.rows.count l.rows.clear) l.list.start l.list.bytes.now l.least l.i

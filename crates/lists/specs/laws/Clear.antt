@@ -1,5 +1,5 @@
 -- Which rows have a value: by their kinds and by the rows that they refer to. Assumes nothing.
-use Rattle.std.specs.Prelude.{ℕ, ◌+◌, ◌*◌, ◌≤◌, ◌<◌, ◌≡◌, Bool, ◌&&◌, not, List, leb, length, get_or, set}
+use Rattle.std.specs.Prelude.{ℕ, ◌+◌, ◌*◌, ◌≤◌, ◌<◌, ◌≡◌, Bool, cond, ◌&&◌, not, List, leb, length, get_or, set}
 use Rattle.std.proofs.Common.{arith, ap, ◌∙◌, get_or-set_same, get_or-set_other}
 use Rattle.std.proofs.Math.Decide.{ℕ_discrete}
 use Rattle.std.proofs.Math.Path.{refl, sym}
@@ -64,15 +64,7 @@ module _ (low high kind : ℕ) (left right : Bool) where
   unfolding clear_by
   clear-high h l = sym (rw (lt-ltb kind 8 h, le-leb low kind l) (not-leb kind high))
 
-  -- another row has one if its one part has, or both
-  pub clear-one : 8 ≤ kind → kind < 10 → left ≡ true → true ≡ clear_by low high kind left right
-  unfolding clear_by
-  clear-one h l e = sym (rw (le-ltb kind 8 h, lt-ltb kind 10 l) e)
-
-  pub clear-two : 10 ≤ kind → left ≡ true → right ≡ clear_by low high kind left right
-  unfolding clear_by
-  clear-two h e = sym (rw (le-ltb kind 8 (omega arith), le-ltb kind 10 h, e))
-
+  -- another row has none if its first part has none
   pub clear-not : 8 ≤ kind → left ≡ false → false ≡ clear_by low high kind left right
   unfolding clear_by
   clear-not h e = go (ltb kind 10) refl
@@ -90,6 +82,16 @@ module _ (low high kind : ℕ) (left right : Bool) where
       go true e d f = rw e
       go false e true f = rw (e, f) (l (ltb-false kind 8 e))
       go false e false f = rw (e, f, l (ltb-false kind 8 e), r (ltb-false kind 10 f))
+
+-- with the first part, another row has one if the second part has
+pub clear-parts : (low high kind l r : ℕ) (clear : List Bool) → 8 ≤ kind → get_or clear l false ≡ true
+    → get_or clear (cond (ltb kind 10) l r) false ≡ clear_by low high kind (get_or clear l false) (get_or clear r false)
+unfolding clear_by
+clear-parts low high kind l r clear h e = go (ltb kind 10) refl
+  where
+    go : (b : Bool) → ltb kind 10 ≡ b → get_or clear (cond b l r) false ≡ clear_by low high kind (get_or clear l false) (get_or clear r false)
+    go true f = sym (rw (le-ltb kind 8 h, f) refl)
+    go false f = sym (rw (le-ltb kind 8 h, f, e) refl)
 
 -- the rows below one with a number are those marked that have a value, under each reading in which just the kinds from low to high stand for nothing
 abbrev pub Cleared : List ℕ → ℕ → ℕ → List Bool → ℕ → Type 0

@@ -7,5 +7,6 @@ use Rattle.open_marks.proofs.gives_up.Goals as goal
 
 pub inverse_known-requires : goal.inverse_known-requires
 inverse_known-requires c =
-    let low = parts-lower c.args.t.now.bytes.now c.args.t.now.rows (shape-sized c.args.t.now.shape) c.in-Some.end c.in-Some.ensures c.kind_of.ensures (omega (arith, ap number_of c.in-Encrypted.is)) in
+    let table = c.args.level.now.table in
+    let low = parts-lower table.bytes.now table.rows (shape-sized table.shape) c.in-Some.end c.in-Some.ensures c.kind_of.ensures (omega (arith, ap number_of c.in-Encrypted.is)) in
     omega (arith, c.right_of.ensures.0, c.in-Some.ensures)

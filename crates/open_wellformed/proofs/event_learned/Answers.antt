@@ -8,4 +8,4 @@ use Rattle.open_wellformed.proofs.event_learned.Goals as goal
 
 pub returns-then-eq : goal.returns-then-eq
 returns-then-eq c =
-    read-learns (rows_of c.args.t.now.bytes.now) (byte_of c.args.event) c.args.x c.args.marks (event-is c.args.event Read c.eq.ensures c.if-eq.true) c.learned.result c.learned.ensures.0
+    read-learns (rows_of c.args.level.now.table.bytes.now) (byte_of c.args.event) c.args.x c.args.marks (event-is c.args.event Read c.eq.ensures c.if-eq.true) c.learned.result c.learned.ensures.0

@@ -21,12 +21,12 @@ first-is s e = omega (arith, e)
 -- all events of the record lie within the bytes
 whole : (c : After-from-events) → 2 + c.from-count.result + 4 * c.from-events.result ≤ length c.args.s.now
 whole c =
-    omega (arith, first-is c.args.s.now c.from-count.ensures, count_of c.args.s.now c.from-count.result c.from-events.result c.from-count.ensures c.from-events.ensures, c.requires.1.whole)
+    omega (arith, first-is c.args.s.now c.from-count.ensures, count_of c.args.s.now c.from-count.result c.from-events.result c.from-count.ensures c.from-events.ensures, c.requires.whole)
 
 -- event j has a kind and a row
-is-event : (c : In-loop-j) → IsEvent (rows_of c.args.t.now.bytes.now) c.args.s.now (2 + c.from-count.result + 4 * c.loop-j.j)
+is-event : (c : In-loop-j) → IsEvent (rows_of c.args.level.now.table.bytes.now) c.args.s.now (2 + c.from-count.result + 4 * c.loop-j.j)
 is-event c =
-    events-are c.args.s.now (2 + c.from-count.result) c.from-events.result c.requires.1 (first-is c.args.s.now c.from-count.ensures)
+    events-are c.args.s.now (2 + c.from-count.result) c.from-events.result c.requires (first-is c.args.s.now c.from-count.ensures)
     (count_of c.args.s.now c.from-count.result c.from-events.result c.from-count.ensures c.from-events.ensures) c.loop-j.j c.loop-j-test.true
 
 -- and its row is one of the table's
@@ -40,35 +40,35 @@ low-kind rows s at is = let low : get_or s at 0 < 3 = get_elem-below event_kinds
 pub kind_at-event-requires : goal.kind_at-event-requires
 kind_at-event-requires c =
     let t = (goal.at.kind_at-event-requires c).In-loop-j in
-    (omega (arith, whole (goal.at.kind_at-event-requires c).After-from-events, c.loop-j-test.true), low-kind (rows_of c.args.t.now.bytes.now) c.args.s.now (2 + c.from-count.result + 4 * c.loop-j.j) (is-event t))
+    (omega (arith, whole (goal.at.kind_at-event-requires c).After-from-events, c.loop-j-test.true), low-kind (rows_of c.args.level.now.table.bytes.now) c.args.s.now (2 + c.from-count.result + 4 * c.loop-j.j) (is-event t))
 
 pub marks_of-marks-requires : goal.marks_of-marks-requires
 marks_of-marks-requires c =
-    (c.requires.0, rw (listed-rows c.args.s.now c.from-count.result c.from-count.ensures) (λ r m. omega (arith, c.requires.1.knows r m, c.args.t.now.shape.count)))
+    rw (listed-rows c.args.s.now c.from-count.result c.from-count.ensures) (λ r m. omega (arith, c.requires.knows r m, c.args.level.now.table.shape.count))
 
 pub loop-j-init : goal.loop-j-init
 loop-j-init c =
-    role_start (rows_of c.args.t.now.bytes.now) c.args.own c.args.s.now (2 + c.from-count.result) c.from-events.result (first-is c.args.s.now c.from-count.ensures)
+    role_start (rows_of c.args.level.now.table.bytes.now) c.args.own c.args.s.now (2 + c.from-count.result) c.from-events.result (first-is c.args.s.now c.from-count.ensures)
     (count_of c.args.s.now c.from-count.result c.from-events.result c.from-count.ensures c.from-events.ensures) (rw (listed-rows c.args.s.now c.from-count.result c.from-count.ensures) at c.marks_of-marks.ensures)
 
 pub is_well_formed-requires : goal.is_well_formed-requires
-is_well_formed-requires c = (c.requires.0, row-below c.args.s.now (2 + c.from-count.result + 4 * c.loop-j.j) (shape-sized c.args.t.now.shape) (is-event (goal.at.is_well_formed-requires c).In-loop-j) c.from-x.ensures)
+is_well_formed-requires c = row-below c.args.s.now (2 + c.from-count.result + 4 * c.loop-j.j) (shape-sized c.args.level.now.table.shape) (is-event (goal.at.is_well_formed-requires c).In-loop-j) c.from-x.ensures
 
 pub returns-then-not-is_well_formed : goal.returns-then-not-is_well_formed
 returns-then-not-is_well_formed c =
-    role-ill c.args.t.now.bytes.now c.args.t.now.rows (shape-sized c.args.t.now.shape) c.args.own c.args.s.now (2 + c.from-count.result) c.from-events.result (whole (goal.at.returns-then-not-is_well_formed c).After-from-events)
+    role-ill c.args.level.now.table.bytes.now c.args.level.now.table.rows (shape-sized c.args.level.now.table.shape) c.args.own c.args.s.now (2 + c.from-count.result) c.from-events.result (whole (goal.at.returns-then-not-is_well_formed c).After-from-events)
     c.loop-j.j c.loop-j.marks c.loop-j.invariant c.loop-j-test.true c.kind_at-event.ensures c.from-peer.ensures c.from-x.ensures
     (is-event (goal.at.returns-then-not-is_well_formed c).In-loop-j) c.is_well_formed.ensures (c.if-not-is_well_formed.true) (omega arith)
 
 pub event_learned-more-requires : goal.event_learned-more-requires
-event_learned-more-requires c = (c.requires.0, row-below c.args.s.now (2 + c.from-count.result + 4 * c.loop-j.j) (shape-sized c.args.t.now.shape) (is-event (goal.at.event_learned-more-requires c).In-loop-j) c.from-x.ensures)
+event_learned-more-requires c = row-below c.args.s.now (2 + c.from-count.result + 4 * c.loop-j.j) (shape-sized c.args.level.now.table.shape) (is-event (goal.at.event_learned-more-requires c).In-loop-j) c.from-x.ensures
 
 pub loop-j-preserved : goal.loop-j-preserved
 loop-j-preserved c =
-    role-more c.args.t.now.bytes.now c.args.t.now.rows (shape-sized c.args.t.now.shape) c.args.own c.args.s.now (2 + c.from-count.result) c.from-events.result (whole (goal.at.loop-j-preserved c).After-from-events)
+    role-more c.args.level.now.table.bytes.now c.args.level.now.table.rows (shape-sized c.args.level.now.table.shape) c.args.own c.args.s.now (2 + c.from-count.result) c.from-events.result (whole (goal.at.loop-j-preserved c).After-from-events)
     c.loop-j.j c.loop-j.marks c.loop-j.invariant c.loop-j-test.true c.kind_at-event.ensures c.from-peer.ensures c.from-x.ensures
     (is-event (goal.at.loop-j-preserved c).In-loop-j) c.is_well_formed.ensures (c.if-not-is_well_formed.false) c.event_learned-more.result c.event_learned-more.ensures
 
 pub returns : goal.returns
 returns c =
-    role-none (rows_of c.args.t.now.bytes.now) c.args.own c.args.s.now (2 + c.from-count.result) c.from-events.result c.loop-j.j c.loop-j.invariant (omega (arith, c.loop-j-test.false))
+    role-none (rows_of c.args.level.now.table.bytes.now) c.args.own c.args.s.now (2 + c.from-count.result) c.from-events.result c.loop-j.j c.loop-j.invariant (omega (arith, c.loop-j-test.false))

@@ -4,4 +4,4 @@ use Rattle.open_wellformed.specs.laws.IllFormed.{RoleLeft}
 use Rattle.open_wellformed.proofs.ill_formed_role.Given as goal
 
 abbrev pub invariant-loop-j : goal.invariant-loop-j
-invariant-loop-j l = RoleLeft (rows_of l.t.bytes.now) l.own l.s l.first l.events l.j l.marks
+invariant-loop-j l = RoleLeft (rows_of l.level.table.bytes.now) l.own l.s l.first l.events l.j l.marks

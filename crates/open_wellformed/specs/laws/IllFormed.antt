@@ -22,8 +22,9 @@ use Rattle.role_level.specs.laws.RoleLevel.{row-cell}
 use Rattle.role_level.specs.RoleLevel.{RoleCelled, listed_terms, RoleExact}
 use Rattle.records.specs.Records.{part_at, record_at, event_at}
 use Rattle.records.specs.laws.Events.{events_left, left-events-all, left-events-cons, left-events-none}
-use Rattle.records.specs.laws.Records.{records_left, left-none, left-all, left-cons}
-use Rattle.records.specs.laws.Roles.{role-bytes, own-rows, own-events_in, role-good, roles-all}
+use Rattle.records.specs.RoleRecords.{begins}
+use Rattle.records.specs.laws.RoleRecords.{record_of, block-records}
+use Rattle.records.specs.laws.Roles.{own-rows, own-events_in, role-good}
 use Rattle.open_wellformed.specs.WellFormed.{WellFormedEvent, EventLearns, IsEvent, GoodRecord, ill_role, IllRole}
 use Rattle.open_marks.specs.Marks.{Learns}
 use Rattle.open_marks.specs.laws.Marks.{has-term}
@@ -209,58 +210,49 @@ module _ (rows : List Row) (base : ℕ) (b : List ℕ) where
   abbrev roles : ℕ
   roles = roles_present (role_records (part_at base b))
 
-  -- Before record i, at a place: none of the records left is bad, and the first event is theirs.
-  pub record BlockLeft (i at : ℕ) : Type 0 where
-    pub good : first_bad (good_role rows roles) i (records_left role_length base b at) ≡ none
-    pub left : ill_block ≡ ill_formed rows i (roles_from (records_left role_length base b at))
+  -- Before record i: none of the records left is bad, and the first event is theirs.
+  pub record BlockLeft (i : ℕ) (ps : List (ℕ × List ℕ)) : Type 0 where
+    pub good : first_bad (good_role rows roles) i (map (record_of base) ps) ≡ none
+    pub left : ill_block ≡ ill_formed rows i (roles_from (map (record_of base) ps))
 
   -- at first all are left
-  pub block_start : bad_role rows (role_records (part_at base b)) ≡ none → BlockLeft 0 0
-  unfolding role_records
+  pub block_start : bad_role rows (role_records (part_at base b)) ≡ none → BlockLeft 0 (begins 0 b)
+  unfolding bad_role
   block_start h = record {
-    good = sym (roles-all rows base b roles refl) ∙ h;
-    left = ap (λ (parts : List Part). ill_formed rows 0 (roles_from parts)) (left-all role_length base b);
+    good = ap (first_bad (good_role rows roles) 0) (sym (block-records base b)) ∙ h;
+    left = ap (λ (parts : List Part). ill_formed rows 0 (roles_from parts)) (block-records base b);
   }
 
-  module _ (i at : ℕ) (left : BlockLeft i at) where
-    -- with none left there is no such event
-    pub block_none : length b ≤ at → None ≡ place_as ill_block
-    unfolding ill_formed roles_from
-    block_none l = sym (ap place_as (left.left ∙ ap (λ (parts : List Part). ill_formed rows i (roles_from parts)) (left-none role_length base b at l)))
+  -- with none left there is no such event
+  pub block_none : (i : ℕ) → BlockLeft i [] → None ≡ place_as ill_block
+  unfolding ill_formed roles_from
+  block_none i left = sym (ap place_as left.left)
 
-    module _ (within : at < length b) where
-      -- the record at the place is good, and none behind it is bad
-      passed : T (good_role rows roles i (record_at role_length (base + at) (drop at b)))
-          × (first_bad (good_role rows roles) (suc i) (records_left role_length base b (at + role_length (drop at b))) ≡ none)
-      unfolding first_bad
-      passed =
-          passed_none (good_role rows roles i (record_at role_length (base + at) (drop at b)))
-          (first_bad (good_role rows roles) (suc i) (records_left role_length base b (at + role_length (drop at b)))) (base + at)
-          (rw (left-cons role_length role-bytes base b at within) at left.good)
+  module _ (i at : ℕ) (s : List ℕ) (more : List (ℕ × List ℕ)) (left : BlockLeft i ((at, s) ∷ more)) where
+    -- the next record is good, and none behind it is bad
+    passed : T (good_role rows roles i (record_at role_length (base + at) s)) × (first_bad (good_role rows roles) (suc i) (map (record_of base) more) ≡ none)
+    unfolding first_bad
+    passed = passed_none (good_role rows roles i (record_at role_length (base + at) s)) (first_bad (good_role rows roles) (suc i) (map (record_of base) more)) (base + at) left.good
 
-      pub block-good : GoodRecord rows (drop at b)
-      block-good = good-record rows roles i (base + at) (drop at b) passed.0
+    pub block-good : GoodRecord rows s
+    block-good = good-record rows roles i (base + at) s passed.0
 
-      -- the first event of the records behind it that is not well formed
-      abbrev others : Option ℕ
-      others = ill_formed rows (i + 1) (roles_from (records_left role_length base b (at + role_length (drop at b))))
+    -- the first event of the records behind it that is not well formed
+    abbrev others : Option ℕ
+    others = ill_formed rows (i + 1) (roles_from (map (record_of base) more))
 
-      -- the first event is that of the record or that of the others
-      block-cons : ill_block ≡ first_of (ill_role rows i (drop at b) (base + at) ∷ others ∷ [])
-      block-cons =
-          left.left ∙ ap (λ (parts : List Part). ill_formed rows i (roles_from parts)) (left-cons role_length role-bytes base b at within)
-          ∙ roles-cons rows i (base + at) (drop at b) (records_left role_length base b (at + role_length (drop at b)))
+    -- the first event is that of the record or that of the others
+    block-cons : ill_block ≡ first_of (ill_role rows i s (base + at) ∷ others ∷ [])
+    block-cons = left.left ∙ roles-cons rows i (base + at) s (map (record_of base) more)
 
-      module _ {p : Place} (found : IllRole rows i (drop at b) p) where
-        -- one of the record is found
-        pub block-ill : {event : ℕ} → p ≡ Some event → Some (base + at + event) ≡ place_as ill_block
-        block-ill {event} e =
-            rw block-cons (found_first (base + at + event) (ill_role rows i (drop at b) (base + at)) others
-            (rw e at (found.place (base + at))))
+    module _ {p : Place} (found : IllRole rows i s p) where
+      -- one of the record is found
+      pub block-ill : {event : ℕ} → p ≡ Some event → Some (base + at + event) ≡ place_as ill_block
+      block-ill {event} e = rw block-cons (found_first (base + at + event) (ill_role rows i s (base + at)) others (rw e at (found.place (base + at))))
 
-        -- where there is none, the record is passed
-        pub block_more : p ≡ None → {size : ℕ} → size ≡ role_length (drop at b) → BlockLeft (i + 1) (at + size)
-        block_more e f = rw f (record {
-          good = rw (add-one i) passed.1;
-          left = block-cons ∙ found-later (ill_role rows i (drop at b) (base + at)) others (rw e at (found.place (base + at)));
-        })
+      -- where there is none, the record is passed
+      pub block_more : p ≡ None → BlockLeft (i + 1) more
+      block_more e = record {
+        good = rw (add-one i) passed.1;
+        left = block-cons ∙ found-later (ill_role rows i s (base + at)) others (rw e at (found.place (base + at)));
+      }

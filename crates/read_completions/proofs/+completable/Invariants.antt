@@ -6,4 +6,4 @@ abbrev pub decreases-completable : goal.decreases-completable
 decreases-completable l = l.depth
 
 abbrev pub invariant-loop-c : goal.invariant-loop-c
-invariant-loop-c l = Tried l.pattern l.less l.i l.c
+invariant-loop-c l = Tried l.known.pattern l.less l.i l.c

@@ -3,4 +3,4 @@ use Rattle.read_completions.specs.Completions.{RowsMissNone}
 use Rattle.read_completions.proofs.set_of.Given as goal
 
 abbrev pub invariant-loop-r : goal.invariant-loop-r
-invariant-loop-r l = RowsMissNone l.pattern l.dom l.i l.sets
+invariant-loop-r l = RowsMissNone l.known.pattern l.dom l.i l.sets

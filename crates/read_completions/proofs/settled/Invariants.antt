@@ -3,4 +3,4 @@ use Rattle.read_completions.specs.Completions.{CompletionsKept}
 use Rattle.read_completions.proofs.settled.Given as goal
 
 abbrev pub invariant-loop : goal.invariant-loop
-invariant-loop l = CompletionsKept l.pattern l.initial.less l.less
+invariant-loop l = CompletionsKept l.known.pattern l.initial.less l.less

@@ -4,9 +4,11 @@ use Rattle.std.specs.Prelude as lists
 use Rattle.std.proofs.Math.Decide.{ℕ_discrete}
 use Rattle.std.proofs.Common.{arith, sym, ◌∙◌, subst, length-set}
 use Rattle.std.proofs.lemmas.Bool.{false≢true}
+use Rattle.std.specs.Bool.{then_some}
 use Rattle.std.proofs.Math.Option.{some-injective}
 use Rattle.std.proofs.lemmas.List.{length-replicate, get_or-replicate}
-use Rattle.cells.specs.Cells.{cell_of, cell_count, absent, second_of}
+use Rattle.rows.specs.Rows.{second_of}
+use Rattle.cells.specs.Cells.{cell_of, cell_count, absent}
 use Rattle.cells.specs.laws.Cells.{left-lower, second-lower}
 use Rattle.classes.specs.laws.Kinds.{first_part, second_part, value_made}
 use Rattle.classes.specs.laws.Values.{cell-kept}
@@ -20,7 +22,7 @@ use Rattle.variables.specs.declared.found.VariableRows.{VariableRows}
 use Rattle.variables.specs.Variables.{In}
 use Rattle.read_domains.specs.laws.Sets.{row_in, row_stays}
 use Rattle.read_domains.specs.Domains.{InRow, Fit, Joins}
-use Rattle.read_completions.specs.declared.scene.Pattern.{Pattern}
+use Rattle.read_completions.specs.declared.pattern.Pattern.{Pattern}
 use Rattle.read_completions.specs.Completions.{TakesCell, Completion, GetsClass, InDomains, GetsDerivable, FromMark, MarkedDomains, NeedsAt, Matched, MissesNone, RowsMissNone, NeededAdded}
 
 -- every class is in a set of all
@@ -93,12 +95,12 @@ module _ (pattern : Pattern) (dom : List (List Bool)) where
   module _ (r : ℕ) {cell : ℕ} (inside-marks : cell < cell_count) where
     module _ {class : ℕ} (ec : class ≡ cell) (needs : Option (List ℕ)) (met : NeedsMet pattern.scope.table.bytes.now pattern.scope.table.rows pattern.scope.table.runs pattern.classes.now pattern.scope.run r class needs) where
       -- needs that are met, or none
-      pub needs-met : NeedsAt pattern dom r cell needs
+      needs-met : NeedsAt pattern dom r cell needs
       needs-met k within y w e from = met k.extension (rw (ec ∙ sym e) from.gets)
 
-      -- needs that the domains do not have
-      pub needs-unfit : {need : List ℕ} → needs ≡ Some need → {fits : Bool} → (Fit pattern.vars dom need → fits ≡ true) → fits ≡ false → NeedsAt pattern dom r cell None
-      needs-unfit q f e k within y w h from = false≢true (sym e ∙ f (in-domains-fit pattern k dom within (rw q at (needs-met k within y w h from))))
+      -- the same, if the domains have what is needed
+      pub needs-fit : {need : List ℕ} → needs ≡ Some need → {fits : Bool} → (Fit pattern.vars dom need → fits ≡ true) → NeedsAt pattern dom r cell (then_some fits need)
+      needs-fit {need} q f k within y w e from = let n = rw q at (needs-met k within y w e from) in rw (f (in-domains-fit pattern k dom within n)) n
 
   module _ (i r : ℕ) where
     abbrev MatchedBelow : ℕ → List Bool → Type 0
@@ -172,26 +174,26 @@ module _ (pattern : Pattern) (dom : List (List Bool)) where
           let p = part_low high in
           joins.adds c (gets-low pattern k _ g) (rw el (each_row.each (left_at pattern.scope.table.bytes.now r) p.0 k within a c g)) (rw es (each_row.each (second_of pattern.scope.table.bytes.now r) p.1 k within b c g))
 
-      -- a pair, by its parts
-      pub misses-none-pair : kind_at pattern.scope.table.bytes.now r ≡ 11 → {set more : List Bool} → Joins set (get_or sets l []) (get_or sets s []) more → MissesNone pattern dom i r (In more)
-      misses-none-pair e joins k within d c g = let p = derivable-pair pattern k low e d in misses-none-both (omega arith) joins k within p.0 p.1 c g
-
-      -- an encryption, by its parts or a marked cell
-      pub misses-none-encryption : kind_at pattern.scope.table.bytes.now r ≡ 12 → {set more : List Bool} → Matched pattern dom i r set → Joins set (get_or sets l []) (get_or sets s []) more → MissesNone pattern dom i r (In more)
-      misses-none-encryption e {set} {more} matched joins k within d c g = go (ways pattern k low (omega arith) (λ z. omega arith) d)
+      -- a pair, by its parts; an encryption, by its parts or a marked cell
+      pub misses-none-parts : 8 ≤ kind_at pattern.scope.table.bytes.now r → {set more : List Bool} → ((kind_at pattern.scope.table.bytes.now r ≡ 11 → ⊥) → Matched pattern dom i r set)
+          → Joins set (get_or sets l []) (get_or sets s []) more → MissesNone pattern dom i r (In more)
+      misses-none-parts high {set} {more} matched joins k within d c g = go (ℕ_discrete (kind_at pattern.scope.table.bytes.now r) 11)
         where
-          go : Ways pattern k r → In more c
-          go (from_mark y w from) = joins.keeps c (gets-low pattern k _ g) (matched k within y w from c g)
-          go (from_parts q a b) = misses-none-both (omega arith) joins k within a b c g
+          other : (kind_at pattern.scope.table.bytes.now r ≡ 11 → ⊥) → Ways pattern k r → In more c
+          other no_pair (from_mark y w from) = joins.keeps c (gets-low pattern k _ g) (matched no_pair k within y w from c g)
+          other no_pair (from_parts q a b) = misses-none-both high joins k within a b c g
+
+          go : Dec (kind_at pattern.scope.table.bytes.now r ≡ 11) → In more c
+          go (yes e) = let p = derivable-pair pattern k low e d in misses-none-both high joins k within p.0 p.1 c g
+          go (no n) = other n (ways pattern k low high n d)
 
     -- a key, by a marked cell
-    pub misses-none-key : r < pattern.scope.table.rows → 8 ≤ kind_at pattern.scope.table.bytes.now r → (kind_at pattern.scope.table.bytes.now r ≡ 11 → ⊥) → (kind_at pattern.scope.table.bytes.now r ≡ 12 → ⊥) → (set : List Bool) → Matched pattern dom i r set
-        → MissesNone pattern dom i r (In set)
-    misses-none-key low high other another set matched k within d c g = go (ways pattern k low high other d)
+    pub misses-none-key : r < pattern.scope.table.rows → 8 ≤ kind_at pattern.scope.table.bytes.now r → kind_at pattern.scope.table.bytes.now r < 11 → (set : List Bool) → Matched pattern dom i r set → MissesNone pattern dom i r (In set)
+    misses-none-key low high key set matched k within d c g = go (ways pattern k low high (λ e. omega arith) d)
       where
         go : Ways pattern k r → In set c
         go (from_mark y w from) = matched k within y w from c g
-        go (from_parts q a b) = absurd (another q)
+        go (from_parts q a b) = absurd (omega arith)
 
   -- sets of all classes, and one row more
   pub rows_start : (i : ℕ) → RowsMissNone pattern dom i (replicate 96 (replicate cell_count true))

@@ -9,7 +9,7 @@ use Rattle.variables.specs.Variables.{In, Beneath, Unset}
 use Rattle.read_fits.specs.Fits.{Gets}
 use Rattle.read_fits.specs.laws.Fits.{gets-one}
 use Rattle.read_domains.specs.Domains.{InRow, Listed, Narrows, NarrowsTo}
-use Rattle.read_completions.specs.declared.scene.Pattern.{Pattern}
+use Rattle.read_completions.specs.declared.pattern.Pattern.{Pattern}
 use Rattle.read_completions.specs.Completions.{NoneEmpty, TakesCell, Completion, GetsClass, InDomains, GetsDerivable, MissesNone, CompletionsKept, Completable, Completes}
 use Rattle.read_completions.specs.laws.Rows.{gets-low, takes-gets, takes-class}
 

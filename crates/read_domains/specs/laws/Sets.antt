@@ -1,20 +1,11 @@
 -- Sets of classes and domains of variables, as one of their elements is written. Assumes nothing.
 use Rattle.std.specs.Prelude.{ℕ, zero, suc, ◌<◌, ◌≡◌, Bool, true, false, List, [], ◌∷◌, length, get_or, set, count_by, cond}
 use Rattle.std.proofs.Math.Decide.{ℕ_discrete}
-use Rattle.std.proofs.Common.{arith, ◌∙◌, get_or-set_same, get_or-set_other}
+use Rattle.std.proofs.Common.{arith, get_or-set_same, get_or-set_other}
 use Rattle.std.proofs.lemmas.Bool.{false≢true}
 use Rattle.std.proofs.lemmas.List.Sums.{sum_by-cons}
-use Rattle.knowledge.specs.laws.Filled.{on_below}
 use Rattle.variables.specs.Variables.{In}
 use Rattle.read_domains.specs.Domains.{InRow}
-
--- what is true stays true as an element is written, if it is another one or the new one is true
-pub stays : (xs : List Bool) (k : ℕ) (b : Bool) {j : ℕ} → (j ≡ k → b ≡ true) → In xs j → In (set xs k b) j
-stays xs k b {j} same e = go (ℕ_discrete j k)
-  where
-    go : Dec (j ≡ k) → In (set xs k b) j
-    go (yes q) = rw q (get_or-set_same xs k b false (rw q at (on_below xs j e)) ∙ same q)
-    go (no f) = get_or-set_other xs k j b false f ∙ e
 
 -- the element that is written is in
 pub in-set : (xs : List Bool) {class : ℕ} → class < length xs → {c : ℕ} → c ≡ class → In (set xs class true) c

@@ -7,8 +7,8 @@ use Rattle.std.proofs.Math.Option.{Option, some, some-injective}
 use Rattle.std.proofs.lemmas.List.{length-replicate, get_or-replicate}
 use Rattle.semantics.specs.Term.{Term}
 use Rattle.semantics.proofs.laws.Value.{value-within}
-use Rattle.rows.specs.Rows.{rows_of}
-use Rattle.cells.specs.Cells.{cell_of, absent, second_of}
+use Rattle.rows.specs.Rows.{rows_of, second_of}
+use Rattle.cells.specs.Cells.{cell_of, absent}
 use Rattle.cells.specs.laws.Cells.{left-lower, second-lower}
 use Rattle.classes.specs.laws.Kinds.{first_part, second_part, value_made}
 use Rattle.classes.specs.laws.Values.{cell-kept}

@@ -4,8 +4,8 @@ use Rattle.std.proofs.Common.{arith, sym, ◌∙◌}
 use Rattle.semantics.specs.Term.{Term, pair, encrypted, inverse}
 use Rattle.semantics.specs.Inference.{Derives, member, pairs, first, second, encrypts, decrypts}
 use Rattle.semantics.proofs.laws.Inference.{Carried, derives-keeps}
-use Rattle.rows.specs.Rows.{rows_of}
-use Rattle.cells.specs.Cells.{cell_of, Readings, second_of}
+use Rattle.rows.specs.Rows.{rows_of, second_of}
+use Rattle.cells.specs.Cells.{cell_of, Readings}
 use Rattle.cells.specs.laws.Cells.{left-lower, second-lower}
 use Rattle.classes.specs.laws.Kinds.{kind_of, first_part, second_part, value_made}
 use Rattle.knowledge.specs.Marks.{Marked, Exact, Celled}

@@ -6,8 +6,8 @@ use Rattle.std.proofs.Math.Option.{some-injective}
 use Rattle.std.proofs.lemmas.List.{length-replicate, get_or-replicate}
 use Rattle.semantics.specs.Term.{Term, atom, pk, sk, shared, pair, encrypted}
 use Rattle.semantics.specs.Inference.{Derives, first, second}
-use Rattle.rows.specs.Rows.{rows_of, Shape}
-use Rattle.cells.specs.Cells.{cell_of, absent, Readings, cell_value, second_of}
+use Rattle.rows.specs.Rows.{rows_of, Shape, second_of}
+use Rattle.cells.specs.Cells.{cell_of, absent, Readings, cell_value}
 use Rattle.cells.specs.laws.Cells.{left-lower, second-lower, left-small, second-small}
 use Rattle.classes.specs.Classes.{Classes, Grows}
 use Rattle.classes.specs.laws.Kinds.{kind_of, first_part, second_part, value_made}

@@ -1,16 +1,18 @@
 -- The first row that names an absent role. Assumes nothing.
-use Rattle.std.specs.Prelude.{ℕ, zero, suc, ◌+◌, ◌*◌, ◌≤◌, ◌<◌, ◌≡◌, refl, true, ◌||◌, not, List, [], ◌∷◌, ltb, eqb, get_or, drop}
-use Rattle.std.proofs.Common.{ap, ◌∙◌, drop_of_length-le}
+use Rattle.std.specs.Prelude.{Option, Some, None, MatchOption, ◌⊎◌, ℕ, zero, suc, ◌+◌, ◌*◌, ◌≤◌, ◌<◌, ◌≡◌, refl, true, ◌||◌, not, List, [], ◌∷◌, ltb, eqb, get_or, drop}
+use Rattle.std.proofs.Common.{add-zero, sym, ap, ◌∙◌, drop_of_length-le}
+use Rattle.std.proofs.Math.Logic.{⊎_elim}
 use Rattle.std.proofs.Math.Numerals.{add-one}
 use native.Mathlib.Omega.{arith}
 use Rattle.std.proofs.Math.Bool.{false, or-true}
-use Rattle.std.proofs.Math.Option.{Option, none, some, some-injective, none-ne-some}
+use Rattle.std.proofs.Math.Option as definitions
+use Rattle.std.proofs.Math.Option.{none, some, some-injective, none-ne-some}
 use Rattle.std.proofs.Math.ListN.{get_elem?}
 use borrow.Author.Tests.{lt-ltb, le-ltb, ne_eqb}
 use Rattle.semantics.specs.Table.{Row}
 use Rattle.semantics.specs.Roles.{names_present, absent_role_from}
 use Rattle.semantics.specs.Encoding.{RowBytes, trusted_bytes, untrusted_bytes, global_bytes, intruder_bytes, role_bytes, agent_variable_bytes, fresh_variable_bytes, local_bytes, public_bytes, secret_bytes, shared_bytes, pair_bytes, encrypted_bytes}
-use Rattle.rows.specs.Rows.{rows_of, Sized}
+use Rattle.rows.specs.Rows.{rows_of, Sized, Place, place_as}
 use Rattle.rows.specs.laws.Table.{row_here}
 
 -- a row names an absent role by its kind and its left byte
@@ -36,12 +38,19 @@ drop-row (x ∷ rows) zero row e = ap (λ (y : Row). y ∷ rows) (some-injective
 drop-row (x ∷ rows) (suc r) row e = drop-row rows r row e
 
 -- the first row from one on that names an absent role
-abbrev pub absent_left : List ℕ → ℕ → ℕ → ℕ → Option ℕ
+abbrev absent_left : List ℕ → ℕ → ℕ → ℕ → definitions.Option ℕ
 absent_left t roles base r = absent_role_from roles (base + 3 * r) (drop r (rows_of t))
+
+-- a row names an absent role, or not
+abbrev pub NamesAbsent : List ℕ → ℕ → ℕ → Type 0
+NamesAbsent t roles r = (get_or t (3 * r) 0 ≡ 5) × (roles ≤ get_or t (3 * r + 1) 0)
+
+abbrev pub NamesPresent : List ℕ → ℕ → ℕ → Type 0
+NamesPresent t roles r = (get_or t (3 * r) 0 ≡ 5 → ⊥) ⊎ (get_or t (3 * r + 1) 0 < roles)
 
 module _ (t : List ℕ) (n roles base : ℕ) (sized : Sized t n) where
   -- behind the last there is none
-  pub absent_none : (r : ℕ) → n ≤ r → absent_left t roles base r ≡ none
+  absent_none : (r : ℕ) → n ≤ r → absent_left t roles base r ≡ none
   unfolding absent_role_from
   absent_none r h = rw (drop_of_length-le (rows_of t) {i = r} (omega (arith, sized.count)))
 
@@ -53,22 +62,28 @@ module _ (t : List ℕ) (n roles base : ℕ) (sized : Sized t n) where
         (w.0, drop-row (rows_of t) r w.0 w.1, decodes-names roles w.2)
 
     -- an absent role's name is found
-    pub absent-here : get_or t (3 * r) 0 ≡ 5 → roles ≤ get_or t (3 * r + 1) 0 → absent_left t roles base r ≡ some (base + 3 * r)
+    absent-here : NamesAbsent t roles r → absent_left t roles base r ≡ some (base + 3 * r)
     unfolding absent_role_from
-    absent-here e l =
-        let m : names_present roles names.0 ≡ false = names.2 ∙ rw (e, le-ltb (get_or t (3 * r + 1) 0) roles l) in
+    absent-here w =
+        let m : names_present roles names.0 ≡ false = names.2 ∙ rw (w.0, le-ltb (get_or t (3 * r + 1) 0) roles w.1) in
         rw names.1 (rw (m, absent_role_from))
 
     -- a row that names no absent role is passed
-    absent-passed : names_present roles names.0 ≡ true → absent_left t roles base r ≡ absent_left t roles base (r + 1)
+    absent-passed : NamesPresent t roles r → absent_left t roles base r ≡ absent_left t roles base (r + 1)
     unfolding absent_role_from
-    absent-passed m =
+    absent-passed w =
+        let m : names_present roles names.0 ≡ true = names.2 ∙ ⊎_elim (λ e. rw (ne_eqb (get_or t (3 * r) 0) 5 e)) (λ l. rw (lt-ltb (get_or t (3 * r + 1) 0) roles l) (or-true (not (eqb (get_or t (3 * r) 0) 5)))) w in
         let z : base + 3 * (r + 1) ≡ base + 3 * r + 3 = omega arith in
         rw (names.1, z, add-one r) (rw (m, absent_role_from))
 
-    -- that is so of a row that is no role name, and of a present role's name
-    pub absent-other : (get_or t (3 * r) 0 ≡ 5 → ⊥) → absent_left t roles base r ≡ absent_left t roles base (r + 1)
-    absent-other e = absent-passed (names.2 ∙ rw (ne_eqb (get_or t (3 * r) 0) 5 e))
+  -- rows that name none are passed
+  passed-all : (r : ℕ) → r ≤ n → ((k : ℕ) → 0 ≤ k → k < r → NamesPresent t roles k) → absent_role_from roles base (rows_of t) ≡ absent_left t roles base r
+  passed-all zero l h = rw add-zero refl
+  passed-all (suc r) l h = passed-all r (omega arith) (λ k lo hi. h k lo (omega arith)) ∙ absent-passed r (omega arith) (h r (omega arith) (omega arith)) ∙ rw add-one
 
-    pub absent-present : get_or t (3 * r + 1) 0 < roles → absent_left t roles base r ≡ absent_left t roles base (r + 1)
-    absent-present l = absent-passed (names.2 ∙ rw (lt-ltb (get_or t (3 * r + 1) 0) roles l) (or-true (not (eqb (get_or t (3 * r) 0) 5))))
+  -- so the first row of those that names one is found
+  pub absent-found : (o : Option ℕ) → MatchOption o ((k : ℕ) → 0 ≤ k → k < n → NamesPresent t roles k)
+      (λ r. (0 ≤ r) × (r < n) × NamesAbsent t roles r × ((k : ℕ) → 0 ≤ k → k < r → NamesPresent t roles k))
+      → {place : Place} → MatchOption o (place ≡ None) (λ r. place ≡ Some (base + 3 * r)) → place ≡ place_as (absent_role_from roles base (rows_of t))
+  absent-found None h e = e ∙ sym (ap place_as (passed-all n (omega arith) h ∙ absent_none n (omega arith)))
+  absent-found (Some r) h e = e ∙ sym (ap place_as (passed-all r (omega arith) h.3 ∙ absent-here r h.1 h.2))

@@ -1,14 +1,12 @@
 -- Where the record with a number begins in a block. Assumes nothing.
-use Rattle.std.specs.Prelude.{ℕ, zero, suc, ◌+◌, ◌-◌, ◌*◌, ◌<◌, ◌≤◌, ◌≡◌, refl, List, length, drop}
+use Rattle.std.specs.Prelude.{ℕ, zero, suc, ◌+◌, ◌*◌, ◌<◌, ◌≡◌, refl, List, length, drop}
 use Rattle.std.proofs.Math.Decide.{dec_lt}
 use Rattle.std.proofs.Common.{arith, add-zero, zero-add, zero-mul, suc-mul, add-one, sym, ap, ◌∙◌}
 use Rattle.std.proofs.Math.Option.{some, none-ne-some}
 use Rattle.std.proofs.Math.ListN.{get_elem?}
 use Rattle.semantics.specs.Frame.{Part, records}
-use Rattle.semantics.specs.Roles.{role_length, role_records}
 use Rattle.semantics.proofs.laws.List.{get_elem-there}
-use Rattle.records.specs.Records.{part_at, record_at, RoleAt}
-use Rattle.records.specs.laws.Roles.{role-bytes}
+use Rattle.records.specs.Records.{part_at, record_at}
 use Rattle.records.specs.laws.Records.{records_left, left-all, left-cons, left-none}
 
 -- the records from one with a number on are those from a place on
@@ -16,12 +14,12 @@ abbrev pub Begins : (List ℕ → ℕ) → List ℕ → ℕ → ℕ → Type 0
 Begins size b i at = (base j : ℕ) → get_elem? (records size (part_at base b)) (i + j) ≡ get_elem? (records_left size base b at) j
 
 -- the first record begins at the front
-pub begins-first : (size : List ℕ → ℕ) (b : List ℕ) → Begins size b 0 0
+begins-first : (size : List ℕ → ℕ) (b : List ℕ) → Begins size b 0 0
 begins-first size b base j = rw (zero-add j, left-all size base b)
 
 module _ (size : List ℕ → ℕ) (some_bytes : (s : List ℕ) → 0 < size s) (b : List ℕ) (i at : ℕ) (begins : Begins size b i at) where
   -- the place is in the block as long as there are records
-  pub begins-within : (base j : ℕ) → i + j < length (records size (part_at base b)) → at < length b
+  begins-within : (base j : ℕ) → i + j < length (records size (part_at base b)) → at < length b
   begins-within base j l = go (dec_lt at (length b))
     where
       go : Dec (at < length b) → at < length b
@@ -39,7 +37,7 @@ module _ (size : List ℕ → ℕ) (some_bytes : (s : List ℕ) → 0 < size s) 
         ∙ ap (λ (ps : List Part). get_elem? ps 0) (left-cons size some_bytes base b at within)
 
     -- the next one begins behind it
-    pub begins-next : {n : ℕ} → n ≡ size (drop at b) → Begins size b (i + 1) (at + n)
+    begins-next : {n : ℕ} → n ≡ size (drop at b) → Begins size b (i + 1) (at + n)
     begins-next {n} e base j =
         let z : i + 1 + j ≡ i + suc j = omega arith in
         ap (λ (m : ℕ). get_elem? (records size (part_at base b)) m) z ∙ begins base (suc j)
@@ -55,14 +53,3 @@ begins-each n b base (suc k) l =
     let w = begins-each n b base k (omega arith) in
     let next = begins-next (λ s. suc n) (λ s. omega arith) b k (k * suc n) w.0 w.1 {n = suc n} refl in
     rw (suc-mul k (suc n), ← add-one k) (next, begins-within (λ s. suc n) (λ s. omega arith) b (k + 1) (k * suc n + suc n) next base 0 (omega arith))
-
-module _ (b : List ℕ) (i : ℕ) where
-  -- the place where a role record up to the one with a number begins is in the block
-  pub role-within : ((base : ℕ) × (i < length (role_records (part_at base b)))) → (j at : ℕ) → j ≤ i → Begins role_length b j at → at < length b
-  unfolding role_records
-  role-within w j at l begins = begins-within role_length role-bytes b j at begins w.0 (i - j) (omega (arith, w.1))
-
-  -- the role record at the place has the number
-  pub role-record : (at : ℕ) → Begins role_length b i at → at < length b → RoleAt b i at
-  unfolding role_records
-  role-record at begins within base = begins-record role_length role-bytes b i at begins within base

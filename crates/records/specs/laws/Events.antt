@@ -1,57 +1,19 @@
 -- The events of a role record, four bytes each, and whether they fit. Assumes nothing.
-use Rattle.std.specs.Prelude.{ℕ, zero, suc, ◌+◌, ◌-◌, ◌*◌, ◌≤◌, ◌<◌, ◌≡◌, refl, Bool, true, false, ◌&&◌, List, [], ◌∷◌, ltb, eqb, length, get_or, take, drop}
-use Rattle.std.proofs.Common.{add-one, sym, ap, ◌∙◌, drop-cons, lt-ltb, le-ltb}
+use Rattle.std.specs.Prelude.{ℕ, zero, suc, ◌+◌, ◌-◌, ◌*◌, ◌≤◌, ◌<◌, ◌≡◌, refl, Bool, true, false, ◌&&◌, List, [], ◌∷◌, length, get_or, take, drop}
+use Rattle.std.proofs.Common.{add-one, sym, ap, ◌∙◌, drop-cons}
 use Rattle.std.proofs.Math.Numerals.{add-two, add-three, add-four}
 use native.Mathlib.Omega.{arith}
-use Rattle.std.proofs.Math.Bool.{and-true, and-false}
+use Rattle.std.proofs.Math.Bool.{and-false}
 use Rattle.std.proofs.Math.Decide.{ℕ_discrete}
-use Rattle.std.proofs.Math.Option.{Option, none, some}
-use Rattle.std.proofs.Math.ListN.{get_elem?}
+use Rattle.std.proofs.Math.Option.{Option}
 use Rattle.semantics.specs.Basic.{every}
 use Rattle.semantics.specs.Table.{Row}
-use Rattle.semantics.specs.Roles.{Event, EventKind, event_kinds, event_from, events_from, knowledge_count, event_count, events_in, peer_fits, event_fits}
+use Rattle.semantics.specs.Roles.{Event, events_from, knowledge_count, event_count, events_in, event_fits}
 use Rattle.records.specs.Records.{part_at, event_at}
 
 -- the second count stands before the first event
 pub count-read : (s : List ℕ) (knowledge events : ℕ) → knowledge ≡ get_or s 0 0 → events ≡ get_or s (2 + knowledge - 1) 0 → events ≡ event_count s
 count-read s knowledge events e f = let z : 2 + knowledge - 1 ≡ 1 + knowledge_count s = omega arith in rw f (rw z)
-
-module _ (rows : List Row) (roles kind peer row place n : ℕ) (count : n ≡ length rows) where
-  -- the event of a kind, with a peer and a row
-  abbrev event : Option Event
-  event = event_from (get_elem? event_kinds kind) peer row place
-
-  -- it does not fit if its row is absent
-  pub event-absent : n ≤ row → false ≡ event_fits rows roles event
-  event-absent h = go (get_elem? event_kinds kind)
-    where
-      go : (o : Option EventKind) → false ≡ event_fits rows roles (event_from o peer row place)
-      go none = refl
-      go (some k) = sym (rw (le-ltb row (length rows) (omega arith)) (and-false (peer_fits roles k peer)))
-
-  -- a send or a read fits if its peer is present, a claim if its peer byte is 0, another kind does not
-  pub event-peer : row < n → kind < 2 → ltb peer roles ≡ event_fits rows roles event
-  event-peer h k = go kind k
-    where
-      fit : ltb peer roles ≡ (ltb peer roles && ltb row (length rows))
-      fit = sym (rw (lt-ltb row (length rows) (omega arith)) (and-true (ltb peer roles)))
-
-      go : (k : ℕ) → k < 2 → ltb peer roles ≡ event_fits rows roles (event_from (get_elem? event_kinds k) peer row place)
-      go zero l = fit
-      go (suc zero) l = fit
-      go (suc (suc k)) l = absurd (omega arith)
-
-  pub event-claim : row < n → kind ≡ 2 → eqb peer 0 ≡ event_fits rows roles event
-  event-claim h e = rw e (sym (rw (lt-ltb row (length rows) (omega arith)) (and-true (eqb peer 0))))
-
-  pub event-none : 2 < kind → false ≡ event_fits rows roles event
-  event-none l = go kind l
-    where
-      go : (k : ℕ) → 2 < k → false ≡ event_fits rows roles (event_from (get_elem? event_kinds k) peer row place)
-      go zero l = absurd (omega arith)
-      go (suc zero) l = absurd (omega arith)
-      go (suc (suc zero)) l = absurd (omega arith)
-      go (suc (suc (suc k))) l = refl
 
 -- four elements from a place on
 drop-four : (s : List ℕ) (f : ℕ) → f + 4 ≤ length s → drop f s ≡ get_or s f 0 ∷ get_or s (f + 1) 0 ∷ get_or s (f + 2) 0 ∷ get_or s (f + 3) 0 ∷ drop (f + 4) s

@@ -2,17 +2,16 @@
 use Rattle.std.specs.Prelude.{ℕ, zero, suc, ◌+◌, ◌*◌, ◌≤◌, ◌<◌, ◌≡◌, refl, true, false, ◌&&◌, ltb, leb, take, drop}
 use native.Mathlib.Omega.{arith}
 use Rattle.std.proofs.Common.{sym, ◌∙◌, take-take, get_or-take, le-leb, lt-ltb, le-ltb}
-use Rattle.std.proofs.Math.Path.{ap}
 use mathlib.Core.List.{List, [], ◌∷◌}
 use Rattle.std.proofs.Math.ListN.{length}
 use Rattle.std.proofs.lemmas.Bool.{lt-leb}
 use Rattle.semantics.specs.Basic.{every}
 use Rattle.semantics.specs.Limits.{most_roles, most_events}
 use Rattle.semantics.specs.Table.{Row}
-use Rattle.semantics.specs.Frame.{Part, complete, first_bad}
-use Rattle.semantics.specs.Roles.{knowledge_count, event_count, role_length, knowledge_in, events_in, role_records, roles_present, event_fits, knowledge_fits, good_role, bad_role}
+use Rattle.semantics.specs.Frame.{complete}
+use Rattle.semantics.specs.Roles.{knowledge_count, event_count, role_length, knowledge_in, events_in, event_fits, knowledge_fits, good_role}
 use Rattle.records.specs.Records.{part_at, record_at}
-use Rattle.records.specs.laws.Records.{leb-taken, records_left, left-none, left-all, left-cons}
+use Rattle.records.specs.laws.Records.{leb-taken}
 
 -- every role record has bytes
 pub role-bytes : (s : List ℕ) → 0 < role_length s
@@ -70,32 +69,3 @@ module _ (rows : List Row) (roles i start : ℕ) (s : List ℕ) where
   pub role-events : role_length s ≤ length s → i < most_roles → event_count s ≤ most_events → knowledge_fits rows (knowledge_in s) ≡ true
       → every (event_fits rows roles) (events_in (part_at start s)) ≡ good_role rows roles i (record_at role_length start s)
   role-events h k m e = sym (role-good ∙ rw (le-leb (role_length s) (length s) h, lt-ltb i most_roles k, le-leb (event_count s) most_events m, e))
-
--- the first bad role record is found among all
-pub roles-all : (rows : List Row) (base : ℕ) (b : List ℕ) (roles : ℕ) → roles ≡ roles_present (role_records (part_at base b))
-    → bad_role rows (role_records (part_at base b)) ≡ first_bad (good_role rows roles) 0 (records_left role_length base b 0)
-unfolding bad_role role_records
-roles-all rows base b roles e = rw e (ap (first_bad (good_role rows (roles_present (role_records (part_at base b)))) 0) (left-all role_length base b))
-
--- so many records are passed, and the others are left
-abbrev pub PassedRoles : List ℕ → ℕ → ℕ → Type 0
-PassedRoles b i at = (base : ℕ) → length (role_records (part_at base b)) ≡ i + length (records_left role_length base b at)
-
--- none is passed at first
-pub passed_none : (b : List ℕ) → PassedRoles b 0 0
-unfolding role_records
-passed_none b base = ap length (left-all role_length base b) ∙ omega arith
-
-module _ (b : List ℕ) (i at : ℕ) (passed : PassedRoles b i at) where
-  -- one more
-  pub passed-more : at < length b → {n : ℕ} → n ≡ role_length (drop at b) → PassedRoles b (i + 1) (at + n)
-  passed-more l e base = rw e (passed base ∙ ap (λ (r : List Part). i + length r) (left-cons role_length role-bytes base b at l) ∙ omega arith)
-
-  -- all of the block, or the first four, are present
-  pub passed-all : length b ≤ at → i ≤ most_roles → (base : ℕ) → i ≡ roles_present (role_records (part_at base b))
-  unfolding roles_present
-  passed-all l h base = let n = passed base ∙ ap (λ (r : List Part). i + length r) (left-none role_length base b at l) in omega arith
-
-  pub passed-four : i ≡ most_roles → (base : ℕ) → i ≡ roles_present (role_records (part_at base b))
-  unfolding roles_present
-  passed-four h base = omega (arith, passed base)

@@ -6,8 +6,8 @@ use Rattle.answers.specs.laws.Answers.{opened-accepts}
 use Rattle.replay.specs.laws.Follow.{replayed-accepted, replayed-refused}
 use Rattle.replay.proofs.replay.Goals as goal
 
-pub followed-requires : goal.followed-requires
-followed-requires c = opened-accepts _ (sym c.in_ok-layout.was ∙ c.«open».ensures)
+pub of-requires : goal.of-requires
+of-requires c = opened-accepts _ (sym c.in_ok-layout.was ∙ c.«open».ensures)
 
 pub returns-in_err-layout : goal.returns-in_err-layout
 returns-in_err-layout c =
@@ -17,4 +17,4 @@ returns-in_err-layout c =
 pub returns : goal.returns
 returns c =
     let w = opened-accepts _ (sym c.in_ok-layout.was ∙ c.«open».ensures) in
-    c.followed.ensures ∙ ap replayed_as (sym (replayed-accepted _ _ _ w.is_opened))
+    rw c.of.ensures at c.followed.ensures ∙ ap replayed_as (sym (replayed-accepted _ _ _ w.is_opened))

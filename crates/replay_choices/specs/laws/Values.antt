@@ -1,6 +1,8 @@
 -- New values in a trace, taken one after the other: whether they suit a read, and the names with them. Assumes nothing.
-use Rattle.std.specs.Prelude.{ℕ, suc, ◌+◌, ◌<◌, ◌≤◌, ◌≡◌, refl, Bool, true, false, List, [], ◌∷◌, ◌++◌, T, length, get_or, drop, set}
-use Rattle.std.proofs.Common.{add-one, arith, sym, ap, ◌∙◌, subst, true≢false, append_assoc, append-nil, length-drop, drop-cons, Some, None}
+use Rattle.std.specs.Prelude.{ℕ, suc, ◌+◌, ◌<◌, ◌≤◌, ◌≡◌, refl, Bool, true, false, List, [], ◌∷◌, ◌++◌, T, length, get_or, set, Option, MatchOption, not}
+use Rattle.std.proofs.Common.{add-one, arith, sym, ap, ◌∙◌, subst, true≢false, append_assoc, append-nil, ltb, ltb-true, ltb-false, Some, None}
+use Rattle.std.specs.Bool.{then_some}
+use Rattle.std.specs.Option.{is_some}
 use Rattle.std.proofs.Math.Option.{some, some-injective}
 use Rattle.semantics.specs.Term.{Atom}
 use Rattle.semantics.specs.Table.{Row, variable_atom}
@@ -22,23 +24,22 @@ use Rattle.values.specs.laws.Values.{setting-none, setting-more, setting-all}
 use Rattle.values.specs.laws.Next.{nothing-set}
 use Rattle.replay_choices.specs.Choices.{Suited, is_suited, not_suited}
 
--- the values in some bytes, from the first on
-values-next : (bytes : List ℕ) (i : ℕ) → i + 1 < length bytes → values_in (drop i bytes) ≡ record { row = get_or bytes i 0; run = get_or bytes (i + 1) 0 } ∷ values_in (drop (i + 2) bytes)
-values-next bytes i l =
-    let e : drop i bytes ≡ get_or bytes i 0 ∷ get_or bytes (i + 1) 0 ∷ drop (i + 2) bytes =
-    drop-cons bytes i 0 (omega arith) ∙ ap (λ (rest : List ℕ). get_or bytes i 0 ∷ rest) (drop_at bytes i l) in
-    ap values_in e
-  where
-    drop_at : (bytes : List ℕ) (i : ℕ) → i + 1 < length bytes → drop (suc i) bytes ≡ get_or bytes (i + 1) 0 ∷ drop (i + 2) bytes
-    drop_at bytes i l = let p : suc i ≡ i + 1 = omega arith in let q : suc (i + 1) ≡ i + 2 = omega arith in rw p (drop-cons bytes (i + 1) 0 l ∙ ap (λ (j : ℕ). get_or bytes (i + 1) 0 ∷ drop j bytes) q)
+-- the values in some bytes, by the first two
+values-next : {rest : List ℕ} (pair after : List ℕ) → rest ≡ pair ++ after → length pair ≡ 2 → values_in rest ≡ record { row = get_or pair 0 0; run = get_or pair 1 0 } ∷ values_in after
+values-next [] after e two = absurd (omega (arith, two))
+values-next (r ∷ []) after e two = absurd (omega (arith, two))
+values-next (r ∷ u ∷ []) after e two = ap values_in e
+values-next (r ∷ u ∷ w ∷ more) after e two = absurd (omega (arith, two))
 
-values-end : (bytes : List ℕ) (i : ℕ) → length bytes ≤ i + 1 → values_in (drop i bytes) ≡ []
-values-end bytes i l = go (drop i bytes) (omega (arith, length-drop i bytes))
-  where
-    go : (rest : List ℕ) → length rest ≤ 1 → values_in rest ≡ []
-    go [] h = refl
-    go (r ∷ []) h = refl
-    go (r ∷ u ∷ rest) h = absurd (omega arith)
+values-some : (rest : List ℕ) → 2 ≤ length rest → (v : Value) × (vs : List Value) × (values_in rest ≡ v ∷ vs)
+values-some [] l = absurd (omega arith)
+values-some (r ∷ []) l = absurd (omega arith)
+values-some (r ∷ u ∷ rest) l = (record { row = r; run = u }, values_in rest, refl)
+
+values-end : (rest : List ℕ) → length rest < 2 → values_in rest ≡ []
+values-end [] h = refl
+values-end (r ∷ []) h = refl
+values-end (r ∷ u ∷ rest) h = absurd (omega arith)
 
 -- whether values suit, by the first
 suits-more : (rows : List Row) (runs : ℕ) (x : Atom) (xs : List Atom) (v : Value) (vs : List Value) → is_value_of v (candidates rows runs x) ≡ true → suits rows runs (x ∷ xs) (v ∷ vs) ≡ suits rows runs xs vs
@@ -62,59 +63,66 @@ unfolding suits
 suits-long rows runs v vs = refl
 
 -- Values taken as far as the variables have rows below a number.
-pub record ValuesPart (sc : Scenario) (d : State) (a : Active) (before bytes : List ℕ) (from i : ℕ) (names : List ℕ) : Type 0 where
+pub record ValuesPart (sc : Scenario) (d : State) (a : Active) (before bytes : List ℕ) (from : ℕ) (rest names : List ℕ) : Type 0 where
   pub xs : List Atom
   pub taken : List Value
   pub setting : Setting sc d a before from xs taken names
-  pub all : values_in bytes ≡ taken ++ values_in (drop i bytes)
-  pub same : suits sc.rows (length sc.runs) (to_set sc a) (values_in bytes) ≡ suits sc.rows (length sc.runs) (unset_from sc.rows a.progress.values a.event.row from) (values_in (drop i bytes))
+  pub all : values_in bytes ≡ taken ++ values_in rest
+  pub same : suits sc.rows (length sc.runs) (to_set sc a) (values_in bytes) ≡ suits sc.rows (length sc.runs) (unset_from sc.rows a.progress.values a.event.row from) (values_in rest)
 
 module _ {t : List ℕ} {runs k : ℕ} {e : RunEvent} {sc : Scenario} {d : State} {s : CodeState} {a : Active} (next : NextMove t runs k e sc d s a) (kind : byte_of e.kind ≡ 1) (bytes : List ℕ) where
   is-read : a.event.kind ≡ read
   is-read = sym (some-injective read a.event.kind (rw kind at next.is_event.kind))
 
-  pub part_none : ValuesPart sc d a s.names bytes 0 0 s.names
+  pub part_none : ValuesPart sc d a s.names bytes 0 bytes s.names
   part_none =
       let setting = setting-none sc next.good d k a next.is_active next.is_state is-read in
       record { xs = []; taken = []; setting = setting; all = refl; same = ap (λ (l : List Atom). suits sc.rows (length sc.runs) l (values_in bytes)) setting.split }
 
-  module _ (from i : ℕ) (names : List ℕ) (part : ValuesPart sc d a s.names bytes from i names) where
+  module _ (from : ℕ) (rest names : List ℕ) (part : ValuesPart sc d a s.names bytes from rest names) where
     abbrev left : List Atom
     left = unset_from sc.rows a.progress.values a.event.row from
 
-    -- no variable is left
-    pub part-suits : left ≡ [] → length bytes ≤ i + 1 → Suited sc d a (values_in bytes) (Some names)
+    -- no variable is left: the values suit if there is none more
+    part-suits : left ≡ [] → length rest < 2 → Suited sc d a (values_in bytes) (Some names)
     part-suits none l =
-        let ended = values-end bytes i l in
+        let ended = values-end rest l in
         let taken : part.taken ≡ values_in bytes = sym (part.all ∙ ap (λ (vs : List Value). part.taken ++ vs) ended ∙ append-nil part.taken) in
         is_suited refl (part.same ∙ (λ j. suits sc.rows (length sc.runs) (none j) (ended j)) ∙ suits-none sc.rows (length sc.runs))
         (subst (λ (vs : List Value). Sets sc d a vs names) taken (setting-all sc next.good d k a next.is_active s.names from part.xs part.taken names part.setting none))
 
-    pub part-long : left ≡ [] → i + 1 < length bytes → Suited sc d a (values_in bytes) None
-    part-long none l = not_suited refl (part.same ∙ (λ j. suits sc.rows (length sc.runs) (none j) (values-next bytes i l j)) ∙ suits-long sc.rows (length sc.runs) _ _)
+    part-long : left ≡ [] → 2 ≤ length rest → Suited sc d a (values_in bytes) None
+    part-long none l = let w = values-some rest l in not_suited refl (part.same ∙ (λ j. suits sc.rows (length sc.runs) (none j) (w.2 j)) ∙ suits-long sc.rows (length sc.runs) _ _)
+
+    -- whether another two bytes come tells which of the two it is
+    pub part-ended : left ≡ [] → {A : Type 0} (o : Option A) (b : Bool) → is_some o ≡ not b → MatchOption o (length rest < 2) (λ x. 2 ≤ length rest) → Suited sc d a (values_in bytes) (then_some b names)
+    part-ended none None true e l = part-suits none l
+    part-ended none None false e l = absurd (true≢false (sym e))
+    part-ended none (Some x) true e l = absurd (true≢false e)
+    part-ended none (Some x) false e l = part-long none l
 
     -- another variable
-    module _ {y : Atom} {rest : List Atom} (more : left ≡ y ∷ rest) where
-      pub part-short : length bytes ≤ i + 1 → Suited sc d a (values_in bytes) None
-      part-short l = not_suited refl (part.same ∙ (λ j. suits sc.rows (length sc.runs) (more j) (values-end bytes i l j)) ∙ suits-short sc.rows (length sc.runs) y rest)
+    module _ {y : Atom} {others : List Atom} (more : left ≡ y ∷ others) where
+      pub part-short : length rest < 2 → Suited sc d a (values_in bytes) None
+      part-short l = not_suited refl (part.same ∙ (λ j. suits sc.rows (length sc.runs) (more j) (values-end rest l j)) ∙ suits-short sc.rows (length sc.runs) y others)
 
-      pub part-not : i + 1 < length bytes → is_value_of (record { row = get_or bytes i 0; run = get_or bytes (i + 1) 0 }) (candidates sc.rows (length sc.runs) y) ≡ false
+      pub part-not : (pair after : List ℕ) → rest ≡ pair ++ after → length pair ≡ 2 → is_value_of (record { row = get_or pair 0 0; run = get_or pair 1 0 }) (candidates sc.rows (length sc.runs) y) ≡ false
           → Suited sc d a (values_in bytes) None
-      part-not l not = not_suited refl (part.same ∙ (λ j. suits sc.rows (length sc.runs) (more j) (values-next bytes i l j)) ∙ suits-not sc.rows (length sc.runs) y rest _ _ not)
+      part-not pair after cut two not = not_suited refl (part.same ∙ (λ j. suits sc.rows (length sc.runs) (more j) (values-next pair after cut two j)) ∙ suits-not sc.rows (length sc.runs) y others _ _ not)
 
     pub part-more : (x : ℕ) (y : Atom) → x < length sc.rows → from ≤ x → atom_at sc.rows x ≡ some y → T (variable_atom y) → get_or s.names (cell_of x (suc k)) absent ≡ absent
-        → left ≡ y ∷ unset_from sc.rows a.progress.values a.event.row (suc x) → i + 1 < length bytes
-        → is_value_of (record { row = get_or bytes i 0; run = get_or bytes (i + 1) 0 }) (candidates sc.rows (length sc.runs) y) ≡ true → {b : Atom} → NamesAtom sc.rows (length sc.runs) (get_or bytes i 0) (get_or bytes (i + 1) 0) b
-        → ValuesPart sc d a s.names bytes (suc x) (i + 2) (set names (cell_of x (suc k)) (cell_of (get_or bytes i 0) (get_or bytes (i + 1) 0)))
-    part-more x y low after is_atom is_variable unset more l is_value {b} value =
-        let v : Value = record { row = get_or bytes i 0; run = get_or bytes (i + 1) 0 } in
-        let rest = values-next bytes i l in
+        → left ≡ y ∷ unset_from sc.rows a.progress.values a.event.row (suc x) → (pair after : List ℕ) → rest ≡ pair ++ after → length pair ≡ 2
+        → is_value_of (record { row = get_or pair 0 0; run = get_or pair 1 0 }) (candidates sc.rows (length sc.runs) y) ≡ true → {b : Atom} → NamesAtom sc.rows (length sc.runs) (get_or pair 0 0) (get_or pair 1 0) b
+        → ValuesPart sc d a s.names bytes (suc x) after (set names (cell_of x (suc k)) (cell_of (get_or pair 0 0) (get_or pair 1 0)))
+    part-more x y low after_from is_atom is_variable unset more pair after cut two is_value {b} value =
+        let v : Value = record { row = get_or pair 0 0; run = get_or pair 1 0 } in
+        let first = values-next pair after cut two in
         record {
           xs = part.xs ++ (y ∷ []);
           taken = part.taken ++ (v ∷ []);
-          setting = setting-more sc next.good d k a next.is_active s.names from part.xs part.taken names part.setting x y low after is_atom is_variable unset more v b value;
-          all = part.all ∙ ap (λ (vs : List Value). part.taken ++ vs) rest ∙ sym (append_assoc part.taken (v ∷ []) (values_in (drop (i + 2) bytes)));
-          same = part.same ∙ (λ j. suits sc.rows (length sc.runs) (more j) (rest j)) ∙ suits-more sc.rows (length sc.runs) y _ v _ is_value;
+          setting = setting-more sc next.good d k a next.is_active s.names from part.xs part.taken names part.setting x y low after_from is_atom is_variable unset more v b value;
+          all = part.all ∙ ap (λ (vs : List Value). part.taken ++ vs) first ∙ sym (append_assoc part.taken (v ∷ []) (values_in after));
+          same = part.same ∙ (λ j. suits sc.rows (length sc.runs) (more j) (first j)) ∙ suits-more sc.rows (length sc.runs) y _ v _ is_value;
         }
 
 -- a value that may be taken has a row and a run that fit a cell
@@ -135,21 +143,28 @@ pub may-carry : {rows rows' : List Row} {runs runs' r r' w w' : ℕ} {y : Atom} 
 may-carry p q e f m = rw (p, ← q, ← e, ← f) m
 
 -- the names as they were put
-pub part-carry : {sc : Scenario} {d : State} {a : Active} {before bytes : List ℕ} (x k i r w : ℕ) (names more : List ℕ) → more ≡ set names (cell_of x (k + 1)) (cell_of r w) → r ≡ get_or bytes i 0 → w ≡ get_or bytes (i + 1) 0
-    → ValuesPart sc d a before bytes (suc x) (i + 2) (set names (cell_of x (suc k)) (cell_of (get_or bytes i 0) (get_or bytes (i + 1) 0))) → ValuesPart sc d a before bytes (x + 1) (i + 2) more
-part-carry {sc} {d} {a} {before} {bytes} x k i r w names more e f g part =
-    let same : set names (cell_of x (suc k)) (cell_of (get_or bytes i 0) (get_or bytes (i + 1) 0)) ≡ more = (λ j. set names (cell_of x (sym (add-one k) j)) (cell_of (sym f j) (sym g j))) ∙ sym e in
-    subst (λ (m : ℕ). ValuesPart sc d a before bytes m (i + 2) more) (sym (add-one x)) (subst (λ (l : List ℕ). ValuesPart sc d a before bytes (suc x) (i + 2) l) same part)
+pub part-carry : {sc : Scenario} {d : State} {a : Active} {before bytes after : List ℕ} (x k r w : ℕ) (pair names more : List ℕ) → more ≡ set names (cell_of x (k + 1)) (cell_of r w) → r ≡ get_or pair 0 0 → w ≡ get_or pair 1 0
+    → ValuesPart sc d a before bytes (suc x) after (set names (cell_of x (suc k)) (cell_of (get_or pair 0 0) (get_or pair 1 0))) → ValuesPart sc d a before bytes (x + 1) after more
+part-carry {sc} {d} {a} {before} {bytes} {after} x k r w pair names more e f g part =
+    let same : set names (cell_of x (suc k)) (cell_of (get_or pair 0 0) (get_or pair 1 0)) ≡ more = (λ j. set names (cell_of x (sym (add-one k) j)) (cell_of (sym f j) (sym g j))) ∙ sym e in
+    subst (λ (m : ℕ). ValuesPart sc d a before bytes m after more) (sym (add-one x)) (subst (λ (l : List ℕ). ValuesPart sc d a before bytes (suc x) after l) same part)
 
 -- an event that is no read sets nothing
 module _ {t : List ℕ} {runs k : ℕ} {e : RunEvent} {sc : Scenario} {d : State} {s : CodeState} {a : Active} (next : NextMove t runs k e sc d s a) (kind : byte_of e.kind ≡ 1 → ⊥) (bytes : List ℕ) where
-  pub none-suit : length bytes < 2 → Suited sc d a (values_in bytes) (Some s.names)
+  none-suit : length bytes < 2 → Suited sc d a (values_in bytes) (Some s.names)
   none-suit l =
-      let ended : values_in bytes ≡ [] = values-end bytes 0 (omega arith) in
+      let ended = values-end bytes l in
       is_suited refl ((λ j. suits sc.rows (length sc.runs) (nothing-set next kind j) (ended j)) ∙ suits-none sc.rows (length sc.runs)) (subst (λ (vs : List Value). Sets sc d a vs s.names) (sym ended) (none-set next))
 
-  pub some-suit-not : 2 ≤ length bytes → Suited sc d a (values_in bytes) None
-  some-suit-not l = not_suited refl ((λ j. suits sc.rows (length sc.runs) (nothing-set next kind j) (values-next bytes 0 (omega arith) j)) ∙ suits-long sc.rows (length sc.runs) _ _)
+  some-suit-not : 2 ≤ length bytes → Suited sc d a (values_in bytes) None
+  some-suit-not l = let w = values-some bytes l in not_suited refl ((λ j. suits sc.rows (length sc.runs) (nothing-set next kind j) (w.2 j)) ∙ suits-long sc.rows (length sc.runs) _ _)
+
+  pub suited-none : Suited sc d a (values_in bytes) (then_some (ltb (length bytes) 2) s.names)
+  suited-none = go _ (ltb-true _ _) (ltb-false _ _)
+    where
+      go : (b : Bool) → (b ≡ true → length bytes < 2) → (b ≡ false → 2 ≤ length bytes) → Suited sc d a (values_in bytes) (then_some b s.names)
+      go true few more = none-suit (few refl)
+      go false few more = some-suit-not (more refl)
 
   pub only_none : (vs : List Value) → suits sc.rows (length sc.runs) (to_set sc a) vs ≡ true → vs ≡ []
   only_none vs h = go vs (sym (ap (λ (l : List Atom). suits sc.rows (length sc.runs) l vs) (nothing-set next kind)) ∙ h)

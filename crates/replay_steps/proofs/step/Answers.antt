@@ -14,7 +14,8 @@ use Rattle.semantics.specs.State.{Active, active}
 use Rattle.semantics.specs.Replay.{values_in}
 use Rattle.rows.specs.Rows.{rows_of, Shape}
 use Rattle.state.specs.declared.State.{State}
-use Rattle.state.specs.State.{Given, Due, IsState, NextMove}
+use Rattle.runs.specs.Given.{Given}
+use Rattle.state.specs.State.{Due, IsState, NextMove}
 use Rattle.state.specs.laws.Active.{active-zero, active-high, run-ended, Coming, run-coming, coming-move, coming-due}
 use Rattle.runs.specs.declared.RunEvent.{RunEvent}
 use Rattle.runs.specs.declared.Runs.{Runs}
@@ -86,50 +87,50 @@ pub returns-then-u-eq0 : goal.returns-then-u-eq0
 returns-then-u-eq0 c sc d given state =
     refuses-inactive sc d _ c.if-trace-lt2.false c.from.ensures refl c.if-trace-end.false c.from-u.ensures (ap (active sc d) c.if-u-eq0.true ∙ active-zero sc d)
 
-pub returns-then-r-u : goal.returns-then-r-u
-returns-then-r-u c sc d given state =
-    refuses-inactive sc d _ c.if-trace-lt2.false c.from.ensures refl c.if-trace-end.false c.from-u.ensures (active-high sc d _ (omega (arith, c.if-r-u.true, given.runs.count)))
+pub returns-then-opened-u : goal.returns-then-opened-u
+returns-then-opened-u c sc d given state =
+    refuses-inactive sc d _ c.if-trace-lt2.false c.from.ensures refl c.if-trace-end.false c.from-u.ensures (active-high sc d _ (omega (arith, c.if-opened-u.true, given.runs.count)))
 
-pub returns-then-r-k : goal.returns-then-r-k
-returns-then-r-k c sc d given state =
-    refuses-inactive sc d _ c.if-trace-lt2.false c.from.ensures refl c.if-trace-end.false c.from-u.ensures
-    (ap (active sc d) (sym (run-number c.if-u-eq0.false)) ∙ run-ended given state _ (run-low c.if-u-eq0.false c.if-r-u.false) c.if-r-k.true)
+pub returns-in_err-e : goal.returns-in_err-e
+returns-in_err-e c sc d given state =
+    rw c.from_residual.ensures (refuses-inactive sc d _ c.if-trace-lt2.false c.from.ensures refl c.if-trace-end.false c.from-u.ensures
+    (ap (active sc d) (sym (run-number c.if-u-eq0.false)) ∙ run-ended given state _ (run-low c.if-u-eq0.false c.if-opened-u.false) c.in_err-e.ensures))
 
 pub valued-requires : goal.valued-requires
 valued-requires c =
-    let of = due c.requires.2 c.requires.3 c.if-u-eq0.false c.if-r-u.false c.if-r-k.false c.event_of-e.result c.event_of-e.ensures c.args.opened.now.counted in
+    let of = due c.requires.2 c.requires.3 c.if-u-eq0.false c.if-opened-u.false c.in_ok-e.ensures.0 c.in_ok-e.e c.in_ok-e.ensures.1 c.args.opened.now.counted in
     (of.is_run, of.term)
 
 pub is_allowed-requires : goal.is_allowed-requires
 is_allowed-requires c =
     let size : length c.worked-more.new.classes ≡ 480 = search (rules, c.worked-more.auto.classes, c.requires.3.arrays.classed.size) in
-    let of = due c.requires.2 c.requires.3 c.if-u-eq0.false c.if-r-u.false c.if-r-k.false c.event_of-e.result c.event_of-e.ensures c.args.opened.now.counted in
+    let of = due c.requires.2 c.requires.3 c.if-u-eq0.false c.if-opened-u.false c.in_ok-e.ensures.0 c.in_ok-e.e c.in_ok-e.ensures.1 c.args.opened.now.counted in
     let few = c.requires.2.shape.few in
     (omega (arith, c.requires.2.runs.few, of.is_run), (omega (arith, few, of.agent), (omega (arith, few, of.other), omega (arith, few, of.term))))
 
 pub perform-after-requires : goal.perform-after-requires
 perform-after-requires c =
     let size : length c.worked-more.new.classes ≡ 480 = search (rules, c.worked-more.auto.classes, c.requires.3.arrays.classed.size) in
-    let of = due c.requires.2 c.requires.3 c.if-u-eq0.false c.if-r-u.false c.if-r-k.false c.event_of-e.result c.event_of-e.ensures c.args.opened.now.counted in
+    let of = due c.requires.2 c.requires.3 c.if-u-eq0.false c.if-opened-u.false c.in_ok-e.ensures.0 c.in_ok-e.e c.in_ok-e.ensures.1 c.args.opened.now.counted in
     of
 
 pub returns : goal.returns
 returns c sc d given state =
     let values : List ℕ = take (2 + 2 * c.from.result - 2) (drop 2 c.args.trace.now) in
-    let suited = c.in_ok-names.ensures sc d (coming given state c.if-u-eq0.false c.if-r-u.false c.if-r-k.false c.event_of-e.result c.event_of-e.ensures).0 (next given state c.if-u-eq0.false c.if-r-u.false c.if-r-k.false c.event_of-e.result c.event_of-e.ensures c.args.opened.now.counted) in
-    let m = at-event given state c.if-u-eq0.false c.if-r-u.false c.if-r-k.false c.event_of-e.result c.event_of-e.ensures c.args.opened.now.counted values suited (search rules) c.worked-more.new.classes c.worked-more.result c.worked-more.ensures in
+    let suited = c.in_ok-names.ensures sc d (coming given state c.if-u-eq0.false c.if-opened-u.false c.in_ok-e.ensures.0 c.in_ok-e.e c.in_ok-e.ensures.1).0 (next given state c.if-u-eq0.false c.if-opened-u.false c.in_ok-e.ensures.0 c.in_ok-e.e c.in_ok-e.ensures.1 c.args.opened.now.counted) in
+    let m = at-event given state c.if-u-eq0.false c.if-opened-u.false c.in_ok-e.ensures.0 c.in_ok-e.e c.in_ok-e.ensures.1 c.args.opened.now.counted values suited (search rules) c.worked-more.new.classes c.worked-more.result c.worked-more.ensures in
     let w = told-some (c.is_allowed.ensures _ _ _ m) c.if-not-is_allowed.false in
-    step-performed sc d c.args.trace.now c.if-trace-lt2.false c.from.ensures refl c.if-trace-end.false c.from-u.ensures (is-active given state c.if-u-eq0.false c.if-r-u.false c.if-r-k.false c.event_of-e.result c.event_of-e.ensures) values refl suited refl w.1 (rw (c.after.ensures, c.advance-done.ensures) (c.perform-after.ensures m w.0 w.1))
+    step-performed sc d c.args.trace.now c.if-trace-lt2.false c.from.ensures refl c.if-trace-end.false c.from-u.ensures (is-active given state c.if-u-eq0.false c.if-opened-u.false c.in_ok-e.ensures.0 c.in_ok-e.e c.in_ok-e.ensures.1) values refl suited refl w.1 (rw (c.after.ensures, c.advance-done.ensures) (c.perform-after.ensures m w.0 w.1))
 
 pub returns-then-not-is_allowed : goal.returns-then-not-is_allowed
 returns-then-not-is_allowed c sc d given state =
     let values : List ℕ = take (2 + 2 * c.from.result - 2) (drop 2 c.args.trace.now) in
-    let suited = c.in_ok-names.ensures sc d (coming given state c.if-u-eq0.false c.if-r-u.false c.if-r-k.false c.event_of-e.result c.event_of-e.ensures).0 (next given state c.if-u-eq0.false c.if-r-u.false c.if-r-k.false c.event_of-e.result c.event_of-e.ensures c.args.opened.now.counted) in
-    let m = at-event given state c.if-u-eq0.false c.if-r-u.false c.if-r-k.false c.event_of-e.result c.event_of-e.ensures c.args.opened.now.counted values suited (search rules) c.worked-more.new.classes c.worked-more.result c.worked-more.ensures in
-    step-refused sc d c.args.trace.now c.if-trace-lt2.false c.from.ensures refl c.if-trace-end.false c.from-u.ensures (is-active given state c.if-u-eq0.false c.if-r-u.false c.if-r-k.false c.event_of-e.result c.event_of-e.ensures) values refl suited refl (told_none (c.is_allowed.ensures _ _ _ m) c.if-not-is_allowed.true)
+    let suited = c.in_ok-names.ensures sc d (coming given state c.if-u-eq0.false c.if-opened-u.false c.in_ok-e.ensures.0 c.in_ok-e.e c.in_ok-e.ensures.1).0 (next given state c.if-u-eq0.false c.if-opened-u.false c.in_ok-e.ensures.0 c.in_ok-e.e c.in_ok-e.ensures.1 c.args.opened.now.counted) in
+    let m = at-event given state c.if-u-eq0.false c.if-opened-u.false c.in_ok-e.ensures.0 c.in_ok-e.e c.in_ok-e.ensures.1 c.args.opened.now.counted values suited (search rules) c.worked-more.new.classes c.worked-more.result c.worked-more.ensures in
+    step-refused sc d c.args.trace.now c.if-trace-lt2.false c.from.ensures refl c.if-trace-end.false c.from-u.ensures (is-active given state c.if-u-eq0.false c.if-opened-u.false c.in_ok-e.ensures.0 c.in_ok-e.e c.in_ok-e.ensures.1) values refl suited refl (told_none (c.is_allowed.ensures _ _ _ m) c.if-not-is_allowed.true)
 
 pub returns-in_err-names : goal.returns-in_err-names
 returns-in_err-names c sc d given state =
     let values : List ℕ = take (2 + 2 * c.from.result - 2) (drop 2 c.args.trace.now) in
-    let suited = c.in_err-names.ensures sc d (coming given state c.if-u-eq0.false c.if-r-u.false c.if-r-k.false c.event_of-e.result c.event_of-e.ensures).0 (next given state c.if-u-eq0.false c.if-r-u.false c.if-r-k.false c.event_of-e.result c.event_of-e.ensures c.args.opened.now.counted) in
-    rw c.from_residual.ensures (refuses-unsuited sc d c.args.trace.now c.if-trace-lt2.false c.from.ensures refl c.if-trace-end.false c.from-u.ensures (is-active given state c.if-u-eq0.false c.if-r-u.false c.if-r-k.false c.event_of-e.result c.event_of-e.ensures) values refl suited refl)
+    let suited = c.in_err-names.ensures sc d (coming given state c.if-u-eq0.false c.if-opened-u.false c.in_ok-e.ensures.0 c.in_ok-e.e c.in_ok-e.ensures.1).0 (next given state c.if-u-eq0.false c.if-opened-u.false c.in_ok-e.ensures.0 c.in_ok-e.e c.in_ok-e.ensures.1 c.args.opened.now.counted) in
+    rw c.from_residual-in_err-names.ensures (refuses-unsuited sc d c.args.trace.now c.if-trace-lt2.false c.from.ensures refl c.if-trace-end.false c.from-u.ensures (is-active given state c.if-u-eq0.false c.if-opened-u.false c.in_ok-e.ensures.0 c.in_ok-e.e c.in_ok-e.ensures.1) values refl suited refl)

@@ -1,11 +1,8 @@
 -- `listed_marks` marks the listed rows. Assumes nothing.
-use Rattle.std.proofs.Common.{arith, inr, ⊎_elim}
+use Rattle.std.proofs.Common.{inr, ⊎_elim}
 use Rattle.cells.specs.Cells.{cell_count}
 use Rattle.knowledge.specs.laws.Filled.{none-on}
 use Rattle.role_level.proofs.listed_marks.Goals as goal
-
-pub with_listed-requires : goal.with_listed-requires
-with_listed-requires c r m = omega (arith, c.requires r m, c.args.t.now.shape.few)
 
 pub returns : goal.returns
 returns c = record {

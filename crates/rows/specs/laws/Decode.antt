@@ -1,5 +1,5 @@
 -- What the three bytes of a row say of it: its kind and parts, and whether it is agent-like, a pair, a variable or an agent's, and the rows to which it refers. Assumes nothing.
-use Rattle.std.specs.Prelude.{ℕ, zero, suc, ◌<◌, ◌≤◌, ◌≡◌, refl, Bool, true, false, ◌&&◌, ◌||◌, not, T, leb, eqb}
+use Rattle.std.specs.Prelude.{ℕ, ◌<◌, ◌≤◌, ◌≡◌, refl, Bool, false, ◌&&◌, ◌||◌, not, T, leb, eqb}
 use Rattle.std.proofs.Common.{arith, sym, ap, ◌∙◌, eqb→eq, ne_eqb}
 use mathlib.Core.List.Memᴰ.{head as here}
 use mathlib.Core.List.Memᴰ.{tail as later}
@@ -147,13 +147,6 @@ decodes-refers secret_bytes = (λ m. here refl, λ m. absurd (omega arith))
 decodes-refers shared_bytes = (λ m. here refl, λ m. later (here refl))
 decodes-refers pair_bytes = (λ m. here refl, λ m. later (here refl))
 decodes-refers encrypted_bytes = (λ m. here refl, λ m. later (here refl))
-
--- kinds 1 and 2 are agent-like
-pub agent-kinds : (k r : ℕ) → 1 ≤ k → k < 3 → agent_kind k r ≡ true
-agent-kinds zero r lo hi = absurd (omega arith)
-agent-kinds (suc zero) r lo hi = refl
-agent-kinds (suc (suc zero)) r lo hi = refl
-agent-kinds (suc (suc (suc k))) r lo hi = absurd (omega arith)
 
 -- no kind but 1, 2, 5 and 6 is agent-like
 pub other-kinds : (k r : ℕ) → ¬ (k ≡ 1) → ¬ (k ≡ 2) → ¬ (k ≡ 5) → ¬ (k ≡ 6) → agent_kind k r ≡ false

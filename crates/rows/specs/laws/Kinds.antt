@@ -1,23 +1,21 @@
 -- A kind and its byte say each other. Assumes nothing.
-use Rattle.std.specs.Prelude.{Option, None, Some, ◌⊎◌, true, false, leb, eqb, ℕ, zero, suc, ◌*◌, ◌<◌, ◌≤◌, ◌≡◌, refl, List, get_or}
-use Rattle.std.proofs.Common.{arith, sym, ap, ◌∙◌, inl, inr}
+use Rattle.std.specs.Prelude.{None, Some, is_some, Bool, true, false, eqb, ℕ, zero, suc, ◌*◌, ◌<◌, ◌≡◌, refl, List, get_or}
+use Rattle.std.proofs.Common.{arith, rules, sym, ap, eq-eqb, ne_eqb}
+use denote.Enum.Bare.{sameb, same_true, same_false}
 use Rattle.semantics.specs.Table.{Row}
 use Rattle.semantics.specs.Encoding.{RowBytes, trusted_bytes, untrusted_bytes, global_bytes, intruder_bytes, role_bytes, agent_variable_bytes, fresh_variable_bytes, local_bytes, public_bytes, secret_bytes, shared_bytes, pair_bytes, encrypted_bytes}
 use Rattle.rows.specs.declared.Kind.{Kind}
 use Rattle.rows.specs.declared.Kind.TheVariants.{Trusted, Untrusted, Global, Intruder, Role, Variable, Local, PublicKey, SecretKey, SharedKey, Pair, Encrypted}
+use Rattle.rows.specs.contracts.Kind.{the_type}
 use Rattle.rows.specs.Rows.{Shape}
+use Rattle.rows.specs.laws.Numbers.{numbers-differ}
 use Rattle.rows.specs.laws.Table.{row_here}
 use Rattle.rows.specs.Kinds.{number_of, kind_as}
 
 none_some : {k : Kind} → None ≡ Some k → ⊥
 none_some e = cc
 
--- the kind of a number below 13 and above 0
-kind_or : Option Kind → Kind
-kind_or (Some k) = k
-kind_or None = Trusted
-
-pub kind-number : (k : Kind) → kind_as (number_of k) ≡ Some k
+kind-number : (k : Kind) → kind_as (number_of k) ≡ Some k
 kind-number Trusted = refl
 kind-number Untrusted = refl
 kind-number Global = refl
@@ -31,64 +29,17 @@ kind-number SharedKey = refl
 kind-number Pair = refl
 kind-number Encrypted = refl
 
--- kinds with one number are one
-pub kinds-same : (a b : Kind) → number_of a ≡ number_of b → a ≡ b
-unfolding kind_or
-kinds-same a b e = ap kind_or (sym (kind-number a) ∙ ap kind_as e ∙ kind-number b)
-
+-- kinds that differ have two numbers
 pub kinds-differ : {a b : Kind} → (a ≡ b → ⊥) → number_of a ≡ number_of b → ⊥
-kinds-differ {a} {b} other e = other (kinds-same a b e)
-
--- a kind's number is one of 12
-pub number-low : (k : Kind) → (1 ≤ number_of k) × (number_of k ≤ 12)
-number-low Trusted = (omega arith, omega arith)
-number-low Untrusted = (omega arith, omega arith)
-number-low Global = (omega arith, omega arith)
-number-low Intruder = (omega arith, omega arith)
-number-low Role = (omega arith, omega arith)
-number-low Variable = (omega arith, omega arith)
-number-low Local = (omega arith, omega arith)
-number-low PublicKey = (omega arith, omega arith)
-number-low SecretKey = (omega arith, omega arith)
-number-low SharedKey = (omega arith, omega arith)
-number-low Pair = (omega arith, omega arith)
-number-low Encrypted = (omega arith, omega arith)
+kinds-differ = numbers-differ number_of kind_as kind-number
 
 same-some : {j k : Kind} {n : ℕ} → n ≡ number_of j → Some j ≡ Some k → n ≡ number_of k
 same-some {j} {k} e f = let q : j ≡ k = cc in rw (← q) e
 
--- the kinds of agents, and every other
-pub agent-number : (k : Kind) → (k ≡ Trusted) ⊎ (k ≡ Untrusted) → true ≡ leb (number_of k) 2
-agent-number k (inl e) = rw e refl
-agent-number k (inr e) = rw e refl
-
-pub other-number : (k : Kind) → (k ≡ Trusted → ⊥) → (k ≡ Untrusted → ⊥) → false ≡ leb (number_of k) 2
-other-number Trusted first second = absurd (first refl)
-other-number Untrusted first second = absurd (second refl)
-other-number Global first second = refl
-other-number Intruder first second = refl
-other-number Role first second = refl
-other-number Variable first second = refl
-other-number Local first second = refl
-other-number PublicKey first second = refl
-other-number SecretKey first second = refl
-other-number SharedKey first second = refl
-other-number Pair first second = refl
-other-number Encrypted first second = refl
-
-pub untrusted-number : (k : Kind) → (k ≡ Trusted → ⊥) → false ≡ eqb (number_of k) 1
-untrusted-number Trusted first = absurd (first refl)
-untrusted-number Untrusted first = refl
-untrusted-number Global first = refl
-untrusted-number Intruder first = refl
-untrusted-number Role first = refl
-untrusted-number Variable first = refl
-untrusted-number Local first = refl
-untrusted-number PublicKey first = refl
-untrusted-number SecretKey first = refl
-untrusted-number SharedKey first = refl
-untrusted-number Pair first = refl
-untrusted-number Encrypted first = refl
+-- whether two kinds are one, by their numbers
+pub same-number : (r : Bool) (k l : Kind) → r ≡ sameb the_type k l → r ≡ eqb (number_of k) (number_of l)
+same-number true k l e = sym (eq-eqb (number_of k) (number_of l) (ap number_of (same_true the_type (search rules) k l (sym e))))
+same-number false k l e = sym (ne_eqb (number_of k) (number_of l) (kinds-differ (same_false the_type k l (sym e))))
 
 -- a byte that says a kind is its number
 pub byte-kind : (n : ℕ) {k : Kind} → kind_as n ≡ Some k → n ≡ number_of k
@@ -124,8 +75,7 @@ row-kind pair_bytes = (Pair, refl)
 row-kind encrypted_bytes = (Encrypted, refl)
 
 -- so each row of a table has one
-pub table-kind : {bytes : List ℕ} {n runs : ℕ} → Shape bytes n runs → (r : ℕ) → r < n → kind_as (get_or bytes (3 * r) 0) ≡ None → ⊥
-table-kind {bytes} shape r low none =
+pub table-known : {bytes : List ℕ} {n runs : ℕ} → Shape bytes n runs → (r : ℕ) → r < n → is_some (kind_as (get_or bytes (3 * r) 0)) ≡ true
+table-known {bytes} shape r low =
     let there = row_here bytes shape.table r (omega (arith, shape.count)) in
-    let its = row-kind there.2 in
-    none_some (sym none ∙ its.1)
+    ap is_some (row-kind there.2).1

@@ -1,4 +1,5 @@
--- `runs::runs_of` meets its contract. The loop's invariant: the runs below k are found, and run k begins at the offset. Assumes nothing.
+-- `runs::runs_of` meets its contract. The loop's invariant: the runs below k are found. Assumes nothing.
+use Prim.Native.Nat.{◌+◌, ◌*◌}
 use native.Mathlib.Omega.{arith}
 use mathlib.Core.Path.{ap}
 use Rattle.answers.specs.Answers.{scenario_in}
@@ -8,8 +9,8 @@ use Rattle.runs.specs.laws.Listed.{few-runs, few-roles, found_none, found-run, f
 use Rattle.runs.proofs.runs_of.Goals.{In-loop-k}
 use Rattle.runs.proofs.runs_of.Goals as goal
 
--- in the loop, run k begins at the offset
-some-run : (c : In-loop-k) → SomeRun c.args.file.now c.loop-k.start
+-- in the loop, run k begins where its record stands
+some-run : (c : In-loop-k) → SomeRun c.args.file.now (c.args.l.runs.start + c.loop-k.k * (1 + c.args.l.roles.count))
 some-run c =
     let e = c.requires.is_opened in
     (scenario_in c.args.file.now, c.loop-k.k, found-run c.args.file.now _ e (c.loop-k.invariant.2 _ e) c.loop-k-test.true)
@@ -23,16 +24,18 @@ loop-k-init c =
       λ sc e. found_none file sc e (scenario_in file, p.is_opened, p.layout),
     )
 
-pub events_from-found-requires : goal.events_from-found-requires
-events_from-found-requires c = some-run (goal.at.events_from-found-requires c).In-loop-k
+pub overflow_mul-k : goal.overflow_mul-k
+overflow_mul-k c = omega (arith, start-inside c.args.file.now _ (some-run (goal.at.overflow_mul-k c).In-loop-k))
 
-pub overflow_add-start-in-loop-k : goal.overflow_add-start-in-loop-k
-overflow_add-start-in-loop-k c =
-    omega (arith, start-inside c.args.file.now c.loop-k.start (some-run (goal.at.overflow_add-start-in-loop-k c).In-loop-k))
+pub overflow_add-l : goal.overflow_add-l
+overflow_add-l c = omega (arith, start-inside c.args.file.now _ (some-run (goal.at.overflow_add-l c).In-loop-k))
+
+pub run_from-requires : goal.run_from-requires
+run_from-requires c = some-run (goal.at.run_from-requires c).In-loop-k
 
 pub loop-k-preserved : goal.loop-k-preserved
 loop-k-preserved c =
-    (omega arith, omega arith, λ sc e. found-more c.args.file.now sc e (c.loop-k.invariant.2 sc e) c.loop-k-test.true c.events_from-found.ensures)
+    (omega arith, omega arith, λ sc e. found-more c.args.file.now sc e (c.loop-k.invariant.2 sc e) c.loop-k-test.true c.run_from.ensures.0 c.run_from.ensures.1)
 
 pub returns : goal.returns
 returns c =

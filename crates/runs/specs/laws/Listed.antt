@@ -1,7 +1,7 @@
 -- The runs of an accepted file, found one after the other. Assumes nothing.
 use Rattle.std.specs.Prelude.{ℕ, zero, suc, ◌+◌, ◌*◌, ◌<◌, ◌≤◌, ◌≡◌, refl, List, [], ◌∷◌, length, get_or, set}
 use Rattle.std.proofs.Math.Decide.{ℕ_discrete}
-use Rattle.std.proofs.Common.{arith, zero-mul, suc-mul, add-one, sym, ap, ◌∙◌, length-set, get_or-set_same, get_or-set_other}
+use Rattle.std.proofs.Common.{arith, sym, ap, ◌∙◌, length-set, get_or-set_same, get_or-set_other}
 use Rattle.std.proofs.Math.Option.{some}
 use Rattle.std.proofs.Math.ListN.{get_elem?}
 use Rattle.semantics.specs.Answer.{accepted}
@@ -15,11 +15,11 @@ use Rattle.answers.specs.declared.Layout.{Layout}
 use Rattle.runs.specs.Runs.{RunAt, RunsAt, IsRun, no_place}
 use Rattle.runs.specs.declared.RunPlace.{RunPlace}
 
--- the runs below k are found, and the next begins at `start`
-pub record FoundTo (file : List ℕ) (sc : Scenario) (count roles k start : ℕ) (runs : List RunPlace) : Type 0 where
+-- the runs below k are found; the first begins at `start`
+pub record FoundTo (file : List ℕ) (sc : Scenario) (count roles start k : ℕ) (runs : List RunPlace) : Type 0 where
   pub all_runs : count ≡ length sc.runs
   pub all_roles : roles ≡ length sc.roles
-  pub begins : start ≡ (run_part file).start + k * (1 + length sc.roles)
+  pub begins : start ≡ (run_part file).start
   pub four : length runs ≡ 4
   pub each : (i : ℕ) (run : Run) → i < k → get_elem? sc.runs i ≡ some run → RunAt file sc run (get_or runs i no_place).start (get_or runs i no_place).first (get_or runs i no_place).events
   pub small : (i : ℕ) → i < 4 → (get_or runs i no_place).events ≤ 8
@@ -57,28 +57,29 @@ module _ (file : List ℕ) (sc : Scenario) (accepts : opened file ≡ accepted s
     laid_out = laid.2 ∙ ap (λ (x : Scenario). layout_of file x) (accepted-same (sym laid.1 ∙ accepts))
 
     -- none is found at first
-    pub found_none : FoundTo file sc l.runs.count l.roles.count 0 l.runs.start zeros
+    pub found_none : FoundTo file sc l.runs.count l.roles.count l.runs.start 0 zeros
     found_none = record {
       all_runs = ap (λ (x : Layout). x.runs.count) laid_out;
       all_roles = ap (λ (x : Layout). x.roles.count) laid_out;
-      begins = omega (arith, zero-mul (1 + length sc.roles), ap (λ (x : Layout). x.runs.start) laid_out);
+      begins = ap (λ (x : Layout). x.runs.start) laid_out;
       four = refl;
       each = λ i run l. absurd (omega arith);
       small = λ i l. zeros-small i;
     }
 
-  module _ {count roles k start : ℕ} {runs : List RunPlace} (found : FoundTo file sc count roles k start runs) where
+  module _ {count roles start k : ℕ} {runs : List RunPlace} (found : FoundTo file sc count roles start k runs) where
     -- the next run is at the place
-    pub found-run : k < count → IsRun file sc k start
-    found-run l = record { accepts = accepts; below = omega (arith, found.all_runs); begins = found.begins }
+    pub found-run : k < count → IsRun file sc k (start + k * (1 + roles))
+    found-run l = record { accepts = accepts; below = omega (arith, found.all_runs); begins = rw (found.begins, found.all_roles) refl }
 
     -- one more
-    pub found-more : k < count → {first n : ℕ} → ((sc : Scenario) (k : ℕ) (run : Run) → IsRun file sc k start → get_elem? sc.runs k ≡ some run → RunAt file sc run start first n)
-        → FoundTo file sc count roles (k + 1) (start + (1 + roles)) (set runs k (record { start = start; first = first; events = n }))
-    found-more l {first} {n} next = record {
+    pub found-more : k < count → {place : RunPlace} → place.start ≡ start + k * (1 + roles)
+        → ((sc : Scenario) (k′ : ℕ) (run : Run) → IsRun file sc k′ (start + k * (1 + roles)) → get_elem? sc.runs k′ ≡ some run → RunAt file sc run (start + k * (1 + roles)) place.first place.events)
+        → FoundTo file sc count roles start (k + 1) (set runs k place)
+    found-more l {place} is_start next = record {
       all_runs = found.all_runs;
       all_roles = found.all_roles;
-      begins = rw (add-one k) (omega (arith, suc-mul k (1 + length sc.roles), found.begins, found.all_roles));
+      begins = found.begins;
       four = length-set runs k _ ∙ found.four;
       each = λ i run m g. here-or-before i run m g (ℕ_discrete i k);
       small = λ i m. small-each i m (ℕ_discrete i k);
@@ -87,14 +88,11 @@ module _ (file : List ℕ) (sc : Scenario) (accepts : opened file ≡ accepted s
         below : k < 4
         below = omega (arith, few-runs, found.all_runs)
 
-        place : RunPlace
-        place = record { start = start; first = first; events = n }
-
         more : List RunPlace
         more = set runs k place
 
         here-or-before : (i : ℕ) (run : Run) → i < k + 1 → get_elem? sc.runs i ≡ some run → Dec (i ≡ k) → RunAt file sc run (get_or more i no_place).start (get_or more i no_place).first (get_or more i no_place).events
-        here-or-before i run m g (yes e) = rw (set_here runs k place i found.four below e) (next sc k run (found-run l) (rw e at g))
+        here-or-before i run m g (yes e) = rw (set_here runs k place i found.four below e, is_start) (next sc k run (found-run l) (rw e at g))
         here-or-before i run m g (no d) = rw (get_or-set_other runs k i place no_place d) (found.each i run (omega arith) g)
 
         small-each : (i : ℕ) → i < 4 → Dec (i ≡ k) → (get_or more i no_place).events ≤ 8

@@ -1,5 +1,5 @@
 -- The laws of Open's sequence of conditions, as the code goes through it. Assumes nothing.
-use Rattle.std.specs.Prelude.{ℕ, zero, suc, ◌+◌, ◌*◌, ◌<◌, ◌≤◌, ◌≡◌, length, Err, None, Ok, Some}
+use Rattle.std.specs.Prelude.{ℕ, zero, suc, ◌+◌, ◌*◌, ◌<◌, ◌≤◌, ◌≡◌, MatchOption, length, Err, None, Ok, Some}
 use Rattle.std.proofs.Common.{arith, add-one, sym, ◌∙◌}
 use Rattle.std.proofs.Math.Path.{refl, ap, fun_ext}
 use mathlib.Core.List.{List, [], ◌∷◌}
@@ -27,12 +27,22 @@ use Rattle.table.specs.laws.Table.{judged-refused, judged-sized, table-accepted}
 use Rattle.records.specs.Records.{part_at}
 use Rattle.records.specs.laws.Records.{records_left, left-cons, left-none, left-all}
 use Rattle.records.specs.laws.Runs.{run-bytes}
-use Rattle.answers.specs.Answers.{numbered, refusal_as, checked_as, layout_of, opened_as}
+use Rattle.answers.specs.Answers.{numbered, refused_at, refusal_as, checked_as, layout_of, opened_as}
+use Rattle.answers.specs.declared.Reason.{Reason}
 use Rattle.answers.specs.declared.Refusal.{Refusal}
 use Rattle.answers.specs.Answers.{Checked}
 use Rattle.answers.specs.declared.Layout.{Layout}
 use Rattle.answers.specs.Answers.{Opened}
 use Rattle.scenario.specs.Opened.{roles_refusal, judged_runs, judged_rows}
+
+-- a check that is passed has no place, one that is refused is so at its place
+pub check-passed : (reason : Reason) (p : Place) → refused_at reason p ≡ Ok tt → p ≡ None
+check-passed reason None e = refl
+check-passed reason (Some at) e = let z : ◌≡◌ {A = ℕ} 0 1 = cc in absurd (omega arith)
+
+pub check-refused : (reason : Reason) (p : Place) {x : Refusal} → refused_at reason p ≡ Err x → (at : ℕ) × (p ≡ Some at) × (x ≡ record { reason = reason; place = at })
+check-refused reason None e = let z : ◌≡◌ {A = ℕ} 0 1 = cc in absurd (omega arith)
+check-refused reason (Some at) e = (at, refl, cc)
 
 -- two conditions with one number, one after the other
 six-cases : (a b : Option ℕ) (rest : Answer Scenario) → ◌>>◌ (checked 6 a) (◌>>◌ (checked 6 b) rest) ≡ ◌>>◌ (checked 6 (first_of (a ∷ b ∷ []))) rest
@@ -97,17 +107,23 @@ module _ (file : List ℕ) where
 module _ (file : List ℕ) (rows : List Row) where
   -- refusal 6: of records, of rows, or none
   module _ {p : Place} (roles : p ≡ place_as (bad_role rows (role_parts file))) where
-    pub records-refused : {at : ℕ} → p ≡ Some at → Some at ≡ place_as (roles_refusal file rows)
+    records-refused : {at : ℕ} → p ≡ Some at → Some at ≡ place_as (roles_refusal file rows)
     unfolding roles_refusal
     records-refused e = rw (at_some (bad_role rows (role_parts file)) (sym e ∙ roles)) refl
 
-    pub names-judged : p ≡ None → {q : Place} → q ≡ place_as (absent_role_from (role_count file) (term_part file).start rows) → q ≡ place_as (roles_refusal file rows)
+    names-judged : p ≡ None → {q : Place} → q ≡ place_as (absent_role_from (role_count file) (term_part file).start rows) → q ≡ place_as (roles_refusal file rows)
     unfolding roles_refusal
     names-judged good {q} names = names ∙ rw (nowhere-none (bad_role rows (role_parts file)) (sym good ∙ roles)) (first_alone (absent_role_from (role_count file) (term_part file).start rows))
       where
         first_alone : (o : Option ℕ) → place_as o ≡ place_as (first_of (none ∷ o ∷ []))
         first_alone none = refl
         first_alone (some at) = refl
+
+  -- refusal 6, by what is found of records and then of rows
+  pub roles-told : (p q : Place) {R : Type 0} → p ≡ place_as (bad_role rows (role_parts file)) → MatchOption p R (λ at. q ≡ Some at)
+      → (R → q ≡ place_as (absent_role_from (role_count file) (term_part file).start rows)) → q ≡ place_as (roles_refusal file rows)
+  roles-told None q first found absent = names-judged first refl (absent found)
+  roles-told (Some at) q first found absent = found ∙ records-refused first refl
 
   -- refusal 6, then 7, then the rest
   module _ {p : Place} (roles : p ≡ place_as (roles_refusal file rows)) where

@@ -6,4 +6,4 @@ use Rattle.search.specs.laws.Events.{event_total}
 use Rattle.search.proofs.event_count.Given as goal
 
 abbrev pub invariant-loop-run : goal.invariant-loop-run
-invariant-loop-run l = (l.sum ≡ event_total (take l.run-index l.run-items)) × (l.sum ≤ 8 * l.run-index)
+invariant-loop-run l = (l.sum ≡ event_total (take l.run-index l.runs)) × (l.sum ≤ 8 * l.run-index)

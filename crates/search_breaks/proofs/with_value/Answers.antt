@@ -9,4 +9,4 @@ use Rattle.search_breaks.proofs.with_value.Goals as goal
 pub returns : goal.returns
 returns c vs are =
     let size : length c.args.values.bytes ≡ 16 = search rules in
-    values-more vs c.args.values c.args.r c.args.w refl (omega (arith, c.requires.0, size)) are
+    values-more vs c.args.values c.args.value.row c.args.value.run refl (omega (arith, c.requires.0, size)) are

@@ -16,7 +16,7 @@ use Rattle.records.specs.Kinds.{byte_of}
 use Rattle.runs.specs.declared.RunEvent.{RunEvent}
 use Rattle.runs.specs.declared.Runs.{Runs}
 use Rattle.runs.specs.Runs.{RunsAt, EventRead, run_at}
-use Rattle.state.specs.State.{Given}
+use Rattle.runs.specs.Opened.{Gives}
 use Rattle.state.specs.laws.Active.{run-ended, Coming, run-coming, coming-move, coming-due}
 use Rattle.state.specs.laws.Ready.{none-ready}
 use Rattle.rows.specs.Rows.{rows_of}
@@ -44,7 +44,7 @@ module _ {plan : Plan} (course : Course) {names classes : List ℕ} {marks : Lis
   pub here : Here plan m.sc m.d (state_of course names classes marks) m.ms reach.at
   here = m.clear.here
 
-  pub given : Given plan.opened.file.now plan.opened.table.bytes.now plan.opened.table.rows plan.opened.runs m.sc
+  pub given : Gives plan.opened m.sc
   given = here.reached.given
 
   -- the run has made all its events

@@ -106,8 +106,8 @@ module _ (plan : Plan) (sc : Scenario) (left depth : ℕ) (d : State) {claimed :
       subst (λ (m : ℕ). Starts plan sc left depth d m) (ap size_of is) (own-starts plan sc left depth d (broken sc d) refl (ap is_ok is) deep)
 
 -- a state that the walk is at, by its positions
-pub standing : {plan : Plan} {s : CodeState} {at : ℕ} (m : SomeState plan s at) → Standing plan.opened.file.now plan.opened.runs s.done m.sc m.d
-standing m = record { t = _; n = _; s = _; given = m.here.reached.given; state = m.here.state; is_done = refl }
+pub standing : {plan : Plan} {s : CodeState} {at : ℕ} (m : SomeState plan s at) → Standing plan.opened s.done m.sc m.d
+standing m = record { s = _; given = m.here.reached.given; state = m.here.state; is_done = refl }
 
 -- one run after the other
 module _ (plan : Plan) (sc : Scenario) (left n : ℕ) (d : State) {all : List Entry} {end k count : ℕ} (passed : Passed sc left all (runs_from plan sc n d end k) count) where

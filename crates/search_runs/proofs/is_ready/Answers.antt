@@ -1,10 +1,9 @@
 -- `is_ready` tells whether a run's next event is a send or claim, by its kind. Assumes nothing.
-use Rattle.std.proofs.lemmas.Bool.{le-ltb}
 use Rattle.search_runs.specs.laws.Runs.{ready-ended, ready-told}
 use Rattle.search_runs.proofs.is_ready.Goals as goal
 
-pub returns-then-j-r : goal.returns-then-j-r
-returns-then-j-r c = ready-told c.requires.1 c.if-j-r.true c.event_of.result c.event_of.ensures c.ne.ensures
+pub returns-in-Some : goal.returns-in-Some
+returns-in-Some c = ready-told c.requires c.in-Some.ensures.0 _ c.in-Some.ensures.1 c.ne.ensures
 
-pub returns-else-j-r : goal.returns-else-j-r
-returns-else-j-r c = rw (le-ltb _ _ c.if-j-r.false) (ready-ended c.requires.1 c.if-j-r.false)
+pub returns-in-None : goal.returns-in-None
+returns-in-None c = ready-ended c.requires c.in-None.ensures

@@ -13,7 +13,7 @@ use Rattle.semantics.specs.Scenario.{Scenario}
 use Rattle.semantics.specs.State.{State, events_of}
 use Rattle.semantics.specs.Moves.{send_or_claim, ready_at, run_numbers, alone_or, runs_in}
 use Rattle.semantics.proofs.laws.Broken.{first_found, first-none}
-use Rattle.runs.specs.declared.Runs.{Runs}
+use Rattle.runs.specs.declared.opened.Opened.{Opened}
 use Rattle.records.specs.contracts.EventKind.{the_type}
 use Rattle.records.specs.declared.EventKind.TheVariants.{Read}
 use Rattle.records.specs.Kinds.{byte_of}
@@ -38,69 +38,69 @@ byte-other (suc (suc zero)) read h n = cc
 byte-other (suc (suc (suc b))) read h n = absurd (none-ne-some read h)
 byte-other b (claim k) h n = refl
 
-module _ {file : List ℕ} {r : Runs} {done : List ℕ} {k : ℕ} (low : k < r.count) where
+module _ {o : Opened} {done : List ℕ} {k : ℕ} (low : k < o.runs.count) where
   -- a run that has made all its events
-  pub ready-ended : (run_at r k).events ≤ get_or done k 0 → TellsReady file r done k false
+  pub ready-ended : (run_at o.runs k).events ≤ get_or done k 0 → TellsReady o done k false
   unfolding ready_at
   ready-ended l sc d at = rw (run-ended at.given at.state k low (rw at.is_done at l)) refl
 
-  module _ (more : get_or done k 0 < (run_at r k).events) (e : RunEvent) (reads : ReadsEvent file r k (get_or done k 0) e) where
+  module _ (more : get_or done k 0 < (run_at o.runs k).events) (e : RunEvent) (reads : ReadsEvent o.file.now o.runs k (get_or done k 0) e) where
     -- by the kind of its next event
-    by_kind : (b : Bool) → ((kind : EventKind) → get_elem? event_kinds (byte_of e.kind) ≡ some kind → send_or_claim kind ≡ b) → TellsReady file r done k b
+    by_kind : (b : Bool) → ((kind : EventKind) → get_elem? event_kinds (byte_of e.kind) ≡ some kind → send_or_claim kind ≡ b) → TellsReady o done k b
     unfolding ready_at
     by_kind b kinds sc d at =
-        let more' : get_or at.s.done k 0 < (run_at r k).events = rw at.is_done at more in
+        let more' : get_or at.s.done k 0 < (run_at o.runs k).events = rw at.is_done at more in
         let w = run-coming at.given at.state k low more' in
         let there = ap (λ (l : List ℕ). get_elem? (events_of sc w.0.run) (get_or l k 0)) at.is_done ∙ w.1.of_event in
         let seen = reads sc w.0.run w.0.event at.given.runs at.given.good w.1.of_run there in
         rw (w.1.is_active, kinds w.0.event.kind seen.kind) refl
 
-    pub ready-told : {b : Bool} → b ≡ not (sameb the_type e.kind Read) → TellsReady file r done k b
+    pub ready-told : {b : Bool} → b ≡ not (sameb the_type e.kind Read) → TellsReady o done k b
     ready-told q = rw q (go (sameb the_type e.kind Read) refl)
       where
-        go : (c : Bool) → sameb the_type e.kind Read ≡ c → TellsReady file r done k (not c)
+        go : (c : Bool) → sameb the_type e.kind Read ≡ c → TellsReady o done k (not c)
         go true s = by_kind false (λ kind h. byte_one (byte_of e.kind) kind h (event-is e.kind Read refl s))
         go false s = by_kind true (λ kind h. byte-other (byte_of e.kind) kind h (event-other e.kind Read refl s))
 
 -- none of the first k runs sends or claims next
-abbrev pub UnreadyTo : List ℕ → Runs → List ℕ → ℕ → Type 0
-UnreadyTo file r done k = (i : ℕ) → 0 ≤ i → i < k → TellsReady file r done i false
+abbrev pub UnreadyTo : Opened → List ℕ → ℕ → Type 0
+UnreadyTo o done k = (i : ℕ) → 0 ≤ i → i < k → TellsReady o done i false
 
-module _ {file : List ℕ} {r : Runs} {done : List ℕ} {k : ℕ} (before : UnreadyTo file r done k) where
+module _ {o : Opened} {done : List ℕ} {k : ℕ} (before : UnreadyTo o done k) where
   -- none of the numbers from 1 up to k is ready
-  below_none : (sc : Scenario) (d : State) → Standing file r done sc d → (u : ℕ) → 1 ≤ u → u < suc k → ready_at sc d u ≡ none
+  below_none : (sc : Scenario) (d : State) → Standing o done sc d → (u : ℕ) → 1 ≤ u → u < suc k → ready_at sc d u ≡ none
   below_none sc d at zero l h = absurd (omega arith)
   below_none sc d at (suc i) l h = before i (omega arith) (omega arith) sc d at
 
   -- the next is the lowest
-  pub lowest-here : k < r.count → TellsReady file r done k true → LowestReady file r done k
+  pub lowest-here : k < o.runs.count → TellsReady o done k true → LowestReady o done k
   lowest-here low here = record {
     below = low;
     ready = λ sc d at. first_found (ready_at sc d) 1 (length sc.runs) (suc k) (omega arith) (omega (arith, at.given.runs.count)) (below_none sc d at) (here sc d at);
   }
 
   -- and with all passed there is none
-  pub lowest-none : r.count ≤ k → NoneReady file r done
+  pub lowest-none : o.runs.count ≤ k → NoneReady o done
   lowest-none all sc d at = first-none (ready_at sc d) 1 (length sc.runs) (λ u f h. below_none sc d at u f (omega (arith, at.given.runs.count)))
 
-module _ {file : List ℕ} {r : Runs} {done : List ℕ} where
-  all-runs : (sc : Scenario) (d : State) → Standing file r done sc d → run_numbers sc ≡ numbers_from 1 (r.count - 0)
-  all-runs sc d at = let n : length sc.runs ≡ r.count - 0 = omega (arith, at.given.runs.count) in ap (numbers_from 1) n
+module _ {o : Opened} {done : List ℕ} where
+  all-runs : (sc : Scenario) (d : State) → Standing o done sc d → run_numbers sc ≡ numbers_from 1 (o.runs.count - 0)
+  all-runs sc d at = let n : length sc.runs ≡ o.runs.count - 0 = omega (arith, at.given.runs.count) in ap (numbers_from 1) n
 
   -- the full list goes on with every run
-  pub goes-full : GoesOn file r done Full (record { from = 0; end = r.count })
+  pub goes-full : GoesOn o done Full (record { start = 0; end = o.runs.count })
   unfolding runs_in
   goes-full = record { within = omega arith; runs = all-runs }
 
   -- and so does the short one where none sends or claims
-  pub goes-all : NoneReady file r done → GoesOn file r done Short (record { from = 0; end = r.count })
+  pub goes-all : NoneReady o done → GoesOn o done Short (record { start = 0; end = o.runs.count })
   unfolding runs_in
-  goes-all unready = record { within = omega arith; runs = λ sc d at. ap (λ (o : Option ℕ). alone_or o (run_numbers sc)) (unready sc d at) ∙ all-runs sc d at }
+  goes-all unready = record { within = omega arith; runs = λ sc d at. ap (λ (lowest : Option ℕ). alone_or lowest (run_numbers sc)) (unready sc d at) ∙ all-runs sc d at }
 
   -- else with the lowest that does
-  pub goes_one : {k : ℕ} → LowestReady file r done k → GoesOn file r done Short (record { from = k; end = k + 1 })
+  pub goes_one : {k : ℕ} → LowestReady o done k → GoesOn o done Short (record { start = k; end = k + 1 })
   unfolding runs_in
   goes_one {k} lowest = record {
     within = omega (arith, lowest.below);
-    runs = λ sc d at. let one : 1 ≡ k + 1 - k = omega arith in ap (λ (o : Option ℕ). alone_or o (run_numbers sc)) (lowest.ready sc d at) ∙ ap (numbers_from (suc k)) one;
+    runs = λ sc d at. let one : 1 ≡ k + 1 - k = omega arith in ap (λ (lowest : Option ℕ). alone_or lowest (run_numbers sc)) (lowest.ready sc d at) ∙ ap (numbers_from (suc k)) one;
   }

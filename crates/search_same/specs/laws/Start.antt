@@ -9,7 +9,8 @@ use Rattle.semantics.specs.Scenario.{Scenario, opened}
 use Rattle.semantics.specs.State.{Progress, initial, events_left}
 use Rattle.semantics.specs.Tree.{stays}
 use Rattle.semantics.specs.Verdict.{trace_bytes, trace_list}
-use Rattle.state.specs.State.{Given, IsState}
+use Rattle.runs.specs.Opened.{Gives}
+use Rattle.state.specs.State.{IsState}
 use Rattle.state.specs.declared.State.{State}
 use Rattle.search_memory.specs.laws.Words.{zeros-read}
 use Rattle.answers.specs.Answers.{Walked}
@@ -23,7 +24,7 @@ first_done [] k p e = absurd (none-ne-some p e)
 first_done (r ∷ rs) zero p e = ap (λ (q : Progress). q.done) (some-injective (record { done = 0; values = [] }) p e)
 first_done (r ∷ rs) (suc k) p e = first_done rs k p e
 
-module _ (plan : Plan) {sc : Scenario} {s : State} (is_opened : opened plan.opened.file.now ≡ accepted sc) (given : Given plan.opened.file.now plan.opened.table.bytes.now plan.opened.table.rows plan.opened.runs sc) (state : IsState sc (initial sc) s) {done : List ℕ} (none_done : done ≡ replicate 4 0) where
+module _ (plan : Plan) {sc : Scenario} {s : State} (is_opened : opened plan.opened.file.now ≡ accepted sc) (given : Gives plan.opened sc) (state : IsState sc (initial sc) s) {done : List ℕ} (none_done : done ≡ replicate 4 0) where
   pub state-first : SomeState plan (state_of (record { done = done }) s.names s.classes s.marks) 0
   unfolding trace_bytes initial
   state-first = record {

@@ -1,7 +1,7 @@
 -- The walk finds what the definitions list, in their order: `walk` from a state, `walk_run` for a run, `walk_values` for the values of a read, `walk_move` and `walk_after` for one move.
 -- The measure is the depth, and within it the functions in their order and the rows left. Assumes nothing.
 use native.Mathlib.Omega.{arith}
-use Prim.Native.Nat.{ℕ, suc, ◌-◌}
+use Prim.Native.Nat.{ℕ, suc, ◌+◌, ◌-◌, ◌<◌}
 use mathlib.Core.Path.{◌≡◌, refl, ap, ◌∙◌}
 use mathlib.Core.List.{List}
 use lib.ListN.{get_or}
@@ -45,20 +45,18 @@ walk-returns-then-reach-eq0 t c = record {
   remembers = c.requires.room.remembers;
 }
 
-pub walk-runs_in-span-requires : goal.walk-runs_in-span-requires
-walk-runs_in-span-requires t c = let m = c.requires.some_state in (m.sc, m.d, from-state.standing m)
-
 pub walk-loop-k-init : goal.walk-loop-k-init
 walk-loop-k-init t c =
     let m = c.requires.some_state in
-    let span = c.runs_in-span in
-    let first = from-state.walk-starts c.args.plan.now m.sc c.args.reach.left c.args.reach.depth m.d (c.broken-claimed.ensures m.sc m.d _ m.here.reached.given m.here.state refl refl) c.own.ensures c.in_ok-count.was c.if-reach-eq0.false in (
+    let runs = c.runs_in-k-items in
+    let first = from-state.walk-starts c.args.plan.now m.sc c.args.reach.left c.args.reach.depth m.d (c.broken-claimed.ensures m.sc m.d _ m.here.reached.given m.here.state refl refl) c.own.ensures c.in_ok-count.was c.if-reach-eq0.false in
+    rw c.into_iter-k-iterator.ensures.into_iter_gives (
       refl,
       first.within,
-      span.ensures.within,
+      runs.ensures.within,
       first.deep,
       λ m. let starts = from-state.walk-starts c.args.plan.now m.sc c.args.reach.left c.args.reach.depth m.d (c.broken-claimed.ensures m.sc m.d _ m.here.reached.given m.here.state refl refl) c.own.ensures c.in_ok-count.was c.if-reach-eq0.false in
-          (starts.unbroken, starts.passed span.result.end span.result.from (span.ensures.runs m.sc m.d (from-state.standing m))),
+          (starts.unbroken, starts.passed runs.result.end runs.result.start (runs.ensures.runs m.sc m.d (from-state.standing m))),
       c.requires.room.remembers,
     )
 
@@ -66,7 +64,8 @@ pub walk-walk_run-found-requires : goal.walk-walk_run-found-requires
 walk-walk_run-found-requires t c =
     let l = c.loop-k in
     let m = c.requires.some_state in
-    (omega (arith, l.invariant.3), (state_clear m (l.invariant.4 m).0, (room-on c.requires.room l.invariant.0 l.invariant.5 _ (omega arith) (omega arith), omega (arith, l.invariant.2, c.loop-k-test.true))))
+    let turn = c.in-Some.ensures.steps.1 in
+    (omega (arith, l.invariant.3), (state_clear m (l.invariant.4 m).0, (room-on c.requires.room l.invariant.0 l.invariant.5 _ (omega arith) (omega arith), omega (arith, l.invariant.2, turn.0, turn.1))))
 
 pub walk-behind-requires : goal.walk-behind-requires
 walk-behind-requires t c =
@@ -77,8 +76,9 @@ walk-behind-requires t c =
 pub walk-returns-in_err-count-2 : goal.walk-returns-in_err-count-2
 walk-returns-in_err-count-2 t c = record {
   finds_from = λ m. let l = c.loop-k in
+      let turn = c.in-Some.ensures.steps.1 in
       let left = err_from_is_err_and c.from_residual-in_err-count-2.result c.from_residual-in_err-count-2.ensures.1 in
-      let passed = from-state.walk-next c.args.plan.now m.sc c.args.reach.left (c.args.reach.depth - 1) m.d (l.invariant.4 m).1 c.loop-k-test.true in
+      let passed = from-state.walk-next c.args.plan.now m.sc c.args.reach.left (c.args.reach.depth - 1) m.d (rw (← turn.1) at (l.invariant.4 m).1) (omega (arith, turn.0, turn.1)) in
       rw (← l.invariant.0, left.1, left.2) (passed-stops m.sc c.args.reach.left _ _ _ _ passed (c.walk_run-found.ensures.finds_run (state_clear m (l.invariant.4 m).0)) c.behind.ensures c.in_err-count-2.was);
   remembers = c.walk_run-found.ensures.remembers;
 }
@@ -87,15 +87,19 @@ pub walk-loop-k-preserved : goal.walk-loop-k-preserved
 walk-loop-k-preserved t c =
     let l = c.loop-k in
     let m = c.requires.some_state in
-    let below = c.loop-k-test.true in
+    let steps = c.in-Some.ensures.steps in
+    let turn = steps.1 in
+    let below : c.in-Some.k < l.k-iterator.end = omega (arith, turn.0, turn.1) in
+    let one : c.next.new.self.start ≡ c.in-Some.k + 1 = omega (arith, turn.1, turn.2) in
     let told = c.walk_run-found.ensures.finds_run in
-    let next = from-state.walk-next c.args.plan.now m.sc c.args.reach.left (c.args.reach.depth - 1) m.d (l.invariant.4 m).1 below in
-    let first = passed_on m.sc c.args.reach.left _ _ _ _ next (told (state_clear m (l.invariant.4 m).0)) c.behind.ensures c.in_ok-count-2.was in (
+    let next = from-state.walk-next c.args.plan.now m.sc c.args.reach.left (c.args.reach.depth - 1) m.d (rw (← turn.1) at (l.invariant.4 m).1) below in
+    let first = passed_on m.sc c.args.reach.left _ _ _ _ next (told (state_clear m (l.invariant.4 m).0)) c.behind.ensures c.in_ok-count-2.was in
+    rw (steps.0, one) (
       first.1 ∙ l.invariant.0,
       first.2,
       l.invariant.2,
       l.invariant.3,
-      λ m. let next = from-state.walk-next c.args.plan.now m.sc c.args.reach.left (c.args.reach.depth - 1) m.d (l.invariant.4 m).1 below in
+      λ m. let next = from-state.walk-next c.args.plan.now m.sc c.args.reach.left (c.args.reach.depth - 1) m.d (rw (← turn.1) at (l.invariant.4 m).1) below in
           ((l.invariant.4 m).0, (passed_on m.sc c.args.reach.left _ _ _ _ next (told (state_clear m (l.invariant.4 m).0)) c.behind.ensures c.in_ok-count-2.was).0),
       c.walk_run-found.ensures.remembers,
     )
@@ -103,7 +107,7 @@ walk-loop-k-preserved t c =
 pub walk-returns : goal.walk-returns
 walk-returns t c = record {
   finds_from = λ m. let l = c.loop-k in
-      rw (← l.invariant.0) (from-state.walk_end c.args.plan.now m.sc c.args.reach.left (c.args.reach.depth - 1) m.d (l.invariant.4 m).1 c.loop-k-test.false l.trace c.args.reach.at);
+      rw (← l.invariant.0) (from-state.walk_end c.args.plan.now m.sc c.args.reach.left (c.args.reach.depth - 1) m.d (l.invariant.4 m).1 (omega (arith, c.in-None.ensures.steps.1.0)) l.trace c.args.reach.at);
   remembers = c.loop-k.invariant.5;
 }
 
@@ -193,40 +197,35 @@ walk_move-returns t c =
       remembers = c.walk_after.ensures.remembers;
     }
 
-pub walk_run-returns-then-runs-k : goal.walk_run-returns-then-runs-k
-walk_run-returns-then-runs-k t c = record {
-  finds_run = λ m. of-run.run-over c.args.state.now.course c.args.reach m c.args.k c.requires.k_lt_count c.if-runs-k.true c.args.trace.now;
+pub walk_run-returns-in_default : goal.walk_run-returns-in_default
+walk_run-returns-in_default t c = record {
+  finds_run = λ m. of-run.run-over c.args.state.now.course c.args.reach m c.args.k c.requires.k_lt_count c.in_default.ensures c.args.trace.now;
   remembers = c.requires.room.remembers;
 }
-
-pub walk_run-event_of-event-requires : goal.walk_run-event_of-event-requires
-walk_run-event_of-event-requires t c =
-    let m = c.requires.some_clear in
-    (m.sc, m.clear.here.reached.given.runs, m.clear.here.reached.given.good, c.requires.k_lt_count, c.if-runs-k.false)
 
 pub walk_run-beneath-under-requires : goal.walk_run-beneath-under-requires
 walk_run-beneath-under-requires t c =
     let m = c.requires.some_clear in
-    (of-run.at-move c.args.state.now.course c.args.reach m c.args.k c.requires.k_lt_count c.if-runs-k.false c.event_of-event.result c.event_of-event.ensures).due.term
+    (of-run.at-move c.args.state.now.course c.args.reach m c.args.k c.requires.k_lt_count c.in-Some.ensures.0 c.in-Some.event c.in-Some.ensures.1).due.term
 
 pub walk_run-walk_values-requires : goal.walk_run-walk_values-requires
 walk_run-walk_values-requires t c =
     let m = c.requires.some_clear in
-    (omega (arith, m.clear.here.reached.given.shape.few), (of-run.read_none c.args.state.now.course c.args.reach m c.args.k c.requires.k_lt_count c.if-runs-k.false c.event_of-event.result c.event_of-event.ensures c.no_values.ensures (event-is c.event_of-event.result.kind Read c.eq.ensures c.if-eq.true) c.beneath-under.ensures, c.requires.room))
+    (omega (arith, m.clear.here.reached.given.shape.few), (of-run.read_none c.args.state.now.course c.args.reach m c.args.k c.requires.k_lt_count c.in-Some.ensures.0 c.in-Some.event c.in-Some.ensures.1 c.no_values.ensures (event-is c.in-Some.event.kind Read c.eq.ensures c.if-eq.true) c.beneath-under.ensures, c.requires.room))
 
 pub walk_run-returns-then-eq : goal.walk_run-returns-then-eq
 walk_run-returns-then-eq t c = record {
-  finds_run = λ m. of-run.run-read c.args.state.now.course c.args.reach m c.args.k c.requires.k_lt_count c.if-runs-k.false c.event_of-event.result c.event_of-event.ensures c.no_values.ensures (event-is c.event_of-event.result.kind Read c.eq.ensures c.if-eq.true) c.beneath-under.ensures c.walk_values.ensures.finds_choice;
+  finds_run = λ m. of-run.run-read c.args.state.now.course c.args.reach m c.args.k c.requires.k_lt_count c.in-Some.ensures.0 c.in-Some.event c.in-Some.ensures.1 c.no_values.ensures (event-is c.in-Some.event.kind Read c.eq.ensures c.if-eq.true) c.beneath-under.ensures c.walk_values.ensures.finds_choice;
   remembers = c.walk_values.ensures.remembers;
 }
 
 pub walk_run-walk_move-requires : goal.walk_run-walk_move-requires
 walk_run-walk_move-requires t c =
-    (omega arith, (of-run.move-none c.args.state.now.course c.args.reach c.requires.some_clear c.args.k c.requires.k_lt_count c.if-runs-k.false c.event_of-event.result c.event_of-event.ensures c.no_values.ensures (event-other c.event_of-event.result.kind Read c.eq.ensures c.if-eq.false), c.requires.room))
+    (omega arith, (of-run.move-none c.args.state.now.course c.args.reach c.requires.some_clear c.args.k c.requires.k_lt_count c.in-Some.ensures.0 c.in-Some.event c.in-Some.ensures.1 c.no_values.ensures (event-other c.in-Some.event.kind Read c.eq.ensures c.if-eq.false), c.requires.room))
 
 pub walk_run-returns : goal.walk_run-returns
 walk_run-returns t c = record {
-  finds_run = λ m. of-run.run-other c.args.state.now.course c.args.reach m c.args.k c.requires.k_lt_count c.if-runs-k.false c.event_of-event.result c.event_of-event.ensures c.no_values.ensures (event-other c.event_of-event.result.kind Read c.eq.ensures c.if-eq.false) c.walk_move.ensures.finds_move;
+  finds_run = λ m. of-run.run-other c.args.state.now.course c.args.reach m c.args.k c.requires.k_lt_count c.in-Some.ensures.0 c.in-Some.event c.in-Some.ensures.1 c.no_values.ensures (event-other c.in-Some.event.kind Read c.eq.ensures c.if-eq.false) c.walk_move.ensures.finds_move;
   remembers = c.walk_move.ensures.remembers;
 }
 

@@ -28,8 +28,8 @@ decreases-walk_values l = l.reach.depth * 400 + 3 + 2 * (l.plan.now.opened.table
 
 abbrev pub invariant-walk-loop-k : goal.invariant-walk-loop-k
 invariant-walk-loop-k l =
-    (l.trace ≡ l.initial.trace) × (l.count ≤ l.reach.left) × (l.k-end ≤ l.plan.opened.runs.count) × (0 < l.reach.depth)
-    × ((m : SomeState l.plan (state_of l.state.course l.state.names.now l.state.classes.now l.state.marks) l.reach.at) → (broken m.sc m.d ≡ none) × Passed m.sc l.reach.left (entries_from l.plan l.reach.depth m.sc m.d) (runs_from l.plan m.sc (l.reach.depth - 1) m.d l.k-end l.k) l.count)
+    (l.trace ≡ l.initial.trace) × (l.count ≤ l.reach.left) × (l.k-iterator.end ≤ l.plan.opened.runs.count) × (0 < l.reach.depth)
+    × ((m : SomeState l.plan (state_of l.state.course l.state.names.now l.state.classes.now l.state.marks) l.reach.at) → (broken m.sc m.d ≡ none) × Passed m.sc l.reach.left (entries_from l.plan l.reach.depth m.sc m.d) (runs_from l.plan m.sc (l.reach.depth - 1) m.d l.k-iterator.end l.k-iterator.start) l.count)
     × Remembers l.plan l.memory
 
 abbrev pub invariant-walk_values-loop-value : goal.invariant-walk_values-loop-value

@@ -14,7 +14,8 @@ use Rattle.runs.specs.declared.RunEvent.{RunEvent}
 use Rattle.runs.specs.declared.Runs.{Runs}
 use Rattle.runs.specs.Runs.{EventRead, run_at}
 use Rattle.state.specs.declared.State.{State as CodeState}
-use Rattle.state.specs.State.{Given, Due, IsState, NextMove}
+use Rattle.runs.specs.Given.{Given}
+use Rattle.state.specs.State.{Due, IsState, NextMove}
 
 -- past the end of a list there is nothing
 get_elem-past : {A : Type 0} (xs : List A) (i : ℕ) → length xs ≤ i → get_elem? xs i ≡ none

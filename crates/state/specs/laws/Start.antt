@@ -34,7 +34,8 @@ use Rattle.role_level.specs.RoleLevel.{ListedBelow}
 use Rattle.runs.specs.declared.Runs.{Runs}
 use Rattle.runs.specs.Runs.{RunsAt, RunAt, run_at}
 use Rattle.state.specs.Readings.{SetsOf, sets_in, sets_of, readings}
-use Rattle.state.specs.State.{Given, Arrays, IsState}
+use Rattle.runs.specs.Given.{Given}
+use Rattle.state.specs.State.{Arrays, IsState}
 use Rattle.state.specs.laws.Readings.{reading-run}
 use Rattle.state_start.specs.Start.{first_reading, Entered, StartMarks}
 use Rattle.state.specs.Start.{up_to, Agents, BegunTo}

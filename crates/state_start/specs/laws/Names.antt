@@ -1,5 +1,6 @@
 -- Names of a run before any variable is set, row by row. Assumes nothing.
-use Rattle.std.specs.Prelude.{ℕ, zero, suc, ◌<◌, ◌≤◌, ◌≡◌, refl, List, [], ◌∷◌, T, length, get_or}
+use Rattle.std.specs.Prelude.{Option as CodeOption, None, Some, MatchOption, ℕ, zero, suc, ◌<◌, ◌≤◌, ◌≡◌, refl, List, [], ◌∷◌, T, length, get_or}
+use Rattle.std.specs.Option.{unwrap_or}
 use Rattle.std.proofs.Common.{zero-add, arith, sym, ap, ◌∙◌}
 use Rattle.std.proofs.Math.Option.{Option, none, some, some-injective, none-ne-some}
 use Rattle.std.proofs.Math.ListN.{get_elem?}
@@ -124,7 +125,7 @@ module _ (bytes : List ℕ) (n : ℕ) (shape : Shape bytes n 0) (r : ℕ) (low :
 
   module _ (in_run_u : u ≡ 0 → ⊥) where
     -- a role name has its agent's
-    pub name-agent : AreAgents (rows_of bytes) agents → {k i x : ℕ} → k ≡ kind_at bytes r → k ≡ 5 → i ≡ left_at bytes r → i < length agents → x ≡ get_or agents i 0 → FirstName (rows_of bytes) u agents r x
+    name-agent : AreAgents (rows_of bytes) agents → {k i x : ℕ} → k ≡ kind_at bytes r → k ≡ 5 → i ≡ left_at bytes r → i < length agents → x ≡ get_or agents i 0 → FirstName (rows_of bytes) u agents r x
     name-agent are {x = x} f k q l g runs a h e = go k (rw (← f) at (is a e))
       where
         element : get_elem? agents (left_at bytes r) ≡ some x
@@ -138,7 +139,7 @@ module _ (bytes : List ℕ) (n : ℕ) (shape : Shape bytes n 0) (r : ℕ) (low :
         go k (a_variable v) = absurd (omega arith)
         go k (a_local m p) = absurd (omega arith)
 
-    pub name-no-agent : {k i : ℕ} → k ≡ kind_at bytes r → k ≡ 5 → i ≡ left_at bytes r → length agents ≤ i → FirstName (rows_of bytes) u agents r absent
+    name-no-agent : {k i : ℕ} → k ≡ kind_at bytes r → k ≡ 5 → i ≡ left_at bytes r → length agents ≤ i → FirstName (rows_of bytes) u agents r absent
     name-no-agent f k q l runs a h e = unnamed refl (go k (rw (← f) at (is a e)))
       where
         go : {k : ℕ} → k ≡ 5 → AtomIs (left_at bytes r) a k → first_reading (rows_of bytes) u agents a ≡ none
@@ -148,6 +149,12 @@ module _ (bytes : List ℕ) (n : ℕ) (shape : Shape bytes n 0) (r : ℕ) (low :
             ∙ ap (λ (o : Option ℕ). and_then o (λ y. term_of (rows_of bytes) (record { row = y; run = 0 }))) (element-past agents (left_at bytes r) (rw (← q) l)))
         go k (a_variable v) = absurd (omega arith)
         go k (a_local m p) = absurd (omega arith)
+
+    -- so it has the name of what stands at its place in the list of agents, if anything does
+    pub name-role : AreAgents (rows_of bytes) agents → {k i : ℕ} → k ≡ kind_at bytes r → k ≡ 5 → i ≡ left_at bytes r → (name : CodeOption ℕ)
+        → MatchOption name (length agents ≤ i) (λ x. (i < length agents) × (x ≡ get_or agents i 0)) → FirstName (rows_of bytes) u agents r (unwrap_or name absent)
+    name-role are f k q None l = name-no-agent f k q l
+    name-role are f k q (Some x) w = name-agent are f k q w.0 w.1
 
     -- a local constant has its own run
     pub name-local : {k : ℕ} → k ≡ kind_at bytes r → k ≡ 7 → u ≤ 4 → FirstName (rows_of bytes) u agents r (cell_of r u)

@@ -1,16 +1,16 @@
 -- What a scenario starts with: names row by row, and marks of what is known. Assumes nothing.
-use Rattle.std.specs.Prelude.{ℕ, ◌+◌, ◌<◌, ◌≤◌, ◌≡◌, refl, Bool, true, false, List, [], length, get_or, set, replicate}
-use Rattle.std.proofs.Common.{eq-or-lt_of_le, arith, sym, ap, ◌∙◌, subst, inl, inr, ⊎_elim, length-set, get_or-set_same, get_or-set_other}
-use Rattle.std.proofs.Math.Decide.{dec_lt}
-use Rattle.std.proofs.lemmas.Bool.{false≢true}
+use denote.Enum.Bare.{sameb, same_true, same_false}
+use Rattle.std.specs.Prelude.{ℕ, ◌+◌, ◌<◌, ◌≤◌, ◌≡◌, Bool, true, false, List, [], length, get_or, set}
+use Rattle.std.proofs.Common.{rules, eq-or-lt_of_le, arith, sym, ap, ◌∙◌, subst, inl, ⊎_elim, length-set, get_or-set_same, get_or-set_other}
 use mathlib.Core.List.Memᴰ
-use Rattle.std.proofs.lemmas.List.{get_or-replicate, length-replicate}
-use Rattle.std.proofs.Math.ListN.{get_or-eq_default}
 use Rattle.semantics.specs.Table.{Row}
-use Rattle.cells.specs.Cells.{cell_of, cell_count, absent, WithListed}
+use Rattle.rows.specs.contracts.Kind.{the_type}
+use Rattle.rows.specs.declared.Kind.{Kind}
+use Rattle.rows.specs.declared.Kind.TheVariants.{Intruder}
+use Rattle.rows.specs.Kinds.{number_of}
+use Rattle.rows.specs.laws.Kinds.{kinds-differ}
+use Rattle.cells.specs.Cells.{cell_of, cell_count, absent}
 use Rattle.knowledge.specs.Steps.{On, kind_at}
-use Rattle.knowledge.specs.laws.Filled.{set_on, set_keeps}
-use Rattle.role_level.specs.RoleLevel.{ListedBelow}
 use Rattle.state_start.specs.Start.{FirstName, Entered, StartMarks}
 
 -- a cell tells its row and its run
@@ -40,42 +40,19 @@ entered-more rows u agents before names r name {c} low e l done named = record {
 pub entered_all : (rows : List Row) (u : ℕ) (agents before names : List ℕ) {r : ℕ} → length rows ≤ r → EnteredTo rows u agents before r names → Entered rows u agents before names
 entered_all rows u agents before names l done = record { size = done.size; here = λ x h. done.here x (omega arith); elsewhere = done.elsewhere }
 
--- marks of intruder constants among the rows below a number
-pub record IntrudersTo (bytes : List ℕ) (n r : ℕ) (marks : List Bool) : Type 0 where
-  pub size : length marks ≡ cell_count
-  pub from : (c : ℕ) → On marks c → (c < n) × (kind_at bytes c ≡ 4)
-  pub onto : (x : ℕ) → x < r → kind_at bytes x ≡ 4 → On marks x
+-- what a comparison with the kind of an intruder constant says of a byte that a kind has
+pub kind-intruder : {r : Bool} {byte : ℕ} (kind : Kind) → r ≡ sameb the_type kind Intruder → number_of kind ≡ byte → true ≡ r → byte ≡ 4
+kind-intruder kind e n t = sym n ∙ ap number_of (same_true the_type (search rules) kind Intruder (sym e ∙ sym t))
 
-pub intruders-none : (bytes : List ℕ) (n : ℕ) → IntrudersTo bytes n 0 (replicate 480 false)
-intruders-none bytes n = record { size = refl; from = λ c o. absurd (none-on c o); onto = λ x l k. absurd (omega arith) }
-  where
-    none-on : (c : ℕ) → On (replicate 480 false) c → ⊥
-    none-on c o = go (dec_lt c 480)
-      where
-        go : Dec (c < 480) → ⊥
-        go (yes l) = false≢true (sym (get_or-replicate 480 c false false l) ∙ o)
-        go (no h) = let e : length (replicate {A = Bool} 480 false) ≡ 480 = length-replicate {A = Bool} 480 false in false≢true (sym (get_or-eq_default (replicate 480 false) false {n = c} (omega (arith, e))) ∙ o)
+pub kind-other : {r : Bool} {byte : ℕ} (kind : Kind) → r ≡ sameb the_type kind Intruder → number_of kind ≡ byte → false ≡ r → byte ≡ 4 → ⊥
+kind-other kind e n f q = kinds-differ (same_false the_type kind Intruder (sym e ∙ sym f)) (n ∙ q)
 
-module _ (bytes : List ℕ) (n r : ℕ) (marks : List Bool) (low : r < n) (few : n ≤ 96) (done : IntrudersTo bytes n r marks) where
-  pub intruders-set : kind_at bytes r ≡ 4 → {next : List Bool} → next ≡ set marks r true → IntrudersTo bytes n (r + 1) next
-  intruders-set k e = rw e (record {
-    size = length-set marks r true ∙ done.size;
-    from = λ c o. ⊎_elim (λ (e : c ≡ r). (omega arith, rw e k)) (done.from c) (set_on marks r c o);
-    onto = λ x l h. ⊎_elim (λ (e : x ≡ r). rw e (get_or-set_same marks r true false (omega (arith, done.size)))) (λ (m : x < r). set_keeps marks r x (done.onto x m h)) (eq-or-lt_of_le (omega arith));
-  })
-
-  pub intruders-skip : (kind_at bytes r ≡ 4 → ⊥) → {next : List Bool} → next ≡ marks → IntrudersTo bytes n (r + 1) next
-  intruders-skip k e = rw e (record {
-    size = done.size;
-    from = done.from;
-    onto = λ x l h. ⊎_elim (λ (e : x ≡ r). absurd (k (rw (← e) h))) (λ (m : x < r). done.onto x m h) (eq-or-lt_of_le (omega arith));
-  })
-
--- the marks of intruder constants with those of listed rows
-pub started : {bytes : List ℕ} {n : ℕ} {list : List ℕ} {before marks : List Bool} → ListedBelow n list → StartMarks bytes n [] before → WithListed list before marks → StartMarks bytes n list marks
-started {bytes} {n} {list} {before} below start more = record {
-  size = more.size;
-  from = λ c o. ⊎_elim (λ o'. let w = start.from c o' in (w.0, inl (⊎_elim (λ k. k) (λ m. absurd (Memᴰ.not-nil m)) w.1))) (λ m. (below c m, inr m)) ((more.each c).0 o);
-  intruders = λ r l k. (more.each r).1 (inl (start.intruders r l k));
-  listed = λ r m. (more.each r).1 (inr m);
+-- marks of just the rows that are intruder constants
+pub intruders : (bytes : List ℕ) (n : ℕ) (marks : List Bool) → n ≤ 96 → length marks ≡ cell_count
+    → ((c : ℕ) → (On marks c → (c < n) × (kind_at bytes c ≡ 4)) × (c < 480 → (c < n) × (kind_at bytes c ≡ 4) → On marks c)) → StartMarks bytes n [] marks
+intruders bytes n marks few size each = record {
+  size = size;
+  from = λ c o. let w = (each c).0 o in (w.0, inl w.1);
+  intruders = λ r l k. (each r).1 (omega arith) (l, k);
+  listed = λ r m. absurd (Memᴰ.not-nil m);
 }

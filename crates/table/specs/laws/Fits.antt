@@ -1,5 +1,5 @@
 -- Which bytes are a row that fits the rows below it, kind by kind. Assumes nothing.
-use Prim.Native.Nat.{ℕ, zero, suc, ◌+◌, ◌*◌, ◌≤◌, ◌<◌}
+use Prim.Native.Nat.{ℕ, zero, suc, ◌≤◌, ◌<◌}
 use Rattle.std.proofs.Common.{eq-or-lt_of_le, inl, inr}
 use native.Mathlib.Omega.{arith}
 use Rattle.std.specs.Prelude.{None, Some, ◌≡◌, ◌⊎◌, Bool, List, leb, eqb, get_or}
@@ -16,10 +16,10 @@ use Rattle.rows.specs.Kinds.{kind_as}
 use Rattle.rows.specs.Rows.{decoded_at}
 use Rattle.table.specs.Check.{fits_decoded}
 
--- the three bytes of a row, read one by one
-pub decoded-as : (t : List ℕ) (i : ℕ) {k l r : ℕ} → k ≡ get_or t (3 * i) 0 → l ≡ get_or t (3 * i + 1) 0 → r ≡ get_or t (3 * i + 2) 0 → decoded_at t i ≡ decode k l r
+-- the three bytes at the front, read one by one
+pub decoded-as : (row : List ℕ) {k l r : ℕ} → k ≡ get_or row 0 0 → l ≡ get_or row 1 0 → r ≡ get_or row 2 0 → decoded_at row 0 ≡ decode k l r
 unfolding decoded_at
-decoded-as t i e f g = rw (e, f, g)
+decoded-as row e f g = rw (e, f, g)
 
 -- a byte does not say a kind and none
 said : {k : Kind} → Some k ≡ None → ⊥

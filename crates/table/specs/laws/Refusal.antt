@@ -1,10 +1,11 @@
 -- The refusal of a row after the rows below it, and how many variables there are with it. Assumes nothing.
-use Rattle.std.specs.Prelude.{ℕ, ◌+◌, ◌*◌, ◌≤◌, ◌<◌, ◌≡◌, Bool, List, [], ◌∷◌, ◌++◌, T, Some, None, ltb, leb, eqb, length, get_or, take}
+use Rattle.std.specs.Prelude.{ℕ, ◌+◌, ◌≤◌, ◌<◌, ◌≡◌, Bool, List, [], ◌∷◌, ◌++◌, T, Some, None, ltb, leb, eqb, length, get_or}
 use Rattle.std.proofs.Common.{arith, ◌∙◌, lt→ltb, eqb-true}
 use Rattle.std.proofs.Math.Path.{refl, sym}
 use Rattle.std.proofs.Math.Bool.{true, false}
 use Rattle.std.proofs.Math.Option.{Option, none, some}
 use Rattle.std.specs.declared.option.Option as code
+use Rattle.std.specs.Bool.{then_some}
 use Rattle.std.proofs.Math.Dec.{le→leb}
 use Rattle.std.proofs.lemmas.Bool.{eqb-false}
 use Rattle.semantics.specs.Basic.{keep}
@@ -14,13 +15,12 @@ use Rattle.semantics.proofs.laws.Table.{admissible-holds}
 use Rattle.semantics.proofs.laws.Test.{all_three, passes-true, fails-false}
 use Rattle.semantics.proofs.laws.List.{keep-cons}
 use Rattle.semantics.proofs.laws.Encoding.{decode-exactly}
-use Rattle.rows.specs.Rows.{IsTable, decoded_at}
+use Rattle.rows.specs.Rows.{decoded_at}
 use Rattle.table.specs.Check.{fits_decoded, repeats_decoded, reason_as}
 use Rattle.answers.specs.Answers.{reason_of}
 use Rattle.answers.specs.declared.Reason.{Reason}
 use Rattle.answers.specs.declared.Reason.TheVariants as reasons
 use Rattle.rows.specs.laws.Decode.{decodes-variable}
-use Rattle.table.specs.laws.Below.{rows_below, below_length}
 
 module _ {A : Type 0} (p : A → Bool) where
   -- how many of a list and one element more pass a test
@@ -46,8 +46,7 @@ variables-more below {k} {row = row} d v n e w = go (eqb k 6) refl
 
 -- the reason of a refusal, by whether the row is admissible and whether it is repeated
 abbrev pub reason_if : Bool → Bool → code.Option Reason
-reason_if true true = Some reasons.RepeatedRow
-reason_if true false = None
+reason_if true r = then_some r reasons.RepeatedRow
 reason_if false r = Some reasons.Row
 
 module _ (below : List Row) (row : Row) where
@@ -78,46 +77,45 @@ pub refusal_some : (o : Option ℕ) (r : Reason) → Some r ≡ reason_as o → 
 refusal_some none r e = let z : ◌≡◌ {A = ℕ} 0 1 = cc in absurd (omega arith)
 refusal_some (some n) r e = (n, refl, cc)
 
-module _ (t : List ℕ) (i : ℕ) (within : 3 * i ≤ length t) (table : IsTable (take (3 * i) t)) where
+module _ (below : List Row) (bytes : List ℕ) where
   -- a 97th row is refused with 4
-  pub refusal-many : 96 ≤ i → Some reasons.Row ≡ reason_as (row_refusal (rows_below t i) (decoded_at t i))
+  pub refusal-many : 96 ≤ length below → Some reasons.Row ≡ reason_as (row_refusal below (decoded_at bytes 0))
   unfolding row_refusal
-  refusal-many h = go (decoded_at t i)
+  refusal-many h = go (decoded_at bytes 0)
     where
-      go : (o : Option Row) → Some reasons.Row ≡ reason_as (row_refusal (rows_below t i) o)
+      go : (o : Option Row) → Some reasons.Row ≡ reason_as (row_refusal below o)
       go none = refl
-      go (some row) = number-four (rows_below t i) row (λ w. omega (arith, below_length t i within table))
+      go (some row) = number-four below row (λ w. omega arith)
 
   -- a row that does not fit is refused with 4
-  pub refusal-unfit : fits_decoded (rows_below t i) (decoded_at t i) ≡ false → Some reasons.Row ≡ reason_as (row_refusal (rows_below t i) (decoded_at t i))
+  pub refusal-unfit : fits_decoded below (decoded_at bytes 0) ≡ false → Some reasons.Row ≡ reason_as (row_refusal below (decoded_at bytes 0))
   unfolding row_refusal
-  refusal-unfit = go (decoded_at t i)
+  refusal-unfit = go (decoded_at bytes 0)
     where
-      go : (o : Option Row) → fits_decoded (rows_below t i) o ≡ false → Some reasons.Row ≡ reason_as (row_refusal (rows_below t i) o)
+      go : (o : Option Row) → fits_decoded below o ≡ false → Some reasons.Row ≡ reason_as (row_refusal below o)
       go none e = refl
-      go (some row) e = number-four (rows_below t i) row (λ w. rw e at w.2)
+      go (some row) e = number-four below row (λ w. rw e at w.2)
 
-  module _ (v n : ℕ) (counted : v ≡ length (keep variable_row (rows_below t i))) (more : (get_or t (3 * i) 0 ≡ 6 → n ≡ v + 1) × ((get_or t (3 * i) 0 ≡ 6 → ⊥) → n ≡ v)) where
-    -- how many variables there are with row i
-    pub variables-with : (row : Row) → decoded_at t i ≡ some row → n ≡ length (keep variable_row (rows_below t i ++ row ∷ []))
+  module _ (v n : ℕ) (counted : v ≡ length (keep variable_row below)) (more : (get_or bytes 0 0 ≡ 6 → n ≡ v + 1) × ((get_or bytes 0 0 ≡ 6 → ⊥) → n ≡ v)) where
+    -- how many variables there are with the row
+    pub variables-with : (row : Row) → decoded_at bytes 0 ≡ some row → n ≡ length (keep variable_row (below ++ row ∷ []))
     unfolding decoded_at
-    variables-with row e = variables-more (rows_below t i) ((decode-exactly (get_or t (3 * i) 0) (get_or t (3 * i + 1) 0) (get_or t (3 * i + 2) 0) row).0 e) v n counted more
+    variables-with row e = variables-more below ((decode-exactly (get_or bytes 0 0) (get_or bytes 1 0) (get_or bytes 2 0) row).0 e) v n counted more
 
     -- a ninth variable is refused with 4
-    pub refusal-variables : 8 < n → Some reasons.Row ≡ reason_as (row_refusal (rows_below t i) (decoded_at t i))
+    pub refusal-variables : 8 < n → Some reasons.Row ≡ reason_as (row_refusal below (decoded_at bytes 0))
     unfolding row_refusal
-    refusal-variables h = go (decoded_at t i) refl
+    refusal-variables h = go (decoded_at bytes 0) refl
       where
-        go : (o : Option Row) → decoded_at t i ≡ o → Some reasons.Row ≡ reason_as (row_refusal (rows_below t i) o)
+        go : (o : Option Row) → decoded_at bytes 0 ≡ o → Some reasons.Row ≡ reason_as (row_refusal below o)
         go none e = refl
-        go (some row) e = number-four (rows_below t i) row (λ w. omega (arith, variables-with row e))
+        go (some row) e = number-four below row (λ w. omega (arith, variables-with row e))
 
     -- any other row is refused with 5 if it is repeated, and otherwise not
-    pub refusal-other : i < 96 → n ≤ 8 → fits_decoded (rows_below t i) (decoded_at t i) ≡ true → (r : Bool) → repeats_decoded (rows_below t i) (decoded_at t i) ≡ r
-        → reason_if true r ≡ reason_as (row_refusal (rows_below t i) (decoded_at t i))
-    refusal-other few few_variables = go (decoded_at t i) refl
+    pub refusal-other : length below < 96 → n ≤ 8 → fits_decoded below (decoded_at bytes 0) ≡ true → (r : Bool) → repeats_decoded below (decoded_at bytes 0) ≡ r
+        → reason_if true r ≡ reason_as (row_refusal below (decoded_at bytes 0))
+    refusal-other few few_variables = go (decoded_at bytes 0) refl
       where
-        go : (o : Option Row) → decoded_at t i ≡ o → fits_decoded (rows_below t i) o ≡ true → (r : Bool) → repeats_decoded (rows_below t i) o ≡ r
-            → reason_if true r ≡ reason_as (row_refusal (rows_below t i) o)
+        go : (o : Option Row) → decoded_at bytes 0 ≡ o → fits_decoded below o ≡ true → (r : Bool) → repeats_decoded below o ≡ r → reason_if true r ≡ reason_as (row_refusal below o)
         go none e f r g = let z : ◌≡◌ {A = ℕ} 0 1 = cc in absurd (omega arith)
-        go (some row) e f r g = number-five (rows_below t i) row (omega (arith, below_length t i within table)) (omega (arith, variables-with row e)) f r g
+        go (some row) e f r g = number-five below row few (omega (arith, variables-with row e)) f r g

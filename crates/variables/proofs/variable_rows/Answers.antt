@@ -39,5 +39,5 @@ invariant_of-result c =
     let t = c.args.t.now in
     let sized = shape-sized t.shape in record {
       few = gathered-few t.bytes.now t.rows sized c.args.set.now c.loop-x.invariant;
-      low = gathered-low t.bytes.now t.rows sized c.args.set.now c.loop-x.invariant;
+      low = λ j below. gathered-low t.bytes.now t.rows sized c.args.set.now c.loop-x.invariant j;
     }

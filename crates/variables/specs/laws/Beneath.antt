@@ -15,9 +15,8 @@ use Rattle.semantics.specs.Encoding.{RowBytes, trusted_bytes, untrusted_bytes, g
 use Rattle.semantics.proofs.laws.Test.{same_test, passes-true}
 use Rattle.semantics.proofs.laws.List.{mem-cases, get_elem-there, get_elem-below}
 use Rattle.semantics.proofs.laws.Value.{row-induction, beneath-iff}
-use Rattle.rows.specs.Rows.{rows_of, Sized}
+use Rattle.rows.specs.Rows.{rows_of, Sized, second_of}
 use Rattle.rows.specs.laws.Table.{table-good}
-use Rattle.cells.specs.Cells.{second_of}
 use Rattle.cells.specs.laws.Cells.{parts-referred, row-there, row-decodes, left-lower, second-lower}
 use Rattle.variables.specs.Variables.{Beneath, In, ClosedFrom}
 
