@@ -3,7 +3,8 @@ use Rattle.std.specs.Prelude.{Err}
 use Rattle.std.proofs.Common.{sym, ap, ◌∙◌}
 use Rattle.std.proofs.lemmas.Result.{err_from_is_err_and}
 use Rattle.answers.specs.declared.Reason.TheVariants.{AbsentRow}
-use Rattle.derive.specs.laws.Answer.{check-passed, check-refused, derive-refused, derive-shape, derive-absent, derive-listed, derive-answer}
+use Rattle.answers.specs.laws.Checks.{check-passed, check-refused}
+use Rattle.derive.specs.laws.Answer.{derive-refused, derive-shape, derive-absent, derive-listed, derive-answer}
 use Rattle.derive.proofs.derive.Goals as goal
 
 pub new-t-requires : goal.new-t-requires

@@ -15,19 +15,9 @@ use Rattle.table.specs.Check.{judged_as}
 use Rattle.table.specs.Check.{Judged}
 use Rattle.table.specs.laws.Table.{judged-sized, judged-refused, table-accepted}
 use Rattle.role_level.specs.RoleLevel.{ListedBelow}
-use Rattle.answers.specs.Answers.{numbered, refused_at, derived_as}
-use Rattle.answers.specs.declared.Reason.{Reason}
+use Rattle.answers.specs.Answers.{numbered, derived_as}
 use Rattle.answers.specs.declared.Refusal.{Refusal}
 use Rattle.derive.specs.Absent.{AbsentAt}
-
--- a check that is passed has no place, one that is refused is so at its place
-pub check-passed : (reason : Reason) (p : Place) → refused_at reason p ≡ Ok tt → p ≡ None
-check-passed reason None e = refl
-check-passed reason (Some at) e = let z : ◌≡◌ {A = ℕ} 0 1 = cc in absurd (omega arith)
-
-pub check-refused : (reason : Reason) (p : Place) {x : Refusal} → refused_at reason p ≡ Err x → (at : ℕ) × (p ≡ Some at) × (x ≡ record { reason = reason; place = at })
-check-refused reason None e = let z : ◌≡◌ {A = ℕ} 0 1 = cc in absurd (omega arith)
-check-refused reason (Some at) e = (at, refl, cc)
 
 module _ (table list : List ℕ) (target : ℕ) {j : Judged} (check : j ≡ judged_as (rows_from 0 [] table)) where
   -- a refused table

@@ -3,7 +3,8 @@ use Rattle.std.specs.Prelude.{Err}
 use Rattle.std.proofs.Common.{sym, ap, ◌∙◌}
 use Rattle.std.proofs.lemmas.Result.{err_from_is_err_and}
 use Rattle.answers.specs.declared.Reason.TheVariants.{Role, Event}
-use Rattle.scenario.specs.laws.Open.{check-passed, check-refused, roles-refused, no-bad-role, events-refused, events-passed}
+use Rattle.answers.specs.laws.Checks.{check-passed, check-refused}
+use Rattle.scenario.specs.laws.Open.{roles-refused, no-bad-role, events-refused, events-passed}
 use Rattle.scenario.specs.laws.Blocks.{rows_in, roles-good, events-read}
 use Rattle.scenario.proofs.judged.Goals as goal
 

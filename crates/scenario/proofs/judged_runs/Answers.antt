@@ -3,7 +3,8 @@ use Rattle.std.specs.Prelude.{Err}
 use Rattle.std.proofs.Common.{sym, ap, ◌∙◌}
 use Rattle.std.proofs.lemmas.Result.{err_from_is_err_and}
 use Rattle.answers.specs.declared.Reason.TheVariants.{Run, Knowledge}
-use Rattle.scenario.specs.laws.Open.{check-passed, check-refused, runs-refused, known-refused, all-accepted}
+use Rattle.answers.specs.laws.Checks.{check-passed, check-refused}
+use Rattle.scenario.specs.laws.Open.{runs-refused, known-refused, all-accepted}
 use Rattle.scenario.specs.laws.Blocks.{rows_in, count-read, count-few, runs-read, known_read}
 use Rattle.scenario.proofs.judged_runs.Goals as goal
 

@@ -27,22 +27,12 @@ use Rattle.table.specs.laws.Table.{judged-refused, judged-sized, table-accepted}
 use Rattle.records.specs.Records.{part_at}
 use Rattle.records.specs.laws.Records.{records_left, left-cons, left-none, left-all}
 use Rattle.records.specs.laws.Runs.{run-bytes}
-use Rattle.answers.specs.Answers.{numbered, refused_at, refusal_as, checked_as, layout_of, opened_as}
-use Rattle.answers.specs.declared.Reason.{Reason}
+use Rattle.answers.specs.Answers.{numbered, refusal_as, checked_as, layout_of, opened_as}
 use Rattle.answers.specs.declared.Refusal.{Refusal}
 use Rattle.answers.specs.Answers.{Checked}
 use Rattle.answers.specs.declared.Layout.{Layout}
 use Rattle.answers.specs.Answers.{Opened}
 use Rattle.scenario.specs.Opened.{roles_refusal, judged_runs, judged_rows}
-
--- a check that is passed has no place, one that is refused is so at its place
-pub check-passed : (reason : Reason) (p : Place) → refused_at reason p ≡ Ok tt → p ≡ None
-check-passed reason None e = refl
-check-passed reason (Some at) e = let z : ◌≡◌ {A = ℕ} 0 1 = cc in absurd (omega arith)
-
-pub check-refused : (reason : Reason) (p : Place) {x : Refusal} → refused_at reason p ≡ Err x → (at : ℕ) × (p ≡ Some at) × (x ≡ record { reason = reason; place = at })
-check-refused reason None e = let z : ◌≡◌ {A = ℕ} 0 1 = cc in absurd (omega arith)
-check-refused reason (Some at) e = (at, refl, cc)
 
 -- two conditions with one number, one after the other
 six-cases : (a b : Option ℕ) (rest : Answer Scenario) → ◌>>◌ (checked 6 a) (◌>>◌ (checked 6 b) rest) ≡ ◌>>◌ (checked 6 (first_of (a ∷ b ∷ []))) rest
