@@ -116,3 +116,17 @@ pub fn class_of_parts(t: &Table, classes: &Classes, kind: Kind, a: u16, b: u16) 
 {
     (0..t.rows).find_map(|x| found_in_row(t, classes, x, kind, a, b))
 }
+
+// The class of the cells of the kind that a number from 8 on says, whose parts have the given classes, or ABSENT.
+pub fn found(t: &Table, classes: &Classes, kind: usize, a: u16, b: u16) -> u16
+    requires { 8 ≤ kind }
+    ensures { Found t.now.bytes.now t.now.rows t.now.runs classes.now kind a b result }
+{
+    let Ok(byte) = u8::try_from(kind) else {
+        return Cells::ABSENT;
+    };
+    match Kind::of(byte) {
+        Some(kind) => class_of_parts(t, classes, kind, a, b).unwrap_or(Cells::ABSENT),
+        None => Cells::ABSENT,
+    }
+}

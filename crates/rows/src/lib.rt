@@ -73,12 +73,20 @@ impl Kind {
     }
 }
 
+// The byte of a row that says its kind, whether or not it says one.
+pub fn kind_byte(t: &[u8], r: usize) -> usize
+    requires { 3 * r + 2 < length t.now }
+    ensures { (result ≡ get_or t.now (3 * r) 0) × (result < 256) }
+{
+    usize::from(t[3 * r])
+}
+
 // The kind of a row, if its byte says one.
 pub fn kind_of(t: &[u8], r: usize) -> Option<Kind>
     requires { 3 * r + 2 < length t.now }
     ensures { result ≡ kind_as (get_or t.now (3 * r) 0) }
 {
-    Kind::of(t[3 * r])
+    Kind::of(kind_byte(t, r) as u8)
 }
 
 // The left byte of a row.
