@@ -12,7 +12,7 @@ mod pattern;
 
 use cells::{Cells, Classes, Marks, Scope, cell};
 use known::Known;
-use pattern::Pattern;
+pub use pattern::Pattern;
 use read_domains::{ClassSet, Domains};
 use rows::Kind;
 use std::array;
