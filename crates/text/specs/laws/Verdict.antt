@@ -8,36 +8,46 @@ use Rattle.answers.specs.declared.Break.{Break}
 use Rattle.answers.specs.Answers.{Numbered, number_of, Searched, break_as, searched_as}
 use Rattle.answers.specs.declared.Refusal.{Refusal}
 use Rattle.answers.specs.declared.Verdict.TheVariants.{Broken, Held, Stopped}
-use Rattle.text.specs.Text.{word, line_text, refused_text, broken_text, verdict_text}
+use Rattle.text.specs.Text.{word, line_text, refused_text, broken_text, verdict_text, Says}
 
--- what an answer of the code says of a text; nothing if it is a break, whose trace it does not hold
+-- what the code answers says what the definitions answer, if the number of a refusal is a reason's
+says-own : (a : Answer Verdict) → Numbered a → Says (searched_as a) a
+says-own (refused r) known = (known, refl)
+says-own (accepted v) known = refl
+
+pub says : (a : Answer Verdict) → Numbered a → {answer : Searched} → answer ≡ searched_as a → Says answer a
+says a known e = rw e (says-own a known)
+
+-- what is found says of a text; nothing if it is a break, whose trace it does not hold, or a refusal
 abbrev Tells : Searched → List ℕ → Type 0
-Tells (Err r) text = refused_text (number_of r.reason) r.place ≡ text
+Tells (Err r) text = Unit {0}
 Tells (Ok (Broken b)) text = Unit {0}
 Tells (Ok (Held n)) text = word "HELD " ++ line_text n ≡ text
 Tells (Ok (Stopped n)) text = word "STOPPED " ++ line_text n ≡ text
 
 -- it tells the text of the answer
-tells : (a : Answer Verdict) → Numbered a → Tells (searched_as a) (verdict_text a)
+tells : (a : Answer Verdict) → Tells (searched_as a) (verdict_text a)
 unfolding verdict_text
-tells (refused r) known = ap (λ (n : ℕ). refused_text n r.place) known
-tells (accepted (broken_at p ms c)) known = tt
-tells (accepted (held n)) known = refl
-tells (accepted (stopped n)) known = refl
+tells (refused r) = tt
+tells (accepted (broken_at p ms c)) = tt
+tells (accepted (held n)) = refl
+tells (accepted (stopped n)) = refl
 
 -- whichever way it is given
-told : (a : Answer Verdict) → Numbered a → {answer : Searched} → answer ≡ searched_as a → Tells answer (verdict_text a)
-told a known e = rw e (tells a known)
+told : (a : Answer Verdict) → {answer : Searched} → answer ≡ searched_as a → Tells answer (verdict_text a)
+told a e = rw e (tells a)
 
-module _ (a : Answer Verdict) (known : Numbered a) where
-  pub text-refused : {x : Refusal} → Err x ≡ searched_as a → refused_text (number_of x.reason) x.place ≡ verdict_text a
-  text-refused e = told a known e
+pub text-refused : (a : Answer Verdict) → (x : Refusal) → Says (Err x) a → refused_text (number_of x.reason) x.place ≡ verdict_text a
+unfolding verdict_text
+text-refused (refused r) x (number, place) = λ i. refused_text (number i) (place i)
+text-refused (accepted v) x s = absurd s
 
+module _ (a : Answer Verdict) where
   pub text-held : {m : ℕ} → Ok (Held m) ≡ searched_as a → word "HELD " ++ line_text m ≡ verdict_text a
-  text-held e = told a known e
+  text-held e = told a e
 
   pub text-stopped : {m : ℕ} → Ok (Stopped m) ≡ searched_as a → word "STOPPED " ++ line_text m ≡ verdict_text a
-  text-stopped e = told a known e
+  text-stopped e = told a e
 
 -- a break whose trace stands at the buffer's front
 pub record BreakText (a : Answer Verdict) (b : Break) (after : List ℕ) : Type 0 where
