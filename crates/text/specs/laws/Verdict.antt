@@ -18,36 +18,32 @@ says-own (accepted v) known = refl
 pub says : (a : Answer Verdict) → Numbered a → {answer : Searched} → answer ≡ searched_as a → Says answer a
 says a known e = rw e (says-own a known)
 
--- what is found says of a text; nothing if it is a break, whose trace it does not hold, or a refusal
+-- what an answer of the code says of a text; nothing if it is a break, whose trace it does not hold
 abbrev Tells : Searched → List ℕ → Type 0
-Tells (Err r) text = Unit {0}
+Tells (Err r) text = refused_text (number_of r.reason) r.place ≡ text
 Tells (Ok (Broken b)) text = Unit {0}
 Tells (Ok (Held n)) text = word "HELD " ++ line_text n ≡ text
 Tells (Ok (Stopped n)) text = word "STOPPED " ++ line_text n ≡ text
 
--- it tells the text of the answer
-tells : (a : Answer Verdict) → Tells (searched_as a) (verdict_text a)
+-- it tells the text of the answer that it says
+told : (answer : Searched) (a : Answer Verdict) → Says answer a → Tells answer (verdict_text a)
 unfolding verdict_text
-tells (refused r) = tt
-tells (accepted (broken_at p ms c)) = tt
-tells (accepted (held n)) = refl
-tells (accepted (stopped n)) = refl
-
--- whichever way it is given
-told : (a : Answer Verdict) → {answer : Searched} → answer ≡ searched_as a → Tells answer (verdict_text a)
-told a e = rw e (tells a)
-
-pub text-refused : (a : Answer Verdict) → (x : Refusal) → Says (Err x) a → refused_text (number_of x.reason) x.place ≡ verdict_text a
-unfolding verdict_text
-text-refused (refused r) x (number, place) = λ i. refused_text (number i) (place i)
-text-refused (accepted v) x s = absurd s
+told (Err r) (refused n) (number, place) = λ i. refused_text (number i) (place i)
+told (Err r) (accepted v) s = absurd s
+told (Ok w) (refused n) e = let z : ◌≡◌ {A = ℕ} 0 1 = cc in absurd (omega arith)
+told (Ok w) (accepted (broken_at p ms c)) e = let same : w ≡ Broken (break_as p ms c) = cc in rw same tt
+told (Ok w) (accepted (held n)) e = let same : w ≡ Held n = cc in rw same refl
+told (Ok w) (accepted (stopped n)) e = let same : w ≡ Stopped n = cc in rw same refl
 
 module _ (a : Answer Verdict) where
+  pub text-refused : (x : Refusal) → Says (Err x) a → refused_text (number_of x.reason) x.place ≡ verdict_text a
+  text-refused x s = told (Err x) a s
+
   pub text-held : {m : ℕ} → Ok (Held m) ≡ searched_as a → word "HELD " ++ line_text m ≡ verdict_text a
-  text-held e = told a e
+  text-held {m} e = told (Ok (Held m)) a e
 
   pub text-stopped : {m : ℕ} → Ok (Stopped m) ≡ searched_as a → word "STOPPED " ++ line_text m ≡ verdict_text a
-  text-stopped e = told a e
+  text-stopped {m} e = told (Ok (Stopped m)) a e
 
 -- a break whose trace stands at the buffer's front
 pub record BreakText (a : Answer Verdict) (b : Break) (after : List ℕ) : Type 0 where
