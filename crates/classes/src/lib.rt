@@ -9,7 +9,7 @@ ghost use Rattle.classes.specs.Classes.{Refilled};
 ghost use Rattle.classes.specs.Filled.{ClassOf, Filled};
 
 use cells::{Cells, Classes, Names, cell, class_of_parts};
-use rows::Table;
+use rows::{Kind, Table};
 
 // A name or a class, unless it is ABSENT.
 fn unless_absent(class: u16) -> Option<u16>
@@ -24,12 +24,12 @@ fn class_of(t: &Table, names: &Names, classes: &Classes, u: usize, x: usize) -> 
     ensures { ClassOf t.now.bytes.now t.now.rows t.now.runs names.now classes.now u x (unwrap_or result absent) }
 {
     let c = cell(x, u);
-    let kind = t.kind_of(x);
-    if !kind.is_made() {
+    if t.is_before(x, Kind::PublicKey) {
         return unless_absent(names[c]);
     }
     let a = unless_absent(classes[cell(t.left_of(x), u)])?;
     let b = unless_absent(classes[cell(t.second_of(x), u)])?;
+    let kind = t.kind_of(x);
     Some(class_of_parts(t, classes, kind, a, b).unwrap_or(c as u16))
 }
 
