@@ -1,3 +1,4 @@
 -- The laws of cells, with their proofs.
 pub mod Cells
 pub mod Listed
+pub mod Found

@@ -94,7 +94,7 @@ fn matching_run(t: &Table, classes: &Classes, x: usize, a: u16, b: u16) -> Optio
     requires { (x < t.now.rows) × (8 ≤ get_or t.now.bytes.now (3 * x) 0) }
     ensures { MatchOption result ((w : ℕ) → w ≤ t.now.runs → Matches t.now.bytes.now classes.now a b x w → ⊥) (λ w. (w ≤ t.now.runs) × Matches t.now.bytes.now classes.now a b x w) }
 {
-    (0..=t.runs).find(|&w| matches_at(t, classes, x, a, b, w))
+    (0..t.runs + 1).find(|&w| matches_at(t, classes, x, a, b, w))
 }
 
 // The class of row x, if it has the given kind, in a run in which its parts have the given classes.
@@ -102,7 +102,7 @@ fn found_in_row(t: &Table, classes: &Classes, x: usize, kind: Kind, a: u16, b: u
     requires { (x < t.now.rows) × (8 ≤ number_of kind) }
     ensures { MatchOption result (FoundInRow t.now.bytes.now t.now.runs classes.now (number_of kind) a b x absent) (λ class. (class < absent) × FoundInRow t.now.bytes.now t.now.runs classes.now (number_of kind) a b x class) }
 {
-    if t.kind_of(x) != kind {
+    if !t.has_kind(x, kind) {
         return None;
     }
     let w = matching_run(t, classes, x, a, b)?;
@@ -115,4 +115,18 @@ pub fn class_of_parts(t: &Table, classes: &Classes, kind: Kind, a: u16, b: u16) 
     ensures { MatchOption result (Found t.now.bytes.now t.now.rows t.now.runs classes.now (number_of kind) a b absent) (λ class. (class < absent) × Found t.now.bytes.now t.now.rows t.now.runs classes.now (number_of kind) a b class) }
 {
     (0..t.rows).find_map(|x| found_in_row(t, classes, x, kind, a, b))
+}
+
+// The class of the cells of the kind that a number from 8 on says, whose parts have the given classes, or ABSENT.
+pub fn found(t: &Table, classes: &Classes, kind: usize, a: u16, b: u16) -> u16
+    requires { 8 ≤ kind }
+    ensures { Found t.now.bytes.now t.now.rows t.now.runs classes.now kind a b result }
+{
+    let Ok(byte) = u8::try_from(kind) else {
+        return Cells::ABSENT;
+    };
+    match Kind::of(byte) {
+        Some(kind) => class_of_parts(t, classes, kind, a, b).unwrap_or(Cells::ABSENT),
+        None => Cells::ABSENT,
+    }
 }

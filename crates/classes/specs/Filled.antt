@@ -14,12 +14,11 @@ first_class bytes classes u x = get_or classes (cell_of (get_or bytes (3 * x + 1
 abbrev pub second_class : List ℕ → List ℕ → ℕ → ℕ → ℕ
 second_class bytes classes u x = get_or classes (cell_of (second_of bytes x) u) absent
 
--- The class of a row in a run: an atom's name, if it has one; none where a part has none; one that a cell with such parts has; or the cell itself.
+-- The class of a row in a run: an atom's name; none where a part has none; one that a cell with such parts has; or the cell itself.
 pub data ClassOf (bytes : List ℕ) (n runs : ℕ) (names classes : List ℕ) (u x class : ℕ) : Type 0 where
   of_atom : get_or bytes (3 * x) 0 < 8 → class ≡ get_or names (cell_of x u) absent → ClassOf bytes n runs names classes u x class
-  no_name : get_or bytes (3 * x) 0 < 8 → absent ≤ get_or names (cell_of x u) absent → class ≡ absent → ClassOf bytes n runs names classes u x class
-  no_first : 8 ≤ get_or bytes (3 * x) 0 → absent ≤ first_class bytes classes u x → class ≡ absent → ClassOf bytes n runs names classes u x class
-  no_second : 8 ≤ get_or bytes (3 * x) 0 → absent ≤ second_class bytes classes u x → class ≡ absent → ClassOf bytes n runs names classes u x class
+  no_first : 8 ≤ get_or bytes (3 * x) 0 → first_class bytes classes u x ≡ absent → class ≡ absent → ClassOf bytes n runs names classes u x class
+  no_second : 8 ≤ get_or bytes (3 * x) 0 → second_class bytes classes u x ≡ absent → class ≡ absent → ClassOf bytes n runs names classes u x class
   of_other :
       8 ≤ get_or bytes (3 * x) 0 → Found bytes n runs classes (get_or bytes (3 * x) 0) (first_class bytes classes u x) (second_class bytes classes u x) class
       → (class ≡ absent → ⊥) → ClassOf bytes n runs names classes u x class

@@ -1,15 +1,22 @@
 // Comparison of values: the class of every cell, equal for equal values.
 #![tactic(auto)]
 
-ghost use Rattle.std.specs.Prelude.{◌+◌, ◌<◌, ◌≤◌};
+ghost use Rattle.std.specs.Prelude.{◌≡◌, ◌≢◌, ◌+◌, ◌<◌, ◌≤◌, MatchOption};
 ghost use Rattle.std.specs.Option.{unwrap_or};
 ghost use Rattle.rows.specs.Rows.{rows_of};
 ghost use Rattle.cells.specs.Cells.{absent};
 ghost use Rattle.classes.specs.Classes.{Refilled};
 ghost use Rattle.classes.specs.Filled.{ClassOf, Filled};
 
-use cells::{Cells, Classes, Names, cell, class_of_parts, present};
-use rows::Table;
+use cells::{Cells, Classes, Names, cell, class_of_parts};
+use rows::{Kind, Table};
+
+// A name or a class, unless it is ABSENT.
+fn unless_absent(class: u16) -> Option<u16>
+    ensures { MatchOption result (class ≡ absent) (λ found. (found ≢ absent) × (found ≡ class)) }
+{
+    (class != Cells::ABSENT).then_some(class)
+}
 
 // The class of row x in run u, from the classes of its parts, if they have one: a name, a class that is there already, or the cell itself.
 fn class_of(t: &Table, names: &Names, classes: &Classes, u: usize, x: usize) -> Option<u16>
@@ -17,12 +24,12 @@ fn class_of(t: &Table, names: &Names, classes: &Classes, u: usize, x: usize) -> 
     ensures { ClassOf t.now.bytes.now t.now.rows t.now.runs names.now classes.now u x (unwrap_or result absent) }
 {
     let c = cell(x, u);
-    let kind = t.kind_of(x);
-    if !kind.is_made() {
-        return present(names[c]);
+    if t.is_before(x, Kind::PublicKey) {
+        return unless_absent(names[c]);
     }
-    let a = present(classes[cell(t.left_of(x), u)])?;
-    let b = present(classes[cell(t.second_of(x), u)])?;
+    let a = unless_absent(classes[cell(t.left_of(x), u)])?;
+    let b = unless_absent(classes[cell(t.second_of(x), u)])?;
+    let kind = t.kind_of(x);
     Some(class_of_parts(t, classes, kind, a, b).unwrap_or(c as u16))
 }
 

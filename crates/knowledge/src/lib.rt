@@ -26,7 +26,7 @@ fn gathered(start: &Marks, t: &Table, classes: &Classes) -> Marks
     ensures { Gathered t.now.rows t.now.runs classes.now start.now result }
 {
     let mut marks = [false; 480];
-    for u in 0..=t.runs {
+    for u in 0..t.runs + 1 {
         for r in 0..t.rows {
             if start[cell(r, u)] {
                 let class = class_at(classes, r, u);
@@ -44,7 +44,7 @@ fn spread(marks: &Marks, t: &Table, classes: &Classes) -> Marks
     ensures { Spread t.now.rows t.now.runs classes.now marks.now result }
 {
     let mut out = [false; 480];
-    for u in 0..=t.runs {
+    for u in 0..t.runs + 1 {
         for r in 0..t.rows {
             if is_marked(marks, class_at(classes, r, u)) {
                 out[cell(r, u)] = true;
@@ -66,12 +66,12 @@ fn build_row(marks: &mut Marks, t: &Table, classes: &Classes, x: usize)
     requires { x < t.now.rows }
     ensures { Reaches t.now.bytes.now t.now.rows t.now.runs classes.now marks.old marks.new }
 {
-    if !t.kind_of(x).is_compound() {
+    if t.is_before(x, Kind::Pair) {
         return;
     }
     let left = t.left_of(x);
     let right = t.right_of(x);
-    for u in 0..=t.runs {
+    for u in 0..t.runs + 1 {
         let class = class_at(classes, x, u);
         if class < Cells::ABSENT
             && is_marked(marks, class_at(classes, left, u))
@@ -139,10 +139,10 @@ fn gain(marks: &Marks, t: &Table, classes: &Classes, x: usize, u: usize) -> Opti
     requires { (x < t.now.rows) × (u ≤ t.now.runs) }
     ensures { MatchOption result (GainedAt t.now.bytes.now t.now.rows t.now.runs classes.now marks.now x u absent) (λ class. (class < absent) × GainedAt t.now.bytes.now t.now.rows t.now.runs classes.now marks.now x u class) }
 {
-    let kind = t.kind_of(x);
-    if !kind.is_compound() {
+    if t.is_before(x, Kind::Pair) {
         return None;
     }
+    let kind = t.kind_of(x);
     let whole = class_at(classes, x, u);
     let left = class_at(classes, t.left_of(x), u);
     let right = class_at(classes, t.right_of(x), u);
@@ -156,7 +156,7 @@ fn row_gain(marks: &Marks, t: &Table, classes: &Classes, x: usize) -> Option<u16
     requires { x < t.now.rows }
     ensures { MatchOption result (RowGained t.now.bytes.now t.now.rows t.now.runs classes.now marks.now x absent) (λ class. (class < absent) × RowGained t.now.bytes.now t.now.rows t.now.runs classes.now marks.now x class) }
 {
-    (0..=t.runs).find_map(|u| gain(marks, t, classes, x, u))
+    (0..t.runs + 1).find_map(|u| gain(marks, t, classes, x, u))
 }
 
 // A class that some row gives and that is not marked yet.

@@ -1,14 +1,25 @@
 -- What is asked of a move: whether it is allowed, and the marks after it. Assumes nothing.
-use Rattle.std.specs.Prelude.{ℕ, ◌+◌, ◌≡◌, Bool, List, length, get_or, set}
+use Rattle.std.specs.Prelude.{Option as CodeOption, option_map, ℕ, ◌+◌, ◌≡◌, Bool, List, length, get_or, set}
 use Rattle.std.proofs.Math.Option.{Option, some}
 use Rattle.semantics.specs.Basic.{present}
 use Rattle.semantics.specs.Scenario.{Scenario}
 use Rattle.semantics.specs.State.{Value, State, Active}
 use Rattle.semantics.specs.Moves.{performed}
 use Rattle.rows.specs.Rows.{Shape}
+use Rattle.records.specs.declared.EventKind.{EventKind}
+use Rattle.records.specs.Kinds.{event_kind_as}
 use Rattle.runs.specs.declared.RunEvent.{RunEvent}
+use Rattle.moves.specs.declared.NumberedEvent.{NumberedEvent}
 use Rattle.state.specs.declared.State.{State as CodeState}
 use Rattle.state.specs.State.{Due, IsState, NextMove, Ready}
+
+-- the event of a kind with the rows of one by number
+abbrev pub of_kind : NumberedEvent → EventKind → RunEvent
+of_kind e kind = record { kind = kind; own = e.own; peer = e.peer; row = e.row }
+
+-- the event by number, if its number is a kind's; a run has no other
+abbrev pub event_as : NumberedEvent → CodeOption RunEvent
+event_as e = option_map (of_kind e) (event_kind_as e.kind)
 
 -- the next event of a run, counted from 0, in some state, with new values for what it sets, and classes and marks that have them
 pub record AtEvent (t : List ℕ) (n runs k : ℕ) (e : RunEvent) (classes : List ℕ) (marks : List Bool) : Type 0 where

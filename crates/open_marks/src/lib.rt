@@ -11,7 +11,6 @@ ghost use Rattle.open_marks.specs.Sure.{Gains, Opens, InBoth, Shared, Added, Sta
 use cells::{Cells, Marks};
 use role_level::RoleLevel;
 use rows::{Kind, Table};
-use std::array;
 
 // What a row's last reading shows of its way: it goes on in the first or the second part of a pair, with the other part known, or
 // it ends at an encryption that does not open.
@@ -84,7 +83,12 @@ pub fn shared(one: &Marks, other: &Marks, n: usize) -> Marks
     requires { n ≤ 96 }
     ensures { Shared n one.now other.now result }
 {
-    array::from_fn(|x| x < n && in_both(one, other, x))
+    let mut both = [false; Cells::COUNT];
+    // the rows alone: an array made by `array::from_fn` asks all 480, for each pair that is read
+    for x in 0..n {
+        both[x] = in_both(one, other, x);
+    }
+    both
 }
 
 // Marks with one more, if it was found.

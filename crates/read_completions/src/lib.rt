@@ -12,8 +12,8 @@ mod pattern;
 
 use cells::{Cells, Classes, Marks, Scope, cell};
 use known::Known;
-use pattern::Pattern;
-use read_domains::{ClassSet, Domains};
+pub use pattern::Pattern;
+use read_domains::{ClassSet, Counted, Domains};
 use rows::Kind;
 use std::array;
 use variables::VariableRows;
@@ -254,8 +254,8 @@ pub fn completes(classes: &Classes, marks: &Marks, scope: &Scope, x: usize) -> b
     if vars.count < 2 {
         return true;
     }
-    let dom = read_domains::of_variables(classes, None, &scope.table, vars);
-    let marked = read_domains::of_variables(classes, Some(marks), &scope.table, vars);
+    let dom = read_domains::of_variables(classes, marks, Counted::All, &scope.table, vars);
+    let marked = read_domains::of_variables(classes, marks, Counted::Marked, &scope.table, vars);
     let pattern = Pattern {
         scope: *scope,
         classes,

@@ -1,15 +1,16 @@
 -- Sets of classes, and domains: a set of classes for each of 8 variables. Assumes nothing.
-use Rattle.std.specs.Prelude.{ℕ, ◌<◌, ◌≡◌, Bool, true, List, [], Option, MatchOption, length, get_or}
+use Rattle.std.specs.Prelude.{ℕ, ◌<◌, ◌≡◌, Bool, true, List, [], get_or}
 use Rattle.std.proofs.Math.Option.{some}
-use denote.Ref.{Bor}
 use Rattle.semantics.specs.Term.{Atom}
 use Rattle.semantics.specs.Runs.{atom_at}
 use Rattle.semantics.specs.Moves.{candidates}
 use Rattle.semantics.specs.Replay.{is_value_of}
 use Rattle.rows.specs.Rows.{rows_of}
 use Rattle.cells.specs.Cells.{cell_of, cell_count, absent}
-use Rattle.knowledge.specs.Marks.{Marked}
+use Rattle.knowledge.specs.Marks as knowledge
 use Rattle.knowledge.specs.Steps.{class_at, Inside}
+use Rattle.read_domains.specs.declared.Counted.{Counted}
+use Rattle.read_domains.specs.declared.Counted.TheVariants.{All, Marked}
 use Rattle.variables.specs.declared.found.VariableRows.{VariableRows}
 use Rattle.variables.specs.Variables.{In}
 
@@ -17,13 +18,10 @@ use Rattle.variables.specs.Variables.{In}
 abbrev pub InRow : List (List Bool) → ℕ → ℕ → Type 0
 InRow dom i c = In (get_or dom i []) c
 
--- marks of all cells, if there are any
-abbrev pub Marks : Option (Bor (List Bool)) → Type 0
-Marks marks = MatchOption marks (Unit {0}) (λ m. length m.now ≡ cell_count)
-
--- a cell counts: where there are marks, it is marked
-abbrev pub Counts : Option (Bor (List Bool)) → ℕ → ℕ → Type 0
-Counts marks y w = MatchOption marks (Unit {0}) (λ m. Marked m.now y w)
+-- a cell counts: any does, or one that is marked
+abbrev pub Counts : Counted → List Bool → ℕ → ℕ → Type 0
+Counts All marks y w = Unit {0}
+Counts Marked marks y w = knowledge.Marked marks y w
 
 -- row y with run w is among the values that the variable of row q may take
 abbrev pub Candidate : List ℕ → ℕ → ℕ → ℕ → ℕ → Type 0

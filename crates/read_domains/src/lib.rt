@@ -5,12 +5,19 @@ ghost use Rattle.std.specs.Prelude.{◌≡◌, true, List, ℕ, ◌<◌, get_or,
 ghost use Rattle.cells.specs.Cells.{cell_count};
 ghost use Rattle.knowledge.specs.Steps.{kind_at};
 ghost use Rattle.variables.specs.Variables.{In, AreVariables};
-ghost use Rattle.read_domains.specs.Domains.{Marks, Counts, InRow, Listed, ListedAt, Narrows, NarrowsTo, Joins, Fit, AtSlot};
+ghost use Rattle.read_domains.specs.Domains.{Counts, InRow, Listed, ListedAt, Narrows, NarrowsTo, Joins, Fit, AtSlot};
 
 use cells::{Cells, Classes, Marks};
 use rows::Table;
 use std::array;
 use variables::{Value, VariableRows};
+
+// Which values count: all of them, or those that are marked.
+#[derive(Clone, Copy, PartialEq, Eq)]
+pub enum Counted {
+    All,
+    Marked,
+}
 
 // A set of classes.
 pub type ClassSet = [bool; Cells::COUNT];
@@ -18,12 +25,12 @@ pub type ClassSet = [bool; Cells::COUNT];
 // A set of classes for each of 8 variables.
 pub type Domains = [ClassSet; 8];
 
-// Adds the class of cell c to a set, if the cell counts: any does, or those that are marked.
-fn add_value(set: &mut ClassSet, classes: &Classes, marks: Option<&Marks>, c: usize)
-    requires { Marks marks × (c < cell_count) }
-    ensures { (t : List ℕ) (n runs q : ℕ) → ListedAt t n runs classes.now (Counts marks.entry) q c set.old set.new }
+// Adds the class of cell c to a set, if the cell counts.
+fn add_value(set: &mut ClassSet, classes: &Classes, marks: &Marks, counted: Counted, c: usize)
+    requires { c < cell_count }
+    ensures { (t : List ℕ) (n runs q : ℕ) → ListedAt t n runs classes.now (Counts counted marks.now) q c set.old set.new }
 {
-    if marks.is_some_and(|marks| !marks[c]) {
+    if counted == Counted::Marked && !marks[c] {
         return;
     }
     let class = classes[c];
@@ -32,16 +39,16 @@ fn add_value(set: &mut ClassSet, classes: &Classes, marks: Option<&Marks>, c: us
     }
 }
 
-// The classes of the values that the variable of row q may take, or of those that are marked.
-fn values_of(classes: &Classes, marks: Option<&Marks>, t: &Table, q: usize) -> ClassSet
-    requires { Marks marks × ((q < t.now.rows) × (kind_at t.now.bytes.now q ≡ 6)) }
-    ensures { Listed t.now.bytes.now t.now.rows t.now.runs classes.now (Counts marks.entry) q (In result) }
+// The classes of the values that the variable of row q may take, of those that count.
+fn values_of(classes: &Classes, marks: &Marks, counted: Counted, t: &Table, q: usize) -> ClassSet
+    requires { (q < t.now.rows) × (kind_at t.now.bytes.now q ≡ 6) }
+    ensures { Listed t.now.bytes.now t.now.rows t.now.runs classes.now (Counts counted marks.now) q (In result) }
 {
     let mut set = [false; Cells::COUNT];
     for c in 0..Cells::COUNT {
         let (row, run) = cells::place_of(c);
         if variables::may_take(t, q, Value { row, run }) {
-            add_value(&mut set, classes, marks, c);
+            add_value(&mut set, classes, marks, counted, c);
         }
     }
     set
@@ -68,20 +75,21 @@ pub fn narrow_to(dom: Domains, i: usize, class: usize) -> Domains
     less
 }
 
-// For each variable the classes of the values that it may take, or of those that are marked.
+// For each variable the classes of the values that it may take, of those that count.
 pub fn of_variables(
     classes: &Classes,
-    marks: Option<&Marks>,
+    marks: &Marks,
+    counted: Counted,
     t: &Table,
     vars: VariableRows,
 ) -> Domains
-    requires { Marks marks × AreVariables t.now.bytes.now t.now.rows vars }
-    ensures { (i : ℕ) → i < vars.count → Listed t.now.bytes.now t.now.rows t.now.runs classes.now (Counts marks.entry) (get_or vars.rows i 0) (InRow result i) }
+    requires { AreVariables t.now.bytes.now t.now.rows vars }
+    ensures { (i : ℕ) → i < vars.count → Listed t.now.bytes.now t.now.rows t.now.runs classes.now (Counts counted marks.now) (get_or vars.rows i 0) (InRow result i) }
 {
     // stays: as `array::from_fn` it was tried, and its closure needs a contract of its own, longer than the loop
     let mut dom = [[true; Cells::COUNT]; 8];
     for i in 0..vars.count {
-        dom[i] = values_of(classes, marks, t, vars.rows[i]);
+        dom[i] = values_of(classes, marks, counted, t, vars.rows[i]);
     }
     dom
 }

@@ -8,13 +8,17 @@ ghost use Rattle.role_level.specs.laws.Right.{role-classes-prop};
 
 use cells::{Cells, Classes, Marks, Names};
 use rows::Table;
-use std::array;
 
 // The names at role level: each row names itself.
 fn own_names(t: &Table) -> Names
     ensures { OwnNames t.now.rows result }
 {
-    array::from_fn(|r| if r < t.rows { r as u16 } else { Cells::ABSENT })
+    let mut names = [Cells::ABSENT; Cells::COUNT];
+    // the others keep what they have: an array made by `array::from_fn` asks all 480
+    for r in 0..t.rows {
+        names[r] = r as u16;
+    }
+    names
 }
 
 // The marks of the listed rows.

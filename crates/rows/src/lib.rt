@@ -1,7 +1,7 @@
 // Access to the rows of a table, three bytes each: kind, left, right; and whether a row is an agent's.
 #![tactic(auto)]
 
-ghost use Rattle.std.specs.Prelude.{◌≡◌, true, false, ◌+◌, ◌*◌, ◌<◌, ◌≤◌, length, get_or};
+ghost use Rattle.std.specs.Prelude.{◌≡◌, true, false, ◌+◌, ◌*◌, ◌<◌, ◌≤◌, length, get_or, eqb, ltb};
 ghost use Rattle.semantics.specs.Runs.{atom_at, is_agent, is_trusted};
 ghost use Rattle.rows.specs.Rows.{rows_of, second_of, Shape};
 ghost use Rattle.rows.specs.Kinds.{number_of, kind_as};
@@ -73,12 +73,20 @@ impl Kind {
     }
 }
 
+// The byte of a row that says its kind, whether or not it says one.
+pub fn kind_byte(t: &[u8], r: usize) -> usize
+    requires { 3 * r + 2 < length t.now }
+    ensures { (result ≡ get_or t.now (3 * r) 0) × (result < 256) }
+{
+    usize::from(t[3 * r])
+}
+
 // The kind of a row, if its byte says one.
 pub fn kind_of(t: &[u8], r: usize) -> Option<Kind>
     requires { 3 * r + 2 < length t.now }
     ensures { result ≡ kind_as (get_or t.now (3 * r) 0) }
 {
-    Kind::of(t[3 * r])
+    Kind::of(kind_byte(t, r) as u8)
 }
 
 // The left byte of a row.
@@ -134,6 +142,22 @@ impl<'a> Table<'a> {
         kind_of(self.bytes, r).unwrap()
     }
 
+    // Whether a row is of a kind: by its byte alone, since this is asked of row after row.
+    pub fn has_kind(&self, r: usize, kind: Kind) -> bool
+        requires { r < self.now.rows }
+        ensures { result ≡ eqb (get_or self.now.bytes.now (3 * r) 0) (number_of kind) }
+    {
+        self.bytes[3 * r] == kind as u8
+    }
+
+    // Whether a row's kind comes before another, in the order of their numbers; by its byte alone too.
+    pub fn is_before(&self, r: usize, kind: Kind) -> bool
+        requires { r < self.now.rows }
+        ensures { result ≡ ltb (get_or self.now.bytes.now (3 * r) 0) (number_of kind) }
+    {
+        self.bytes[3 * r] < kind as u8
+    }
+
     // The left byte of a row.
     pub fn left_of(&self, r: usize) -> usize
         requires { r < self.now.rows }
@@ -155,7 +179,7 @@ impl<'a> Table<'a> {
         requires { r < self.now.rows }
         ensures { (result ≡ second_of self.now.bytes.now r) × (result < 256) }
     {
-        if self.kind_of(r) < Kind::SharedKey {
+        if self.is_before(r, Kind::SharedKey) {
             self.left_of(r)
         } else {
             self.right_of(r)

@@ -8,6 +8,7 @@ ghost use Rattle.semantics.specs.Scenario.{Scenario};
 ghost use Rattle.rows.specs.Rows.{rows_of};
 ghost use Rattle.answers.specs.Answers.{scenario_in, Accepts};
 ghost use Rattle.runs.specs.Runs.{RunsAt, IsRun, AgentsAt, FindsEvents, ReadsEvent, TellsTrusted, run_at};
+ghost use Rattle.runs.specs.Opened.{IsOpened};
 
 mod opened;
 
@@ -95,7 +96,8 @@ impl<'a> Opened<'a> {
     // A file that Open accepts with a layout.
     pub fn of(file: &'a [u8], l: Layout) -> Opened<'a>
         requires { Accepts file.now l }
-        ensures { result.file.now ≡ file.now }
+        ensures file { result.file.now ≡ file.now }
+        ensures is_opened { IsOpened result }
     {
         let runs = runs_of(file, l);
         let terms = frame::part_of(file, BlockKind::Terms).bytes;

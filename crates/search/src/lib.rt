@@ -6,12 +6,13 @@ ghost use Rattle.semantics.specs.Basic.{total};
 ghost use Rattle.semantics.specs.Answer.{accepted};
 ghost use Rattle.semantics.specs.Verdict.{verdict, searched_in, written, buffer_in};
 ghost use Rattle.answers.specs.Answers.{verdict_as, searched_as};
-ghost use Rattle.runs.specs.Opened.{scenario_of};
+ghost use Rattle.runs.specs.Opened.{scenario_of, IsOpened};
 ghost use Rattle.runs.specs.Runs.{no_place};
 ghost use Rattle.search_runs.specs.Runs.{list_as};
 ghost use Rattle.search_breaks.specs.Walk.{FindsAll};
 
 use answers::{End, Refusal, Verdict, Walked};
+use frame::BlockKind;
 use runs::{Opened, RunPlace};
 use search_breaks::{Course, Plan, Reach};
 use search_memory::Memory;
@@ -34,10 +35,13 @@ fn event_count(runs: &[RunPlace]) -> usize
 
 // Walks through a whole list of an accepted file, with a memory that is empty at first.
 fn walk_all(trace: &mut [u8], opened: &Opened, left: usize, list: Listing) -> Walked
-    requires { (128 ≤ length trace.old) × (left < 4294967296) }
+    requires { IsOpened opened.now × ((128 ≤ length trace.old) × (left < 4294967296)) }
     ensures { FindsAll (list_as list) (scenario_of opened.now) left trace.old trace.new result }
 {
-    let s = State::initial(opened);
+    let s = State::initial(
+        opened,
+        frame::part_of(opened.file, BlockKind::Knowledge).bytes,
+    );
     let runs = &opened.runs.runs[..opened.runs.count];
     let done = [State::NONE_DONE; 4];
     let variables = search_memory::variable_rows(&opened.table);
@@ -66,7 +70,7 @@ fn walk_all(trace: &mut [u8], opened: &Opened, left: usize, list: Listing) -> Wa
 
 // The verdict on an accepted file by a list. Without a budget no memory is cleared.
 fn judged(opened: &Opened, trace: &mut [u8], list: Listing) -> Verdict
-    requires { 128 ≤ length trace.old }
+    requires { IsOpened opened.now × (128 ≤ length trace.old) }
     ensures value { result ≡ verdict_as (verdict (list_as list) (scenario_of opened.now)) }
     ensures trace_after { trace.new ≡ written trace.old (accepted (verdict (list_as list) (scenario_of opened.now))) }
 {

@@ -3,15 +3,17 @@
 
 ghost use Rattle.std.specs.Prelude.{◌≡◌, ◌+◌, ◌<◌, ◌≤◌, length, get_or, set};
 ghost use Rattle.semantics.specs.State as definitions;
+ghost use Rattle.semantics.specs.Scenario.{Scenario};
+ghost use Rattle.semantics.specs.Guarantee.{Guarantee};
 ghost use Rattle.rows.specs.Rows.{rows_of};
 ghost use Rattle.classes.specs.Classes.{Refilled};
 ghost use Rattle.knowledge.specs.Marks.{Settled};
-ghost use Rattle.runs.specs.Opened.{scenario_of};
+ghost use Rattle.runs.specs.Runs.{RunsAt};
+ghost use Rattle.runs.specs.Opened.{Gives};
 ghost use Rattle.state.specs.Start.{Agents};
 ghost use Rattle.state.specs.State.{IsState};
 
 use cells::{Cells, Classes, Marks, Names, Scope};
-use frame::BlockKind;
 use runs::Opened;
 
 // How far each run has come, what its atoms stand for, the classes of values, and the marks, taken apart.
@@ -44,8 +46,8 @@ pub fn with_names(classes: &mut Classes, marks: Marks, names: &Names, scope: &Sc
 
 // The agents of run u as the file has them, and none for run 0.
 fn agents_of<'a>(opened: &Opened<'a>, u: usize) -> &'a [u8]
-    requires { u ≤ opened.now.runs.count }
-    ensures { Agents (scenario_of opened.now) u result.now }
+    requires { (sc : Scenario) × RunsAt opened.now.file.now sc opened.now.runs × (u ≤ opened.now.runs.count) × (length opened.now.file.now ≤ 4096) }
+    ensures { (sc : Scenario) → RunsAt opened.now.file.now sc opened.now.runs → Guarantee sc → Agents sc u result.now }
 {
     if u == 0 {
         return &opened.file[0..0];
@@ -72,11 +74,11 @@ impl State {
     }
 
     // The state before any move: what is known is the file's list and all intruder constants.
-    pub fn initial(opened: &Opened) -> State
-        ensures { IsState (scenario_of opened.now) (definitions.initial (scenario_of opened.now)) result }
+    pub fn initial(opened: &Opened, list: &[u8]) -> State
+        requires { (sc : Scenario) × Gives opened.now sc × (list.now ≡ sc.knowledge) }
+        ensures { (sc : Scenario) → Gives opened.now sc → list.now ≡ sc.knowledge → IsState sc (definitions.initial sc) result }
     {
         let t = &opened.table;
-        let list = frame::part_of(opened.file, BlockKind::Knowledge).bytes;
         let mut names = [Cells::ABSENT; Cells::COUNT];
         let mut classes = [Cells::ABSENT; Cells::COUNT];
         for u in 0..t.runs + 1 {

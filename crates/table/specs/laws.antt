@@ -6,3 +6,4 @@ pub mod Fits
 pub mod Repeats
 pub mod Refusal
 pub mod Passed
+pub mod Numbers

@@ -1,5 +1,5 @@
 -- The text that the programs print: the verdict on a file, and the limits (document 01, 'Scenarios worked out', 'Operations'). Assumes nothing.
-use Rattle.std.specs.Prelude.{ℕ, zero, suc, ◌+◌, ◌/◌, ◌%◌, ◌≤◌, ◌≡◌, true, false, List, [], ◌∷◌, ◌++◌, ltb, length}
+use Rattle.std.specs.Prelude.{Err, Ok, ℕ, zero, suc, ◌+◌, ◌/◌, ◌%◌, ◌≤◌, ◌≡◌, true, false, List, [], ◌∷◌, ◌++◌, ltb, length}
 use Prim.Native.Char.{code}
 use Prim.Native.String as strings
 use Prim.Native.String.{String}
@@ -9,7 +9,7 @@ use Rattle.semantics.specs.Answer.{Answer, refused, accepted}
 use Rattle.semantics.specs.State.{Value}
 use Rattle.semantics.specs.Moves.{Move}
 use Rattle.semantics.specs.Verdict.{Verdict, broken_at, held, stopped, written}
-use Rattle.answers.specs.Answers.{Numbered, Searched, searched_as}
+use Rattle.answers.specs.Answers.{number_of, Searched, searched_as}
 
 -- the bytes of a word, whose letters have one byte each
 abbrev pub word : String → List ℕ
@@ -63,10 +63,15 @@ limits = most_rows ∷ most_variables ∷ most_roles ∷ most_runs ∷ most_even
 unfoldable pub limits_text : List ℕ
 limits_text = joined line_text limits
 
+-- the code's answer says that of the definitions: a refusal its number and its place
+abbrev pub Says : Searched → Answer Verdict → Type 0
+Says (Err r) (refused n) = (number_of r.reason ≡ n.number) × (r.place ≡ n.place)
+Says (Err r) (accepted v) = ⊥
+Says (Ok v) a = Ok v ≡ searched_as a
+
 -- an answer of Search, and the buffer that it left
 pub record Shown (a : Answer Verdict) (answer : Searched) (after : List ℕ) : Type 0 where
-  pub is_answer : answer ≡ searched_as a
+  pub is_answer : Says answer a
   pub buffer : List ℕ
   pub is_written : after ≡ written buffer a
   pub small : length after ≤ 128
-  pub known : Numbered a

@@ -131,16 +131,23 @@ impl Text {
     }
 }
 
-// The text of a refusal.
+// The text of a refusal with any number, a reason's or not.
 #[tactic(auto, unfolding(crate::specs::Text::refused_text))]
+pub fn refusal_text(number: usize, place: usize) -> Text
+    ensures { result ≡ refused_text number place }
+{
+    let mut text = Text::new();
+    text.push_with(b"REFUSED ", number);
+    text.push_word(b" ");
+    text.push_line(place);
+    text
+}
+
+// The text of a refusal.
 fn refused(r: Refusal) -> Text
     ensures { result ≡ refused_text (number_of r.reason) r.place }
 {
-    let mut text = Text::new();
-    text.push_with(b"REFUSED ", usize::from(r.reason));
-    text.push_word(b" ");
-    text.push_line(r.place);
-    text
+    refusal_text(usize::from(r.reason), r.place)
 }
 
 // The text of a break, with its trace.

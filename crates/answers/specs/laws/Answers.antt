@@ -3,12 +3,12 @@ use Rattle.std.specs.Prelude.{ℕ, zero, suc, ◌≤◌, ◌≡◌, refl, List, 
 use Rattle.std.proofs.Common.{arith, sym, ◌∙◌}
 use Rattle.std.proofs.Math.Path.{ap}
 use Rattle.semantics.specs.Answer as definitions
-use Rattle.semantics.specs.Answer.{Answer, refused, accepted}
+use Rattle.semantics.specs.Answer.{Answer, refused, accepted, refuse}
 use Rattle.semantics.specs.Scenario.{Scenario, opened}
 use Rattle.semantics.specs.Verdict.{Entry, Finding, found, nothing, cut, verdict_from}
 use Rattle.answers.specs.declared.Refusal.{Refusal}
 use Rattle.answers.specs.declared.Layout.{Layout}
-use Rattle.answers.specs.Answers.{number_of, reason_of, refusal_as, layout_of, opened_as, scenario_or, scenario_in, Accepts, verdict_as, Walked, walked_as, answered}
+use Rattle.answers.specs.Answers.{number_of, reason_of, refusal_as, Numbered, layout_of, opened_as, scenario_or, scenario_in, Accepts, verdict_as, Walked, walked_as, answered}
 
 -- what a walk through the whole list finds is answered with the verdict
 pub answer-found : (es : List Entry) (budget : ℕ) (f : Finding) {w : Walked} → w ≡ walked_as es f → answered budget w ≡ verdict_as (verdict_from (length es) budget f)
@@ -23,6 +23,11 @@ answer-found es budget f e = ap (answered budget) e ∙ go f
 pub opened-refused : (file : List ℕ) (a : Answer Scenario) {x : Refusal} → Err x ≡ opened_as file a → (r : definitions.Refusal) × (a ≡ refused r) × (x ≡ refusal_as r)
 opened-refused file (refused r) {x} e = (r, refl, cc)
 opened-refused file (accepted sc) e = let z : ◌≡◌ {A = ℕ} 0 1 = cc in absurd (omega arith)
+
+-- where its number is a reason's, it is that of the code's reason
+pub opened-numbered : (file : List ℕ) (a : Answer Scenario) {x : Refusal} → Numbered a → Err x ≡ opened_as file a → a ≡ refuse (number_of x.reason) x.place
+opened-numbered file (refused r) {x} known e = let same : x ≡ refusal_as r = cc in rw same (ap (λ n. refuse n r.place) (sym known))
+opened-numbered file (accepted sc) known e = let z : ◌≡◌ {A = ℕ} 0 1 = cc in absurd (omega arith)
 
 -- a file that Open accepts
 pub opened-accepts : (file : List ℕ) {l : Layout} → Ok l ≡ opened_as file (opened file) → Accepts file l

@@ -3,7 +3,7 @@ use native.Mathlib.Omega.{arith}
 use Rattle.records.specs.declared.EventKind.TheVariants.{Claim}
 use Rattle.records.specs.laws.Kinds.{event-is, event-other}
 use Rattle.claims.specs.laws.Event.{row-below, past-none, other_none, claim-marked}
-use Rattle.runs.specs.laws.Opened.{gives}
+use Rattle.runs.specs.laws.Opened.{run-known}
 use Rattle.claims.proofs.claims_derivable.Goals as goal
 
 pub returns-in_default : goal.returns-in_default
@@ -11,8 +11,11 @@ returns-in_default c sc d run p at trusts = past-none at c.args.j c.in_default.e
 
 pub cell-requires : goal.cell-requires
 cell-requires c =
-    let given = gives c.args.opened.now in
-    (row-below c.args.opened.now.file.now c.args.opened.now.runs c.args.k c.args.j _ (_, (given.runs, (given.good, c.requires))) c.in-Some.ensures.1 c.in-Some.ensures.0, omega (arith, given.runs.few, c.requires))
+    let o = c.args.opened.now in
+    let few = run-known o c.requires (λ w. w.1.few) in (
+      run-known o c.requires (λ w. row-below o.file.now o.runs c.args.k c.args.j _ (w.0, (w.1, (w.2, w.3))) c.in-Some.ensures.1 c.in-Some.ensures.0),
+      omega (arith, few, c.requires),
+    )
 
 pub returns-then-eq : goal.returns-then-eq
 returns-then-eq c sc d run p at trusts =

@@ -19,8 +19,8 @@ module _ (bytes : List ℕ) (n runs : ℕ) (names classes : List ℕ) (u x : ℕ
   module _ (high : 8 ≤ kind) {a : ℕ} (first : a ≡ first_class bytes classes u x) where
     module _ {b : ℕ} (second : b ≡ second_class bytes classes u x) where
       -- a cell with such parts is found, or none is
-      pub class-looked : a < absent → b < absent → (o : Option ℕ) → MatchOption o (Found bytes n runs classes kind a b absent) (λ f. (f < absent) × Found bytes n runs classes kind a b f)
+      pub class-looked : (a ≡ absent → ⊥) → (b ≡ absent → ⊥) → (o : Option ℕ) → MatchOption o (Found bytes n runs classes kind a b absent) (λ f. (f < absent) × Found bytes n runs classes kind a b f)
           → {c class : ℕ} → c ≡ cell_of x u → class ≡ unwrap_or o c → ClassOf bytes n runs names classes u x class
       class-looked h₁ h₂ None found c e =
-          rw e (of_itself (rw kinds at high) (λ q. omega (arith, first, h₁, q)) (λ q. omega (arith, second, h₂, q)) (rw (kinds, first, second) at found) c)
+          rw e (of_itself (rw kinds at high) (rw first at h₁) (rw second at h₂) (rw (kinds, first, second) at found) c)
       class-looked h₁ h₂ (Some f) found c e = rw e (of_other (rw kinds at high) (rw (kinds, first, second) at found.1) (λ q. omega (arith, found.0)))

@@ -90,6 +90,15 @@ module _ {rows : List Row} {runs : ℕ} (good : GoodTable rows) (few : runs ≤ 
             let at = within_same a.3 b.3 (sym a.2 ∙ e ∙ b.2) in
             f ∙ ap some (stands_one a.4 (rw (← at.0, ← at.1) at b.4)) ∙ sym g
 
+    -- cells with equal values have equal classes
+    pub values-equal : {r u x v : ℕ} → Within rows runs r u → Within rows runs x v → value r u ≡ value x v
+        → get_or classes (cell_of r u) absent ≡ get_or classes (cell_of x v) absent
+    values-equal {r} {u} {x} {v} w k e = go (value r u) refl
+      where
+        go : (o : Option Term) → value r u ≡ o → get_or classes (cell_of r u) absent ≡ get_or classes (cell_of x v) absent
+        go none f = right.none r u w f ∙ sym (right.none x v k (sym e ∙ f))
+        go (some t) f = right.same r u x v t w k f (sym e ∙ f)
+
 -- The class of a cell suits a value that the cell gets: none for none, and that of the cells with its value.
 pub data Suits (rows : List Row) (runs : ℕ) (value value' : ℕ → ℕ → Option Term) (classes : List ℕ) (x u class : ℕ) : Type 0 where
   suits_none : value' x u ≡ none → class ≡ absent → Suits rows runs value value' classes x u class

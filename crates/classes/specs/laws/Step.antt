@@ -14,7 +14,7 @@ use Rattle.rows.specs.Rows.{rows_of, Shape}
 use Rattle.cells.specs.Cells.{cell_of, cell_count, absent, Within, Readings, cell_value, Canonical, Matches, is_found, not_found}
 use Rattle.cells.specs.laws.Cells.{class-read, left-lower, second-lower}
 use Rattle.classes.specs.Classes.{Named, unnamed, named, NamesRight, Stands, by_name, by_cell, Classes, Grows, Refilled}
-use Rattle.classes.specs.Filled.{first_class, second_class, ClassOf, of_atom, no_name, no_first, no_second, of_other, of_itself, mixed, Filled}
+use Rattle.classes.specs.Filled.{first_class, second_class, ClassOf, of_atom, no_first, no_second, of_other, of_itself, mixed, Filled}
 use Rattle.classes.specs.laws.Kinds.{kind_of, MadeAt, good-rows, value_made, value-remade, value-valued, atom-at, no-atom-at, atom-value, atom-name}
 use Rattle.classes.specs.laws.Classes.{stands-kept, classes-same, classes-present, classes-none, classes-there, classes-equal, Suits, suits_none, suits_some, classes-put}
 use Rattle.classes.specs.laws.Values.{mixed-new, mixed-old, mixed-next, mixed-more, cell-kept, cell-elsewhere, mixed-made}
@@ -68,12 +68,6 @@ module _ {bytes : List ℕ} {n runs u x : ℕ} (shape : Shape bytes n runs) (low
   suits-name c e (unnamed p q) = suits_none (next-new ∙ atom-value shape low (new u) e ∙ q) (c ∙ p)
   suits-name c e (named y w b p i q k f) = suits-named (c ∙ p) i q k (atom-value shape low (new u) e ∙ f)
 
-  -- an atom without a name has no value
-  suits-unnamed : {class : ℕ} {a : Atom} → absent ≤ get_or names (cell_of x u) absent → class ≡ absent → atom_at (rows_of bytes) x ≡ some a
-      → Named (rows_of bytes) runs (get_or names (cell_of x u) absent) (new u a) → SuitsNext bytes runs u x classes old new class
-  suits-unnamed h c e (unnamed p q) = suits-name (c ∙ sym p) e (unnamed p q)
-  suits-unnamed h c e (named y w b p i q k f) = absurd (omega (arith, row_of i, i.run, shape.few, shape.few_runs))
-
   -- no class suits a row with a part that has none
   suits-missing : {class : ℕ} → 8 ≤ get_or bytes (3 * x) 0 → class ≡ absent
       → ((t : Term) → MadeAt bytes (value_of (new u) (rows_of bytes)) x t → ⊥)
@@ -85,9 +79,9 @@ module _ {bytes : List ℕ} {n runs u x : ℕ} (shape : Shape bytes n runs) (low
       go (some t) e = absurd (missing t (value_made shape low (new u) m e))
 
   -- a part without a class has no value
-  part_none : {r : ℕ} → r < x → absent ≤ get_or classes (cell_of r u) absent → {t : Term} → cell_value new (rows_of bytes) r u ≡ some t → ⊥
+  part_none : {r : ℕ} → r < x → get_or classes (cell_of r u) absent ≡ absent → {t : Term} → cell_value new (rows_of bytes) r u ≡ some t → ⊥
   part_none {r} l e {t} f =
-      none-ne-some t (sym (classes-none (good-rows shape) shape.few_runs right (within (omega arith) run) e) ∙ lower-new l ∙ f)
+      none-ne-some t (sym (classes-none (good-rows shape) shape.few_runs right (within (omega arith) run) (omega arith)) ∙ lower-new l ∙ f)
 
   -- a part with a class has one
   part-there : {r : ℕ} → r < x → (get_or classes (cell_of r u) absent ≡ absent → ⊥) → There (cell_value new (rows_of bytes) r u)
@@ -154,7 +148,6 @@ module _ {bytes : List ℕ} {n runs u x : ℕ} (shape : Shape bytes n runs) (low
   -- the class that a cell gets suits its new value
   suits : {class : ℕ} → NamesRight (rows_of bytes) runs new names → ClassOf bytes n runs names classes u x class → SuitsNext bytes runs u x classes old new class
   suits naming (of_atom l c) = let w = atom-at shape low l in suits-name c w.1 (naming x u w.0 run w.1)
-  suits naming (no_name l e c) = let w = atom-at shape low l in suits-unnamed e c w.1 (naming x u w.0 run w.1)
   suits naming (no_first m e c) = suits-missing m c (λ t d. part_none (left-lower bytes n runs shape x low m) e d.first)
   suits naming (no_second m e c) = suits-missing m c (λ t d. part_none (second-lower bytes n runs shape x low m) e d.second)
   suits naming (of_other m (is_found y w l k e matches c) h) =

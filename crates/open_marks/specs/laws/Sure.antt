@@ -1,11 +1,12 @@
 -- The laws of sure rows: readable wherever marks hold, by a row's kind; marks that gain a row; and what an answer says. Assumes nothing.
-use Rattle.std.specs.Prelude.{Option, Some, ℕ, zero, suc, ◌<◌, ◌≡◌, refl, Bool, true, false, cond, get_or, set, replicate}
-use Rattle.std.proofs.Common.{eq-or-lt_of_le, zero-add, arith, sym, ◌∙◌, ⊎_elim, true≢false}
+use Rattle.std.specs.Prelude.{Option, Some, ℕ, zero, suc, ◌+◌, ◌<◌, ◌≡◌, refl, Bool, true, false, cond, length, get_or, set, replicate}
+use Rattle.std.proofs.Common.{eq-or-lt_of_le, zero-add, arith, sym, ◌∙◌, ⊎_elim, true≢false, get_or-set_same, get_or-set_other}
 use Rattle.std.proofs.lemmas.Bool.{false≢true}
 use mathlib.Core.List.Memᴰ
 use mathlib.Core.List.Memᴰ.{head as here}
 use mathlib.Core.List.Memᴰ.{tail as later}
 use mathlib.Core.List.{List, [], ◌∷◌, map, Memᴰ}
+use Rattle.std.proofs.Math.Decide.{ℕ_discrete}
 use Rattle.std.proofs.Math.Option.{some-injective}
 use Rattle.semantics.specs.Term.{Term}
 use Rattle.semantics.specs.Inference.{Derives, member}
@@ -24,7 +25,7 @@ use Rattle.knowledge.specs.laws.Filled.{none-on, set_on, set_keeps}
 use Rattle.role_level.specs.RoleLevel.{role_readings, listed_terms, RoleClasses, RoleExact}
 use Rattle.role_level.specs.laws.RoleLevel.{listed-cover}
 use Rattle.open_marks.specs.Marks.{RowMarked, is_marked, none_marked, ReadableRow}
-use Rattle.open_marks.specs.Sure.{MarksHold, Sure, SureRows, Gains, Opens, Shared, Added, Answers}
+use Rattle.open_marks.specs.Sure.{MarksHold, Sure, SureRows, Gains, Opens, InBoth, Shared, Added, Answers}
 use Rattle.open_marks.specs.laws.Rows.{HasTerm, RowTerm, a_variable, own-inverse, term-below, row-term}
 use Rattle.open_marks.specs.laws.Marks.{has-term, marked-derives, other-inverse}
 use Rattle.open_marks.specs.laws.Readable.{derives-readable, pair-term, encrypted-term}
@@ -190,3 +191,24 @@ module _ (bytes : List ℕ) (n : ℕ) (shape : Shape bytes n 0) (marks : List Bo
 -- at first none is sure
 pub sure-none : (rows : List Row) (marks : List Bool) (k : ℕ) → SureRows rows marks (replicate k false)
 sure-none rows marks k x o = absurd (none-on k x o)
+
+-- and two have no row in common
+
+-- no marks are those of no row in both
+pub shared-none : (one other : List Bool) (k : ℕ) → Shared 0 one other (replicate k false)
+shared-none one other k = record { from = λ x o. absurd (none-on k x o); onto = λ x l. absurd (omega arith) }
+
+-- then one row more
+pub shared-more : (one other both : List Bool) (x : ℕ) (v : Bool) → x < length both → InBoth one other x v → Shared x one other both → Shared (x + 1) one other (set both x v)
+shared-more one other both x v l is are = record {
+  from = λ y o. from y o (ℕ_discrete y x);
+  onto = λ y h p q. onto y h p q (ℕ_discrete y x);
+}
+  where
+    from : (y : ℕ) → On (set both x v) y → Dec (y ≡ x) → On one y × On other y
+    from y o (yes q) = rw q (is.from (sym (get_or-set_same both x v false l) ∙ rw q at o))
+    from y o (no d) = are.from y (sym (get_or-set_other both x y v false d) ∙ o)
+
+    onto : (y : ℕ) → y < x + 1 → On one y → On other y → Dec (y ≡ x) → On (set both x v) y
+    onto y h a b (yes q) = rw q (get_or-set_same both x v false l ∙ is.onto (rw q at a) (rw q at b))
+    onto y h a b (no d) = get_or-set_other both x y v false d ∙ are.onto y (omega arith) a b

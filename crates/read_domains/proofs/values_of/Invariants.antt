@@ -4,4 +4,4 @@ use Rattle.read_domains.specs.laws.Values.{ListedTo}
 use Rattle.read_domains.proofs.values_of.Given as goal
 
 abbrev pub invariant-loop-c : goal.invariant-loop-c
-invariant-loop-c l = ListedTo l.t.bytes.now l.t.rows l.t.runs l.classes (Counts l.marks) l.q l.c l.set
+invariant-loop-c l = ListedTo l.t.bytes.now l.t.rows l.t.runs l.classes (Counts l.counted l.marks) l.q l.c l.set

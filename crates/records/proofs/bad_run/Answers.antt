@@ -2,12 +2,12 @@
 use Rattle.std.proofs.Common.{rules, tests, ◌+◌, ◌*◌, ◌<◌, length, true, false}
 use Rattle.std.proofs.lemmas.Iterator.{serves_from_Range, first_from_Range}
 use Rattle.rows.specs.Rows.{rows_of}
-use Rattle.records.specs.laws.Runs.{RunTells, begins-within, runs-found}
+use Rattle.records.specs.laws.Runs.{RunTells, run-within, runs-found}
 use Rattle.records.proofs.bad_run.Goals as goal
 
 pub find-requires-clause-callable : goal.find-requires-clause-callable
 find-requires-clause-callable c = serves_from_Range (λ x q k. search rules) (λ x lo hi.
-    let within : x * (1 + c.args.roles) < length c.args.block.bytes.now = begins-within _ _ x (rw c.div_ceil.ensures at hi) in
+    let within : x * (1 + c.args.roles) < length c.args.block.bytes.now = run-within _ _ x (rw c.div_ceil.ensures at hi) in
     search rules)
 
 pub returns : goal.returns

@@ -19,7 +19,7 @@ begins-first size b base j = rw (zero-add j, left-all size base b)
 
 module _ (size : List ℕ → ℕ) (some_bytes : (s : List ℕ) → 0 < size s) (b : List ℕ) (i at : ℕ) (begins : Begins size b i at) where
   -- the place is in the block as long as there are records
-  begins-within : (base j : ℕ) → i + j < length (records size (part_at base b)) → at < length b
+  pub begins-within : (base j : ℕ) → i + j < length (records size (part_at base b)) → at < length b
   begins-within base j l = go (dec_lt at (length b))
     where
       go : Dec (at < length b) → at < length b

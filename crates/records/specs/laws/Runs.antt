@@ -58,8 +58,8 @@ module _ (rows : List Row) (roles i start : ℕ) (s : List ℕ) where
   run-agents h k m = sym (run-good ∙ rw (le-leb (suc roles) (length s) (omega arith), lt-ltb i most_runs k, lt-ltb (get_or s 0 0) roles m))
 
 -- a run record with a number begins within the bytes if the number is below the count, which is the length divided by a record's and rounded up
-pub begins-within : (l roles i : ℕ) → i < div_ceil l (1 + roles) → i * (1 + roles) < l
-begins-within l roles i h =
+pub run-within : (l roles i : ℕ) → i < div_ceil l (1 + roles) → i * (1 + roles) < l
+run-within l roles i h =
     omega (arith, (div_ceil_times l (1 + roles) (omega arith)).1, mul-le-mul_left (1 + roles) h)
 
 -- none begins behind the last
@@ -86,7 +86,7 @@ module _ (rows : List Row) (roles base : ℕ) (b : List ℕ) where
       let s : suc i ≡ i + 1 = omega arith in
       rw (z, s)
       (runs-left i (omega arith) (λ k lo hi. h k lo (omega arith))
-      ∙ bad-later (run_length roles) (run-bytes roles) base b at (begins-within (length b) roles i (omega arith)) (good_run rows roles) i (told-at true i (h i (omega arith) (omega arith))))
+      ∙ bad-later (run_length roles) (run-bytes roles) base b at (run-within (length b) roles i (omega arith)) (good_run rows roles) i (told-at true i (h i (omega arith) (omega arith))))
 
   -- so the first of those that are bad is found
   pub runs-found : (o : Option ℕ) → MatchOption o ((k : ℕ) → 0 ≤ k → k < div_ceil (length b) (1 + roles) → RunTells rows roles b true k)
@@ -97,4 +97,4 @@ module _ (rows : List Row) (roles base : ℕ) (b : List ℕ) where
       e ∙ sym (ap place_as (runs-left n (omega arith) h ∙ bad-none (run_length roles) base b (n * (1 + roles)) (ends-behind (length b) roles) (good_run rows roles) n))
   runs-found (Some i) h e =
       e ∙ sym (ap place_as (runs-left i (omega arith) h.3
-      ∙ bad-here (run_length roles) (run-bytes roles) base b (i * (1 + roles)) (begins-within (length b) roles i h.1) (good_run rows roles) i (told-at false i h.2)))
+      ∙ bad-here (run_length roles) (run-bytes roles) base b (i * (1 + roles)) (run-within (length b) roles i h.1) (good_run rows roles) i (told-at false i h.2)))

@@ -16,7 +16,8 @@ use Rattle.runs.specs.declared.Runs.{Runs}
 use Rattle.runs.specs.Given.{Given}
 use Rattle.state.specs.State.{IsState}
 use Rattle.state.specs.declared.State.{State as CodeState}
-use Rattle.runs.specs.laws.Opened.{gives}
+use Rattle.runs.specs.laws.Blocks.{opened-framed}
+use Rattle.runs.specs.laws.Given.{opened-knowledge}
 use Rattle.replay_steps.specs.declared.Stepped.{Stepped}
 use Rattle.replay_steps.specs.Steps.{StepDone}
 use Rattle.replay.specs.laws.Follow.{FollowedSteps, follow-start, follow-end, follow-refused, follow-size, follow-on, claim-answered}
@@ -37,43 +38,49 @@ refusal-told : (x y : Refusal) (o : Option Stepped) (r : Result Stepped Refusal)
 refusal-told x y None r n is value = let same : ◌≡◌ {A = Result Stepped Refusal} (Err x) (Err y) = sym is ∙ value in cc
 refusal-told x y (Some p) r n is value = cc
 
+pub part_of-requires : goal.part_of-requires
+part_of-requires c = opened-framed _ _ c.requires.is_opened
+
+pub initial-s-requires : goal.initial-s-requires
+initial-s-requires c = (_, c.requires.given, opened-knowledge _ _ c.requires.is_opened c.part_of.ensures.1)
+
 pub loop-at-init : goal.loop-at-init
-loop-at-init c = (omega arith, follow-start _ _ c.initial-s.ensures)
+loop-at-init c = (omega arith, follow-start _ _ (c.initial-s.ensures _ c.requires.given (opened-knowledge _ _ c.requires.is_opened c.part_of.ensures.1)))
 
 pub step-requires : goal.step-requires
 step-requires c =
     let f = c.loop-at.invariant.1 in
-    (_, f.d, (gives c.args.opened.now), f.is_state)
+    (_, f.d, c.requires.given, f.is_state)
 
 pub returns-in_err-stepped : goal.returns-in_err-stepped
 returns-in_err-stepped c =
     let f = c.loop-at.invariant.1 in
     let left = err_from_is_err_and c.from_residual.result c.from_residual.ensures.1 in
-    let refused = follow-refused f c.loop-at-test.true refl (c.step.ensures _ f.d (gives c.args.opened.now) f.is_state) c.in_err-stepped.ensures.ok_part in
+    let refused = follow-refused f c.loop-at-test.true refl (c.step.ensures _ f.d c.requires.given f.is_state) c.in_err-stepped.ensures.ok_part in
     let told = refusal-told c.in_err-stepped.field-0.0 (record { reason = Step; place = c.loop-at.at }) c.step.result c.ok_or.result c.in_err-stepped.ensures.ok_part c.in_err-stepped.was c.ok_or.ensures.value in
     rw (left.1, left.2, told) (ap replayed_as (sym refused))
 
 pub overflow_add-at : goal.overflow_add-at
 overflow_add-at c =
-    let w = taken (gives c.args.opened.now) c.loop-at.invariant.1 c.loop-at-test.true {p = c.in_ok-stepped.stepped} c.step.ensures c.in_ok-stepped.ensures.ok_part in
+    let w = taken c.requires.given c.loop-at.invariant.1 c.loop-at-test.true {p = c.in_ok-stepped.stepped} c.step.ensures c.in_ok-stepped.ensures.ok_part in
     record { fits = omega (arith, w.1) }
 
 pub loop-at-smaller : goal.loop-at-smaller
 loop-at-smaller c =
-    let w = taken (gives c.args.opened.now) c.loop-at.invariant.1 c.loop-at-test.true {p = c.in_ok-stepped.stepped} c.step.ensures c.in_ok-stepped.ensures.ok_part in
+    let w = taken c.requires.given c.loop-at.invariant.1 c.loop-at-test.true {p = c.in_ok-stepped.stepped} c.step.ensures c.in_ok-stepped.ensures.ok_part in
     omega (arith, w.0, w.1)
 
 pub loop-at-preserved : goal.loop-at-preserved
 loop-at-preserved c =
-    let w = taken (gives c.args.opened.now) c.loop-at.invariant.1 c.loop-at-test.true {p = c.in_ok-stepped.stepped} c.step.ensures c.in_ok-stepped.ensures.ok_part in
+    let w = taken c.requires.given c.loop-at.invariant.1 c.loop-at-test.true {p = c.in_ok-stepped.stepped} c.step.ensures c.in_ok-stepped.ensures.ok_part in
     (w.1, w.2)
 
 pub broken-requires : goal.broken-requires
 broken-requires c =
     let f = c.loop-at.invariant.1 in
-    (_, f.d, _, (gives c.args.opened.now), f.is_state, refl, refl)
+    (_, f.d, _, c.requires.given, f.is_state, refl, refl)
 
 pub returns : goal.returns
 returns c =
     let f = c.loop-at.invariant.1 in
-    claim-answered _ _ f.d (c.broken.ensures _ f.d _ (gives c.args.opened.now) f.is_state refl refl) (follow-end f c.loop-at-test.false)
+    claim-answered _ _ f.d (c.broken.ensures _ f.d _ c.requires.given f.is_state refl refl) (follow-end f c.loop-at-test.false)

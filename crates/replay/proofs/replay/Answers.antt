@@ -9,6 +9,9 @@ use Rattle.replay.proofs.replay.Goals as goal
 pub of-requires : goal.of-requires
 of-requires c = opened-accepts _ (sym c.in_ok-layout.was ∙ c.«open».ensures)
 
+pub followed-requires : goal.followed-requires
+followed-requires c = c.of.ensures.is_opened
+
 pub returns-in_err-layout : goal.returns-in_err-layout
 returns-in_err-layout c =
     let left = err_from_is_err_and c.from_residual.result c.from_residual.ensures.1 in
@@ -17,4 +20,4 @@ returns-in_err-layout c =
 pub returns : goal.returns
 returns c =
     let w = opened-accepts _ (sym c.in_ok-layout.was ∙ c.«open».ensures) in
-    rw c.of.ensures at c.followed.ensures ∙ ap replayed_as (sym (replayed-accepted _ _ _ w.is_opened))
+    rw c.of.ensures.file at c.followed.ensures ∙ ap replayed_as (sym (replayed-accepted _ _ _ w.is_opened))

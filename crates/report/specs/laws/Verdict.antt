@@ -9,6 +9,7 @@ use Rattle.semantics.specs.Verdict.{verdict, short_buffer, searched_in, buffer_i
 use Rattle.answers.specs.Answers.{Searched, searched_as}
 use Rattle.answers.specs.laws.Numbers.{searched-known}
 use Rattle.text.specs.Text.{verdict_text, Shown}
+use Rattle.text.specs.laws.Verdict.{says}
 
 -- of a buffer that is long enough nothing more is asked
 long-enough : (which : Listing) (file buffer : List ℕ) → 128 ≤ length buffer → searched_in which file buffer ≡ ◌>>=◌ (opened file) (λ sc. accepted (verdict which sc))
@@ -22,4 +23,4 @@ same_text which file buffer other long l = ap verdict_text (long-enough which fi
 -- what Search answers and leaves
 pub shown : (which : Listing) (file buffer : List ℕ) {answer : Searched} {after : List ℕ} → answer ≡ searched_as (searched_in which file buffer) → after ≡ buffer_in which file buffer → length after ≤ 128 → Shown (searched_in which file buffer) answer after
 unfolding buffer_in
-shown which file buffer e w l = record { is_answer = e; buffer = buffer; is_written = w; small = l; known = searched-known which file buffer }
+shown which file buffer e w l = record { is_answer = says (searched_in which file buffer) (searched-known which file buffer) e; buffer = buffer; is_written = w; small = l }

@@ -120,6 +120,10 @@ module _ {B F : Type 0} {g : Mut F (ℕ × Unit {0}) (Option B)} {f : F} (r : Op
 module _ {F : Type 0} {g : Mut F (Bor ℕ × Unit {0}) Bool} {f : F} (r : Option ℕ)
     (Yes No : ℕ → Type 0) (keeps : CallKeepsClosure g f) (yes : (x : ℕ) → CalledAt g f x true f → Yes x) (no : (x : ℕ) → CalledAt g f x false f → No x)
     {P : Type 0} {Q : ℕ → Type 0} where
+  -- `(a..b).find(f)`
+  pub find-range : (s : Range ℕ) → SomeRun nat_range_steps s (ItemFound g f r) → (((k : ℕ) → s.start ≤ k → k < s.end → No k) → P) → ((k : ℕ) → s.start ≤ k → k < s.end → Yes k → Q k) → MatchOption r P Q
+  find-range s h p q = told r (found h.0 s.start s.end (counts_below s h.0 h.1) g f keeps Yes No yes no r h.2) p (λ k w. q k w.0 w.1 w.2)
+
   -- `(a..=b).find(f)`
   pub find-range_to : (s : RangeInclusive ℕ) → range_inclusive_exhausted s ≡ false → SomeRun nat_range_inclusive_steps s (ItemFound g f r)
       → (((k : ℕ) → range_inclusive_start s ≤ k → k ≤ range_inclusive_end s → No k) → P) → ((k : ℕ) → range_inclusive_start s ≤ k → k ≤ range_inclusive_end s → Yes k → Q k) → MatchOption r P Q

@@ -12,7 +12,7 @@ pub of-requires : goal.of-requires
 of-requires c = opened-accepts _ (sym c.in_ok-layout.was ∙ c.«open».ensures)
 
 pub judged-requires : goal.judged-requires
-judged-requires c = buffer-passed _ (sym c.in_ok-check_buffer.was ∙ c.check_buffer.ensures)
+judged-requires c = (c.of.ensures.is_opened, buffer-passed _ (sym c.in_ok-check_buffer.was ∙ c.check_buffer.ensures))
 
 pub returns-in_err-layout : goal.returns-in_err-layout
 returns-in_err-layout c =
@@ -32,4 +32,4 @@ returns c =
     let a = opened-accepts _ (sym c.in_ok-layout.was ∙ c.«open».ensures) in
     let passed = sym c.in_ok-check_buffer.was ∙ c.check_buffer.ensures in
     let v = c.judged.ensures in
-    record { value = ap Ok (rw c.of.ensures at v.value) ∙ ap searched_as (sym (searched-judged _ _ _ a.is_opened passed)); trace_after = rw c.of.ensures at v.trace_after ∙ sym (buffer-judged _ _ _ a.is_opened passed) }
+    record { value = ap Ok (rw c.of.ensures.file at v.value) ∙ ap searched_as (sym (searched-judged _ _ _ a.is_opened passed)); trace_after = rw c.of.ensures.file at v.trace_after ∙ sym (buffer-judged _ _ _ a.is_opened passed) }

@@ -10,7 +10,7 @@ returns-in-Broken c a shown =
     c.broken.ensures f.moves f.trace ∙ f.text
 
 pub returns-in-Held : goal.returns-in-Held
-returns-in-Held c a shown = c.counted.ensures ∙ text-held a shown.known (ap Ok (sym c.in-Held.is) ∙ shown.is_answer)
+returns-in-Held c a shown = c.counted.ensures ∙ text-held a (ap Ok (sym c.in-Held.is) ∙ shown.is_answer)
 
 pub returns-in-Stopped : goal.returns-in-Stopped
-returns-in-Stopped c a shown = c.counted-in-Stopped.ensures ∙ text-stopped a shown.known (ap Ok (sym c.in-Stopped.is) ∙ shown.is_answer)
+returns-in-Stopped c a shown = c.counted-in-Stopped.ensures ∙ text-stopped a (ap Ok (sym c.in-Stopped.is) ∙ shown.is_answer)

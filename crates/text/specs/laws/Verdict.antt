@@ -8,7 +8,15 @@ use Rattle.answers.specs.declared.Break.{Break}
 use Rattle.answers.specs.Answers.{Numbered, number_of, Searched, break_as, searched_as}
 use Rattle.answers.specs.declared.Refusal.{Refusal}
 use Rattle.answers.specs.declared.Verdict.TheVariants.{Broken, Held, Stopped}
-use Rattle.text.specs.Text.{word, line_text, refused_text, broken_text, verdict_text}
+use Rattle.text.specs.Text.{word, line_text, refused_text, broken_text, verdict_text, Says}
+
+-- what the code answers says what the definitions answer, if the number of a refusal is a reason's
+says-own : (a : Answer Verdict) → Numbered a → Says (searched_as a) a
+says-own (refused r) known = (known, refl)
+says-own (accepted v) known = refl
+
+pub says : (a : Answer Verdict) → Numbered a → {answer : Searched} → answer ≡ searched_as a → Says answer a
+says a known e = rw e (says-own a known)
 
 -- what an answer of the code says of a text; nothing if it is a break, whose trace it does not hold
 abbrev Tells : Searched → List ℕ → Type 0
@@ -17,27 +25,25 @@ Tells (Ok (Broken b)) text = Unit {0}
 Tells (Ok (Held n)) text = word "HELD " ++ line_text n ≡ text
 Tells (Ok (Stopped n)) text = word "STOPPED " ++ line_text n ≡ text
 
--- it tells the text of the answer
-tells : (a : Answer Verdict) → Numbered a → Tells (searched_as a) (verdict_text a)
+-- it tells the text of the answer that it says
+told : (answer : Searched) (a : Answer Verdict) → Says answer a → Tells answer (verdict_text a)
 unfolding verdict_text
-tells (refused r) known = ap (λ (n : ℕ). refused_text n r.place) known
-tells (accepted (broken_at p ms c)) known = tt
-tells (accepted (held n)) known = refl
-tells (accepted (stopped n)) known = refl
+told (Err r) (refused n) (number, place) = λ i. refused_text (number i) (place i)
+told (Err r) (accepted v) s = absurd s
+told (Ok w) (refused n) e = let z : ◌≡◌ {A = ℕ} 0 1 = cc in absurd (omega arith)
+told (Ok w) (accepted (broken_at p ms c)) e = let same : w ≡ Broken (break_as p ms c) = cc in rw same tt
+told (Ok w) (accepted (held n)) e = let same : w ≡ Held n = cc in rw same refl
+told (Ok w) (accepted (stopped n)) e = let same : w ≡ Stopped n = cc in rw same refl
 
--- whichever way it is given
-told : (a : Answer Verdict) → Numbered a → {answer : Searched} → answer ≡ searched_as a → Tells answer (verdict_text a)
-told a known e = rw e (tells a known)
-
-module _ (a : Answer Verdict) (known : Numbered a) where
-  pub text-refused : {x : Refusal} → Err x ≡ searched_as a → refused_text (number_of x.reason) x.place ≡ verdict_text a
-  text-refused e = told a known e
+module _ (a : Answer Verdict) where
+  pub text-refused : (x : Refusal) → Says (Err x) a → refused_text (number_of x.reason) x.place ≡ verdict_text a
+  text-refused x s = told (Err x) a s
 
   pub text-held : {m : ℕ} → Ok (Held m) ≡ searched_as a → word "HELD " ++ line_text m ≡ verdict_text a
-  text-held e = told a known e
+  text-held {m} e = told (Ok (Held m)) a e
 
   pub text-stopped : {m : ℕ} → Ok (Stopped m) ≡ searched_as a → word "STOPPED " ++ line_text m ≡ verdict_text a
-  text-stopped e = told a known e
+  text-stopped {m} e = told (Ok (Stopped m)) a e
 
 -- a break whose trace stands at the buffer's front
 pub record BreakText (a : Answer Verdict) (b : Break) (after : List ℕ) : Type 0 where

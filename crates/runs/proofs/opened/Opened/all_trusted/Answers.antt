@@ -4,7 +4,7 @@ use Rattle.runs.specs.laws.Opened.{run-known}
 use Rattle.runs.proofs.opened.Opened.all_trusted.Goals as goal
 
 pub trusted_from-requires : goal.trusted_from-requires
-trusted_from-requires c = agents-inside c.args.self.now.file.now c.args.self.now.runs c.args.k (run-known c.args.self.now c.requires)
+trusted_from-requires c = run-known c.args.self.now c.requires (agents-inside c.args.self.now.file.now c.args.self.now.runs c.args.k)
 
 pub returns : goal.returns
 returns c = trusted-all c.args.self.now.file.now c.args.self.now.runs c.args.k c.args.self.now.table.bytes.now c.trusted_from.ensures

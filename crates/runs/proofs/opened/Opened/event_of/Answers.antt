@@ -5,36 +5,36 @@ use Rattle.runs.specs.laws.Opened.{event-known}
 use Rattle.runs.proofs.opened.Opened.event_of.Goals as goal
 
 pub overflow_mul-at : goal.overflow_mul-at
-overflow_mul-at c = omega (arith, bytes_inside c.args.self.now.file.now c.args.self.now.runs c.args.k c.args.j (event-known c.args.self.now c.requires))
+overflow_mul-at c = omega (arith, event-known c.args.self.now c.requires (bytes_inside c.args.self.now.file.now c.args.self.now.runs c.args.k c.args.j))
 
 pub overflow_add-at : goal.overflow_add-at
-overflow_add-at c = omega (arith, bytes_inside c.args.self.now.file.now c.args.self.now.runs c.args.k c.args.j (event-known c.args.self.now c.requires))
+overflow_add-at c = omega (arith, event-known c.args.self.now c.requires (bytes_inside c.args.self.now.file.now c.args.self.now.runs c.args.k c.args.j))
 
 pub kind_at-requires : goal.kind_at-requires
-kind_at-requires c = (omega (arith, bytes_inside c.args.self.now.file.now c.args.self.now.runs c.args.k c.args.j (event-known c.args.self.now c.requires)), kind-there c.args.self.now.file.now c.args.self.now.runs c.args.k c.args.j (event-known c.args.self.now c.requires))
+kind_at-requires c = (omega (arith, event-known c.args.self.now c.requires (bytes_inside c.args.self.now.file.now c.args.self.now.runs c.args.k c.args.j)), event-known c.args.self.now c.requires (kind-there c.args.self.now.file.now c.args.self.now.runs c.args.k c.args.j))
 
 pub bounds-self-start : goal.bounds-self-start
-bounds-self-start c = record-inside c.args.self.now.file.now c.args.self.now.runs c.args.k c.args.j (event-known c.args.self.now c.requires)
+bounds-self-start c = event-known c.args.self.now c.requires (record-inside c.args.self.now.file.now c.args.self.now.runs c.args.k c.args.j)
 
 pub agent_of-requires : goal.agent_of-requires
 agent_of-requires c =
-    own-inside c.args.self.now.file.now c.args.self.now.runs c.args.k c.args.j (event-known c.args.self.now c.requires) c.from.ensures
+    event-known c.args.self.now c.requires (λ w. own-inside c.args.self.now.file.now c.args.self.now.runs c.args.k c.args.j w c.from.ensures)
 
 pub overflow_add-at-2 : goal.overflow_add-at-2
-overflow_add-at-2 c = omega (arith, bytes_inside c.args.self.now.file.now c.args.self.now.runs c.args.k c.args.j (event-known c.args.self.now c.requires))
+overflow_add-at-2 c = omega (arith, event-known c.args.self.now c.requires (bytes_inside c.args.self.now.file.now c.args.self.now.runs c.args.k c.args.j))
 
 pub bounds-self-at : goal.bounds-self-at
-bounds-self-at c = omega (arith, bytes_inside c.args.self.now.file.now c.args.self.now.runs c.args.k c.args.j (event-known c.args.self.now c.requires))
+bounds-self-at c = omega (arith, event-known c.args.self.now c.requires (bytes_inside c.args.self.now.file.now c.args.self.now.runs c.args.k c.args.j))
 
 pub agent_of-requires-2 : goal.agent_of-requires-2
 agent_of-requires-2 c =
-    peer-inside c.args.self.now.file.now c.args.self.now.runs c.args.k c.args.j (event-known c.args.self.now c.requires) c.from-2.ensures
+    event-known c.args.self.now c.requires (λ w. peer-inside c.args.self.now.file.now c.args.self.now.runs c.args.k c.args.j w c.from-2.ensures)
 
 pub overflow_add-at-3 : goal.overflow_add-at-3
-overflow_add-at-3 c = omega (arith, bytes_inside c.args.self.now.file.now c.args.self.now.runs c.args.k c.args.j (event-known c.args.self.now c.requires))
+overflow_add-at-3 c = omega (arith, event-known c.args.self.now c.requires (bytes_inside c.args.self.now.file.now c.args.self.now.runs c.args.k c.args.j))
 
 pub bounds-self-at-2 : goal.bounds-self-at-2
-bounds-self-at-2 c = omega (arith, bytes_inside c.args.self.now.file.now c.args.self.now.runs c.args.k c.args.j (event-known c.args.self.now c.requires))
+bounds-self-at-2 c = omega (arith, event-known c.args.self.now c.requires (bytes_inside c.args.self.now.file.now c.args.self.now.runs c.args.k c.args.j))
 
 pub returns : goal.returns
 returns c =
