@@ -8,7 +8,7 @@ use Rattle.semantics.specs.State.{State}
 use Rattle.semantics.specs.Moves as definitions
 use Rattle.semantics.specs.Moves.{full, short, ready_at, run_numbers, runs_in}
 use Rattle.runs.specs.declared.opened.Opened.{Opened}
-use Rattle.runs.specs.Opened.{Gives}
+use Rattle.runs.specs.Given.{Given}
 use Rattle.state.specs.declared.State.{State as CodeState}
 use Rattle.state.specs.State.{IsState}
 use Rattle.search_runs.specs.declared.Listing.{Listing}
@@ -21,8 +21,10 @@ list_as Short = short
 
 -- a state of an accepted file with these positions
 pub record Standing (o : Opened) (done : List ℕ) (sc : Scenario) (d : State) : Type 0 where
+  pub t : List ℕ
+  pub n : ℕ
   pub s : CodeState
-  pub given : Gives o sc
+  pub given : Given o.file.now t n o.runs sc
   pub state : IsState sc d s
   pub is_done : done ≡ s.done
 

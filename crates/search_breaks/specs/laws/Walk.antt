@@ -107,7 +107,7 @@ module _ (plan : Plan) (sc : Scenario) (left depth : ℕ) (d : State) {claimed :
 
 -- a state that the walk is at, by its positions
 pub standing : {plan : Plan} {s : CodeState} {at : ℕ} (m : SomeState plan s at) → Standing plan.opened s.done m.sc m.d
-standing m = record { s = _; given = m.here.reached.given; state = m.here.state; is_done = refl }
+standing m = record { t = _; n = _; s = _; given = m.here.reached.given; state = m.here.state; is_done = refl }
 
 -- one run after the other
 module _ (plan : Plan) (sc : Scenario) (left n : ℕ) (d : State) {all : List Entry} {end k count : ℕ} (passed : Passed sc left all (runs_from plan sc n d end k) count) where
