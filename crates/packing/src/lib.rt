@@ -2,7 +2,7 @@
 #![tactic(auto)]
 
 ghost use Rattle.std.specs.Prelude.{◌≡◌, ◌<◌};
-ghost use Rattle.semantics.specs.Packing.{word_alone, packed_number, claim_bits};
+ghost use Rattle.semantics.specs.Packing.{word_alone, packed_refusal, packed_number, claim_bits};
 ghost use Rattle.packing.specs.Packing.{word_of, packed_refused, packed_deriving, packed_opening, packed_code_kind, packed_code_claim, packed_replaying, packed_code_break, packed_searching};
 
 use answers::{Break, Claim, Layout, Refusal, Verdict};
@@ -70,11 +70,18 @@ fn with_count(word: Word, n: usize) -> u64
     word_alone(word) + (n as u64).min(MOST_COUNT)
 }
 
+// A refusal with any number, a reason's or not, and its place.
+pub fn refusal_bits(number: usize, place: usize) -> u64
+    ensures { result ≡ packed_refusal number place }
+{
+    (number as u64).min(MOST_NUMBER) * NUMBER_BIT + (place as u64).min(MOST_PLACE)
+}
+
 // A refusal: number and place.
 fn refusal(r: Refusal) -> u64
     ensures { result ≡ packed_refused r }
 {
-    (usize::from(r.reason) as u64).min(MOST_NUMBER) * NUMBER_BIT + (r.place as u64).min(MOST_PLACE)
+    refusal_bits(usize::from(r.reason), r.place)
 }
 
 // What says a claim, below the word: run, event and kind.

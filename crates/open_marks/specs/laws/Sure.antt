@@ -166,6 +166,9 @@ module _ (bytes : List ℕ) (n : ℕ) (shape : Shape bytes n 0) where
       pub answer-no : (quick ≡ false → ReadableRow (rows_of bytes) marks x false) → Answers (rows_of bytes) marks x quick false
       answer-no f = record { yes = λ e. absurd (false≢true e); no = λ q e. f q }
 
+      pub answer-quick : quick ≡ true → Answers (rows_of bytes) marks x quick false
+      answer-quick e = answer-no (λ q. absurd (true≢false (sym e ∙ q)))
+
 module _ (rows : List Row) (marks sure : List Bool) (are : SureRows rows marks sure) where
   -- sure rows are sure with more marks
   pub rows-sure : (more : List Bool) → ((known : List Term) → MarksHold rows more known → MarksHold rows marks known) → SureRows rows more sure
