@@ -195,8 +195,6 @@ module _ (bytes : List ℕ) (n : ℕ) (shape : Shape bytes n 0) (marks : List Bo
 pub sure-none : (rows : List Row) (marks : List Bool) (k : ℕ) → SureRows rows marks (replicate k false)
 sure-none rows marks k x o = absurd (none-on k x o)
 
--- and two have no row in common
-
 -- no marks are those of no row in both
 pub shared-none : (one other : List Bool) (k : ℕ) → Shared 0 one other (replicate k false)
 shared-none one other k = record { from = λ x o. absurd (none-on k x o); onto = λ x l. absurd (omega arith) }
