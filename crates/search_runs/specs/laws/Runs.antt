@@ -1,17 +1,17 @@
 -- Which runs send or claim next, and the runs that a list goes on with. Assumes nothing.
-use Rattle.std.specs.Prelude.{ℕ, zero, suc, ◌+◌, ◌-◌, ◌<◌, ◌≤◌, ◌≡◌, Bool, true, false, not, length}
+use Rattle.std.specs.Prelude.{ℕ, zero, suc, ◌+◌, ◌-◌, ◌<◌, ◌≤◌, ◌≡◌, Bool, true, false, not, length, map}
 use denote.Enum.Bare.{sameb}
 use native.Mathlib.Omega.{arith}
 use Rattle.std.proofs.Math.Path.{refl, ap}
 use Rattle.std.proofs.Common.{◌∙◌}
 use mathlib.Core.List.{List}
-use Rattle.std.proofs.Math.Option.{Option, none, some, none-ne-some}
+use Rattle.std.proofs.Math.Option.{none, some, none-ne-some}
 use Rattle.std.proofs.Math.ListN.{get_or, get_elem?}
-use Rattle.semantics.specs.Basic.{numbers_from}
+use Rattle.semantics.specs.Basic.{first_of, numbers_from}
 use Rattle.semantics.specs.Roles.{EventKind, send, read, claim, event_kinds}
 use Rattle.semantics.specs.Scenario.{Scenario}
 use Rattle.semantics.specs.State.{State, events_of}
-use Rattle.semantics.specs.Moves.{send_or_claim, ready_at, run_numbers, alone_or, runs_in}
+use Rattle.semantics.specs.Moves.{short, send_or_claim, ready_at, run_numbers, runs_in}
 use Rattle.semantics.proofs.laws.Broken.{first_found, first-none}
 use Rattle.runs.specs.declared.opened.Opened.{Opened}
 use Rattle.records.specs.contracts.EventKind.{the_type}
@@ -66,22 +66,43 @@ module _ {o : Opened} {done : List ℕ} {k : ℕ} (low : k < o.runs.count) where
 abbrev pub UnreadyTo : Opened → List ℕ → ℕ → Type 0
 UnreadyTo o done k = (i : ℕ) → 0 ≤ i → i < k → TellsReady o done i false
 
-module _ {o : Opened} {done : List ℕ} {k : ℕ} (before : UnreadyTo o done k) where
-  -- none of the numbers from 1 up to k is ready
-  below_none : (sc : Scenario) (d : State) → Standing o done sc d → (u : ℕ) → 1 ≤ u → u < suc k → ready_at sc d u ≡ none
-  below_none sc d at zero l h = absurd (omega arith)
-  below_none sc d at (suc i) l h = before i (omega arith) (omega arith) sc d at
+-- of any scenario and state:
+module _ (sc : Scenario) (d : State) where
+  module _ {k : ℕ} (before : (i : ℕ) → 0 ≤ i → i < k → ready_at sc d (suc i) ≡ none) where
+    -- none of the numbers from 1 up to k is ready
+    below_none : (u : ℕ) → 1 ≤ u → u < suc k → ready_at sc d u ≡ none
+    below_none zero l h = absurd (omega arith)
+    below_none (suc i) l h = before i (omega arith) (omega arith)
 
-  -- the next is the lowest
+    -- the next is the lowest
+    pub lowest-at : k < length sc.runs → ready_at sc d (suc k) ≡ some (suc k) → first_of (map (ready_at sc d) (run_numbers sc)) ≡ some (suc k)
+    lowest-at low here = first_found (ready_at sc d) 1 (length sc.runs) (suc k) (omega arith) (omega arith) below_none here
+
+    -- and with all passed there is none
+    pub none-at : length sc.runs ≤ k → first_of (map (ready_at sc d) (run_numbers sc)) ≡ none
+    none-at all = first-none (ready_at sc d) 1 (length sc.runs) (λ u f h. below_none u f (omega arith))
+
+  -- the short list goes on with every run where none sends or claims,
+  pub short-all : first_of (map (ready_at sc d) (run_numbers sc)) ≡ none → runs_in short sc d ≡ run_numbers sc
+  unfolding runs_in
+  short-all e = rw e refl
+
+  -- else with the lowest that does
+  pub short_one : {u : ℕ} → first_of (map (ready_at sc d) (run_numbers sc)) ≡ some u → runs_in short sc d ≡ numbers_from u 1
+  unfolding runs_in
+  short_one e = rw e refl
+
+module _ {o : Opened} {done : List ℕ} {k : ℕ} (before : UnreadyTo o done k) where
+  -- so in every state with these positions the next is the lowest,
   pub lowest-here : k < o.runs.count → TellsReady o done k true → LowestReady o done k
   lowest-here low here = record {
     below = low;
-    ready = λ sc d at. first_found (ready_at sc d) 1 (length sc.runs) (suc k) (omega arith) (omega (arith, at.given.runs.count)) (below_none sc d at) (here sc d at);
+    ready = λ sc d at. lowest-at sc d (λ i l h. before i l h sc d at) (omega (arith, at.given.runs.count)) (here sc d at);
   }
 
   -- and with all passed there is none
   pub lowest-none : o.runs.count ≤ k → NoneReady o done
-  lowest-none all sc d at = first-none (ready_at sc d) 1 (length sc.runs) (λ u f h. below_none sc d at u f (omega (arith, at.given.runs.count)))
+  lowest-none all sc d at = none-at sc d (λ i l h. before i l h sc d at) (omega (arith, at.given.runs.count))
 
 module _ {o : Opened} {done : List ℕ} where
   all-runs : (sc : Scenario) (d : State) → Standing o done sc d → run_numbers sc ≡ numbers_from 1 (o.runs.count - 0)
@@ -94,13 +115,11 @@ module _ {o : Opened} {done : List ℕ} where
 
   -- and so does the short one where none sends or claims
   pub goes-all : NoneReady o done → GoesOn o done Short (record { start = 0; end = o.runs.count })
-  unfolding runs_in
-  goes-all unready = record { within = omega arith; runs = λ sc d at. ap (λ (lowest : Option ℕ). alone_or lowest (run_numbers sc)) (unready sc d at) ∙ all-runs sc d at }
+  goes-all unready = record { within = omega arith; runs = λ sc d at. short-all sc d (unready sc d at) ∙ all-runs sc d at }
 
   -- else with the lowest that does
   pub goes_one : {k : ℕ} → LowestReady o done k → GoesOn o done Short (record { start = k; end = k + 1 })
-  unfolding runs_in
   goes_one {k} lowest = record {
     within = omega (arith, lowest.below);
-    runs = λ sc d at. let one : 1 ≡ k + 1 - k = omega arith in ap (λ (lowest : Option ℕ). alone_or lowest (run_numbers sc)) (lowest.ready sc d at) ∙ ap (numbers_from (suc k)) one;
+    runs = λ sc d at. let one : 1 ≡ k + 1 - k = omega arith in short_one sc d (lowest.ready sc d at) ∙ ap (numbers_from (suc k)) one;
   }
