@@ -74,11 +74,11 @@ module _ (sc : Scenario) (d : State) where
     below_none zero l h = absurd (omega arith)
     below_none (suc i) l h = before i (omega arith) (omega arith)
 
-    -- the next is the lowest
+    -- the next, if it is, is the lowest that is,
     pub lowest-at : k < length sc.runs → ready_at sc d (suc k) ≡ some (suc k) → first_of (map (ready_at sc d) (run_numbers sc)) ≡ some (suc k)
     lowest-at low here = first_found (ready_at sc d) 1 (length sc.runs) (suc k) (omega arith) (omega arith) below_none here
 
-    -- and with all passed there is none
+    -- and if there is no next, none is
     pub none-at : length sc.runs ≤ k → first_of (map (ready_at sc d) (run_numbers sc)) ≡ none
     none-at all = first-none (ready_at sc d) 1 (length sc.runs) (λ u f h. below_none u f (omega arith))
 
